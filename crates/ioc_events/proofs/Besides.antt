@@ -11,6 +11,7 @@ use Rattle.ioc_record.specs.RecordRules.{RecordRules, targets}
 use Rattle.ioc_record.specs.Laws.{IsLawful}
 use Rattle.ioc_store.specs.World.{World, at, common_at, put, changed, called, sent, lost, taken_on, let_go}
 use Rattle.ioc_store.specs.declared.call.Call.{Call}
+use Rattle.ioc_notify.specs.declared.live_numbers.Live.{Live}
 use Rattle.ioc_process.specs.Processing.{Done, request}
 use Rattle.ioc_events.specs.Beside.{Shut, Same, Spares, Agree, RequestIsLocal}
 use Rattle.ioc_events.proofs.Waitings.{request-waiting}
@@ -82,23 +83,24 @@ module _ {R : Type 0} (k : RecordRules R) (mine : ℕ → Bool) (w0 v0 : World R
   abbrev pub Within : ℕ → R → Type 0
   Within n r = (target : ℕ) → Contains (targets k r) target → U target
 
+  -- What was called, sent and dropped may change alike, and the puts with notification that are
+  -- live or have ended may change: the records and the waiting lists stay.
+  rest_along : (w v : World R) → Along w v → {calls calls' : List Call} {outbox outbox' : List OutboxItem} {dropped dropped' : ℕ} {live live' : List Live} {ended ended' : List ℕ}
+      → calls ≡ calls' → outbox ≡ outbox' → dropped ≡ dropped'
+      → Along (record w { calls = calls; outbox = outbox; dropped = dropped; live = live; ended = ended }) (record v { calls = calls'; outbox = outbox'; dropped = dropped'; live = live'; ended = ended' })
+  unfolding at
+  rest_along w v inv calls outbox dropped = record {
+    same = record { moment = inv.same.moment; calls = calls; outbox = outbox; dropped = dropped; waiting = inv.same.waiting; records = inv.same.records };
+    there = inv.there;
+    shut = record { shut = inv.shut.shut };
+    spares = record { spared = inv.spares.spared; there = inv.spares.there; waiting = inv.spares.waiting };
+    other_spares = record { spared = inv.other_spares.spared; there = inv.other_spares.there; waiting = inv.other_spares.waiting };
+  }
+
   sent_both : (w v : World R) (item : OutboxItem) (b : Bool) → Along w v → Along (cond b (record w { outbox = w.outbox ++ item ∷ [] }) (record w { dropped = more w.dropped }))
       (cond b (record v { outbox = v.outbox ++ item ∷ [] }) (record v { dropped = more v.dropped }))
-  unfolding at
-  sent_both w v item true inv = record {
-    same = record { moment = inv.same.moment; calls = inv.same.calls; outbox = ap (λ (l : List OutboxItem). l ++ item ∷ []) inv.same.outbox; dropped = inv.same.dropped; waiting = inv.same.waiting; records = inv.same.records };
-    there = inv.there;
-    shut = record { shut = inv.shut.shut };
-    spares = record { spared = inv.spares.spared; there = inv.spares.there; waiting = inv.spares.waiting };
-    other_spares = record { spared = inv.other_spares.spared; there = inv.other_spares.there; waiting = inv.other_spares.waiting };
-  }
-  sent_both w v item false inv = record {
-    same = record { moment = inv.same.moment; calls = inv.same.calls; outbox = inv.same.outbox; dropped = ap more inv.same.dropped; waiting = inv.same.waiting; records = inv.same.records };
-    there = inv.there;
-    shut = record { shut = inv.shut.shut };
-    spares = record { spared = inv.spares.spared; there = inv.spares.there; waiting = inv.spares.waiting };
-    other_spares = record { spared = inv.other_spares.spared; there = inv.other_spares.there; waiting = inv.other_spares.waiting };
-  }
+  sent_both w v item true inv = rest_along w v inv inv.same.calls (ap (λ (l : List OutboxItem). l ++ item ∷ []) inv.same.outbox) inv.same.dropped
+  sent_both w v item false inv = rest_along w v inv inv.same.calls inv.same.outbox (ap more inv.same.dropped)
 
   sent_along : (w v : World R) → Along w v → (item : OutboxItem) → Along (sent item w) (sent item v)
   unfolding sent
@@ -107,34 +109,16 @@ module _ {R : Type 0} (k : RecordRules R) (mine : ℕ → Bool) (w0 v0 : World R
       (ap length inv.same.outbox) (sent_both w v item (nat_lt (length w.outbox) 256) inv)
 
   lost_along : (w v : World R) → Along w v → Along (lost w) (lost v)
-  unfolding at lost
-  lost_along w v inv = record {
-    same = record { moment = inv.same.moment; calls = inv.same.calls; outbox = inv.same.outbox; dropped = ap more inv.same.dropped; waiting = inv.same.waiting; records = inv.same.records };
-    there = inv.there;
-    shut = record { shut = inv.shut.shut };
-    spares = record { spared = inv.spares.spared; there = inv.spares.there; waiting = inv.spares.waiting };
-    other_spares = record { spared = inv.other_spares.spared; there = inv.other_spares.there; waiting = inv.other_spares.waiting };
-  }
+  unfolding lost
+  lost_along w v inv = rest_along w v inv inv.same.calls inv.same.outbox (ap more inv.same.dropped)
 
   taken_on_along : (w v : World R) → Along w v → (number : ℕ) → Along (taken_on number w) (taken_on number v)
-  unfolding at taken_on
-  taken_on_along w v inv number = record {
-    same = record { moment = inv.same.moment; calls = inv.same.calls; outbox = inv.same.outbox; dropped = inv.same.dropped; waiting = inv.same.waiting; records = inv.same.records };
-    there = inv.there;
-    shut = record { shut = inv.shut.shut };
-    spares = record { spared = inv.spares.spared; there = inv.spares.there; waiting = inv.spares.waiting };
-    other_spares = record { spared = inv.other_spares.spared; there = inv.other_spares.there; waiting = inv.other_spares.waiting };
-  }
+  unfolding taken_on
+  taken_on_along w v inv number = rest_along w v inv inv.same.calls inv.same.outbox inv.same.dropped
 
   let_go_along : (w v : World R) → Along w v → (number : ℕ) → Along (let_go number w) (let_go number v)
-  unfolding at let_go
-  let_go_along w v inv number = record {
-    same = record { moment = inv.same.moment; calls = inv.same.calls; outbox = inv.same.outbox; dropped = inv.same.dropped; waiting = inv.same.waiting; records = inv.same.records };
-    there = inv.there;
-    shut = record { shut = inv.shut.shut };
-    spares = record { spared = inv.spares.spared; there = inv.spares.there; waiting = inv.spares.waiting };
-    other_spares = record { spared = inv.other_spares.spared; there = inv.other_spares.there; waiting = inv.other_spares.waiting };
-  }
+  unfolding let_go
+  let_go_along w v inv number = rest_along w v inv inv.same.calls inv.same.outbox inv.same.dropped
 
   pub put_along : (w v : World R) → Along w v → (n : ℕ) → U n → (r : R) → Within n r → Along (put w n r) (put v n r)
   unfolding put
@@ -176,13 +160,7 @@ module _ {R : Type 0} (k : RecordRules R) (mine : ℕ → Bool) (w0 v0 : World R
     finished = λ good x target links. good target (subst (λ (l : List ℕ). Contains l target) (targets-finished k lawful _ x) links);
     stored = λ good f x target links. good target (subst (λ (l : List ℕ). Contains l target) (targets-stored k lawful _ f x) links);
     put = λ {w} {v} inv n may r good _. put_along w v inv n may r good;
-    call = λ inv one. record {
-      same = record { moment = inv.same.moment; calls = ap (λ (l : List Call). l ++ one ∷ []) inv.same.calls; outbox = inv.same.outbox; dropped = inv.same.dropped; waiting = inv.same.waiting; records = inv.same.records };
-      there = inv.there;
-      shut = record { shut = inv.shut.shut };
-      spares = record { spared = inv.spares.spared; there = inv.spares.there; waiting = inv.spares.waiting };
-      other_spares = record { spared = inv.other_spares.spared; there = inv.other_spares.there; waiting = inv.other_spares.waiting };
-    };
+    call = λ {w} {v} inv one. rest_along w v inv (ap (λ (l : List Call). l ++ one ∷ []) inv.same.calls) inv.same.outbox inv.same.dropped;
     send = λ {w} {v} inv item. sent_along w v inv item;
     lose = λ {w} {v} inv. lost_along w v inv;
     pass = pass-goes k _ _ (holder_guards lawful);

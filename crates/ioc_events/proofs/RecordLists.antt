@@ -1,59 +1,60 @@
 -- The waiting list of one record, as one is added or removed.
-use Rattle.std.proofs.Common.{◌≡◌, ◌≢◌, ℕ, zero, suc, Bool, true, false, cond, not, nat_eq, List, [], ◌∷◌, ◌++◌, refl, sym, ap, subst, ◌∙◌, inl, inr, arith, append-nil}
-use Rattle.std.specs.Prelude.{Contains, ◌||◌}
+use Rattle.std.proofs.Common.{◌≡◌, ◌≢◌, ℕ, Bool, true, false, cond, not, nat_eq, List, [], ◌∷◌, ◌++◌, refl, sym, ap, subst, ◌∙◌, arith, append-nil}
+use Rattle.std.specs.Prelude.{Contains, All, ◌||◌, ◌&&◌}
 use Rattle.std.specs.List.{filter, list_any}
 use Rattle.std.proofs.lemmas.Grind.{common_steps}
-use Rattle.std.proofs.lemmas.List.Elements.{Contains-append_cases, filter-append}
+use Rattle.std.proofs.lemmas.List.Elements.{All-nil, All-cons, All-weaker, All-contains, All-contains_itself, All-filter, Contains-append_right, filter-append, filter_agree, filter_passes}
 use Rattle.ioc_notify.specs.declared.waiting_lists.Waiting.{Waiting}
 use Rattle.ioc_notify.specs.Waits.{at_record, without}
 
 -- Lemmas about filtered lists.
 
-one-there : {X : Type 0} (x y : X) → Contains (x ∷ []) y → x ≡ y
-one-there x y (zero, lt, is) = is
-one-there x y (suc i, lt, is) = absurd (omega arith)
-
-later : {X : Type 0} (y : X) (xs : List X) (x : X) → Contains xs x → Contains (y ∷ xs) x
-later y xs x (i, lt, is) = (suc i, omega (arith, lt), is)
-
 -- An item is in the filtered list if and only if it is in the list and passes.
 passes-there : {X : Type 0} (p : X → Bool) (xs : List X) (x : X) → Contains (filter p xs) x → Contains xs x × (p x ≡ true)
-passes-there p [] x h = absurd (omega (arith, h.1))
-passes-there p (y ∷ xs) x h =
-    elim (p y) as (λ b. p y ≡ b → Contains (cond b (y ∷ filter p xs) (filter p xs)) x → Contains (y ∷ xs) x × (p x ≡ true)) [
-      | true ↦ λ is c. elim (Contains-append_cases (y ∷ []) (filter p xs) x c) [
-        | inl here ↦ let e : y ≡ x = one-there y x here in ((0, omega arith, e), ap p (sym e) ∙ is)
-        | inr there ↦ let rest = passes-there p xs x there in (later y xs x rest.0, rest.1)
-      ]
-      | false ↦ λ is c. let rest = passes-there p xs x c in (later y xs x rest.0, rest.1)
-    ] refl h
+passes-there p xs x h = (
+  All-contains (Contains xs) (filter p xs) x (All-filter p (Contains xs) xs (All-contains_itself xs)) h,
+  All-contains (λ y. p y ≡ true) (filter p xs) x (filter_passes p xs) h,
+)
+
+behind : {X : Type 0} (b : Bool) (y : X) (ys : List X) (x : X) → Contains ys x → Contains (cond b (y ∷ ys) ys) x
+behind true y ys x h = Contains-append_right (y ∷ []) ys x h
+behind false y ys x h = h
+
+abbrev IsKept : {X : Type 0} → (X → Bool) → List X → X → Type 0
+IsKept p kept x = p x ≡ true → Contains kept x
+
+all-kept : {X : Type 0} (p : X → Bool) (xs : List X) → All (IsKept p (filter p xs)) xs
+all-kept p [] = All-nil (IsKept p [])
+all-kept p (y ∷ xs) =
+    let kept = filter p (y ∷ xs) in
+    let rest = All-weaker (IsKept p (filter p xs)) (IsKept p kept) (λ x h is. behind (p y) y (filter p xs) x (h is)) xs (all-kept p xs) in
+    All-cons (IsKept p kept) y xs (λ is. rw is (0, omega arith, refl)) rest
 
 there-passes : {X : Type 0} (p : X → Bool) (xs : List X) (x : X) → Contains xs x → p x ≡ true → Contains (filter p xs) x
-there-passes p [] x h is = absurd (omega (arith, h.1))
-there-passes p (y ∷ xs) x (zero, lt, here) is = let e : p y ≡ true = ap p here ∙ is in rw e (0, omega arith, here)
-there-passes p (y ∷ xs) x (suc i, lt, there) is =
-    let rest = there-passes p xs x (i, omega (arith, lt), there) is in
-    elim (p y) as (λ b. Contains (cond b (y ∷ filter p xs) (filter p xs)) x) [
-      | true ↦ later y (filter p xs) x rest
-      | false ↦ rest
-    ]
+there-passes p xs x h = All-contains (IsKept p (filter p xs)) xs x (all-kept p xs) h
 
 -- Two filters commute.
-by_tests : {X : Type 0} (p q : X → Bool) (x : X) (xs : List X) (b c : Bool) → p x ≡ b → q x ≡ c → filter p (filter q xs) ≡ filter q (filter p xs)
-    → filter p (cond c (x ∷ filter q xs) (filter q xs)) ≡ filter q (cond b (x ∷ filter p xs) (filter p xs))
-by_tests p q x xs true true eb ec h =
-    ap (λ v. cond v (x ∷ filter p (filter q xs)) (filter p (filter q xs))) eb ∙ ap (λ ys. x ∷ ys) h ∙ sym (ap (λ v. cond v (x ∷ filter q (filter p xs)) (filter q (filter p xs))) ec)
-by_tests p q x xs true false eb ec h = h ∙ sym (ap (λ v. cond v (x ∷ filter q (filter p xs)) (filter q (filter p xs))) ec)
-by_tests p q x xs false true eb ec h = ap (λ v. cond v (x ∷ filter p (filter q xs)) (filter p (filter q xs))) eb ∙ h
-by_tests p q x xs false false eb ec h = h
+filter_twice : {X : Type 0} (p q : X → Bool) (xs : List X) → filter p (filter q xs) ≡ filter (λ x. q x && p x) xs
+filter_twice p q [] = refl
+filter_twice p q (x ∷ xs) =
+    let rest = filter (λ y. q y && p y) xs in
+    elim (q x) as (λ b. filter p (cond b (x ∷ filter q xs) (filter q xs)) ≡ cond (b && p x) (x ∷ rest) rest) [
+      | true ↦ ap (λ ys. cond (p x) (x ∷ ys) ys) (filter_twice p q xs)
+      | false ↦ filter_twice p q xs
+    ]
+
+both_ways : (b c : Bool) → (b && c) ≡ (c && b)
+both_ways true true = refl
+both_ways true false = refl
+both_ways false true = refl
+both_ways false false = refl
 
 two_filters : {X : Type 0} (p q : X → Bool) (xs : List X) → filter p (filter q xs) ≡ filter q (filter p xs)
-two_filters p q [] = refl
-two_filters p q (x ∷ xs) = by_tests p q x xs (p x) (q x) refl refl (two_filters p q xs)
+two_filters p q xs = filter_twice p q xs ∙ filter_agree _ _ (λ x. both_ways (q x) (p x)) xs ∙ sym (filter_twice q p xs)
 
 all-pass : {X : Type 0} (p : X → Bool) (xs : List X) → ((x : X) → Contains xs x → p x ≡ true) → filter p xs ≡ xs
 all-pass p [] all = refl
-all-pass p (x ∷ xs) all = rw (all x (0, omega arith, refl)) (ap (λ ys. x ∷ ys) (all-pass p xs (λ y h. all y (later x xs y h))))
+all-pass p (x ∷ xs) all = rw (all x (0, omega arith, refl)) (ap (λ ys. x ∷ ys) (all-pass p xs (λ y h. all y (Contains-append_right (x ∷ []) xs y h))))
 
 -- Whether one passes depends only on those that do.
 any-passes : {X : Type 0} (p : X → Bool) (xs : List X) → list_any p xs ≡ list_any p (filter p xs)

@@ -13,7 +13,7 @@ use Rattle.ioc_fields.specs.declared.field_no.FieldNo.{FieldNo}
 use Rattle.ioc_fields.specs.Table.{row_of}
 use Rattle.ioc_ledger.specs.declared.outcome.Outcome.TheVariants.{Reprocess}
 use Rattle.ioc_ledger.specs.declared.tally.Tally.{Tally}
-use Rattle.ioc_ledger.specs.Requests.{Requests, None, Request, followed_by, counted, counted_started, counted_completion}
+use Rattle.ioc_ledger.specs.Requests.{Requests, None, Request, followed_by, counted_all}
 use Rattle.ioc_notify.specs.declared.waiting_lists.Waiting.{Waiting}
 use Rattle.ioc_notify.specs.Living.{is_live}
 use Rattle.ioc_record.specs.RecordRules.{RecordRules}
@@ -180,6 +180,4 @@ calls_since before after = drop (length before.calls) after.calls
 -- The tally with what an event adds: each request, each call that is answered later, and a
 -- completion.
 unfoldable pub tallied : {R : Type 0} → Tally → World R → Event → Stepped R → Tally
-tallied t w event done =
-    let begun = counted_started (counted t done.requests) (later_among (calls_since w done.world)) in
-    if completes event done.reply then counted_completion begun else begun
+tallied t w event done = counted_all t done.requests (later_among (calls_since w done.world)) (completes event done.reply)

@@ -5,5 +5,6 @@ mod FrameWork
 mod Handing
 mod Needs
 pub mod OneLook
+mod Ready
 mod Turning
 mod Writing

@@ -1,10 +1,11 @@
 -- A record that was put is put again.
-use Rattle.std.proofs.Common.{◌≡◌, ◌≢◌, ℕ, Bool, true, false, cond, Option, Some, None, refl, sym, ap, ◌∙◌, arith}
+use Rattle.std.proofs.Common.{◌≡◌, ℕ, Bool, true, false, cond, Option, Some, None, refl, sym, ap, ◌∙◌}
+use Rattle.std.specs.Prelude.{Result, OnOk, OnErr}
 use Rattle.std.specs.Ordering.{nat_cmp, eq_by_cmp}
 use Rattle.std.specs.Cmp.{nat_cmp_total}
 use Rattle.std.specs.FinMap.{FinMap, get, insert, get-insert, same_map, nat_cmp-IsAntisymmetric}
 use Rattle.ioc_dbcommon.specs.declared.common.Common.{Common}
-use Rattle.ioc_dbcommon.specs.Steps.{shown, unblocked}
+use Rattle.ioc_dbcommon.specs.Steps.{unblocked}
 use Rattle.ioc_dbcommon.specs.declared.body.Output.{Output}
 use Rattle.ioc_record.specs.RecordRules.{RecordRules}
 use Rattle.ioc_store.specs.Marks.{at_rest}
@@ -12,6 +13,7 @@ use Rattle.ioc_store.specs.Notifying.{notified, notified_as}
 use Rattle.ioc_store.specs.Rests.{rested}
 use Rattle.ioc_store.specs.World.{World, Has, at, common_at, changed, put, sent}
 use Rattle.ioc_store.specs.declared.outbox.OutboxItem.TheVariants.{Once}
+use Rattle.ioc_store.specs.PutBack.{on_ok, on_err_as, put-at}
 use Rattle.ioc_store.specs.Worlds.{at-put_same, has-put}
 use Rattle.ioc_process.specs.Looks.{Opens, Opened}
 use Rattle.ioc_process.specs.declared.fast_path.IdleStart.{IdleStart}
@@ -70,3 +72,15 @@ module _ {R : Type 0} (k : RecordRules R) where
   pub changed_has : (w : World R) (n : ℕ) (f : Common → Common) → Has w n → Has (changed k w n f) n
   unfolding changed
   changed_has w n f has = has-put k w n n _ has
+
+  -- A record that was lent and put back is the record that was put.
+  pub at_back : (w v : World R) (n : ℕ) (r : R) → v ≡ put w n r → at k v n ≡ r
+  at_back w v n r is = rw is (at-put_same k w n r)
+
+  -- If what was done with it succeeds, the world has the new record.
+  pub stored_back : {X E : Type 0} (w v : World R) (n : ℕ) (r : R) → v ≡ put w n r → (result : Result X E) → OnOk result (v ≡ put w n (at k v n))
+  stored_back w v n r is result = on_ok result _ (is ∙ ap (put w n) (sym (at_back w v n r is)))
+
+  -- If it fails and leaves the record unchanged, the world is unchanged.
+  pub same_back : {X E : Type 0} (w v : World R) (n : ℕ) (r old : R) → v ≡ put w n r → old ≡ at k w n → Has w n → (result : Result X E) → OnErr result (r ≡ old) → OnErr result (v ≡ w)
+  same_back w v n r old is was there result same = on_err_as result _ _ (λ (e : r ≡ old). is ∙ ap (put w n) (e ∙ was) ∙ put-at k w n there) same

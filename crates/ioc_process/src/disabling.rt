@@ -1,22 +1,23 @@
 //! SDIS: a request reads it before anything else and doesn't process a record that is disabled.
-ghost use Rattle.std.specs.Prelude.{◌≡◌, ◌<◌, ℕ, List, [], true, false, vec_len};
-ghost use Rattle.std.specs.Vec.{vec_capacity};
+ghost use Rattle.std.specs.Prelude.{◌≡◌, true};
 ghost use Rattle.ioc_dbcommon.specs.Steps.{disable_kind};
-ghost use Rattle.ioc_store.specs.World.{Has, common_at, IsClosed};
+ghost use Rattle.ioc_store.specs.World.{Has, common_at};
 ghost use Rattle.ioc_store.specs.Given.{Answers, Begins};
 ghost use Rattle.ioc_dbcommon.specs.Links.{use_of};
 ghost use Rattle.ioc_ledger.specs.declared.outcome.Outcome.TheVariants.{Disabled};
 ghost use Rattle.ioc_store.specs.Marks.{is_disabled};
 ghost use Rattle.ioc_store.specs.declared.frames.Next.TheVariants.{Ends};
+ghost use Rattle.ioc_process.specs.Ready.{IsReadyFor, IsReady, TakesTurn};
 ghost use Rattle.ioc_process.specs.Runs.{ForAnswers, IsStanding};
 ghost use Rattle.ioc_process.specs.Processing.{faulted, request, judged, read_at, read_link, read_record};
 ghost use Rattle.ioc_store.specs.Rests.{disable_came};
-ghost use Rattle.ioc_process.specs.Frames.{Ended, after_disable, after_turn, turn_of, Opens, most_calls, most_of_request, Turns};
+ghost use Rattle.ioc_process.specs.Frames.{Ended, after_disable, after_turn, turn_of, most_calls, most_of_request, Turns};
 
 use crate::inputs::{fault_link, read_value};
 use crate::notifying::release_notification;
+use crate::opening::open_frame;
 use crate::reading::begin_body;
-use crate::steps::{common, disable, is_disabled, passes_on, set_active, take_disable_input};
+use crate::steps::{common, disable, is_disabled, passes_on, take_disable_input};
 use ioc_dbcommon::{LinkUse, StandingLink, disable_kind};
 use ioc_ledger::Outcome;
 use ioc_names::RecordNo;
@@ -30,17 +31,11 @@ pub fn begin_with_disable<S: Store>(
     frames: &mut Vec<Frame>,
     number: RecordNo,
 ) -> Next
-    requires there { Has (S.world store.old) number }
-    requires closed { IsClosed S.Record.rules (S.world store.old) }
-    requires is_idle { (common_at S.Record.rules (S.world store.old) number).active ≡ false }
-    requires room { vec_len frames.old < vec_capacity frames.old }
+    requires ready { IsReady S.Record.rules (S.world store.old) number frames.old }
     ensures turn { ForAnswers (S.given store.new) (λ answers.
-        after_disable S.Record.rules answers number (read_link S.Record.rules (request S.Record.rules answers) (λ _. disable_kind) (S.world store.old) number (use_of (common_at S.Record.rules (S.world store.old) number).disable_link))
-        ≡ after_turn S.Record.rules answers (S.world store.new) (turn_of frames.new.items result)) }
+        after_disable S.Record.rules answers number (read_link S.Record.rules (request S.Record.rules answers) (λ _. disable_kind) (S.world store.old) number (use_of (common_at S.Record.rules (S.world store.old) number).disable_link)) ≡ after_turn S.Record.rules answers (S.world store.new) (turn_of frames.new.items result)) }
     ensures given { Begins S.Device.gives (S.given store.old) (S.given store.new) }
-    ensures turns { Turns S.Record.rules (S.world store.old) (S.world store.new) 0 most_of_request (turn_of frames.new.items result) }
-    ensures opens { Opens frames.old.items frames.new.items result }
-    ensures room { vec_capacity frames.new ≡ vec_capacity frames.old }
+    ensures takes { TakesTurn S.Record.rules (S.world store.old) (S.world store.new) most_of_request frames.old frames.new result }
 {
     let link = common(store, number).disable_link.in_use();
     read_disable(store, frames, number, link)
@@ -69,17 +64,12 @@ pub fn read_disable<S: Store>(
     number: RecordNo,
     link: LinkUse,
 ) -> Next
-    requires there { Has (S.world store.old) number }
-    requires closed { IsClosed S.Record.rules (S.world store.old) }
-    requires is_idle { (common_at S.Record.rules (S.world store.old) number).active ≡ false }
-    requires room { vec_len frames.old < vec_capacity frames.old }
+    requires ready { IsReady S.Record.rules (S.world store.old) number frames.old }
     requires standing { IsStanding (S.world store.old) link }
     ensures turn { ForAnswers (S.given store.new) (λ answers.
         after_disable S.Record.rules answers number (read_link S.Record.rules (request S.Record.rules answers) (λ _. disable_kind) (S.world store.old) number link) ≡ after_turn S.Record.rules answers (S.world store.new) (turn_of frames.new.items result)) }
     ensures given { Begins S.Device.gives (S.given store.old) (S.given store.new) }
-    ensures turns { Turns S.Record.rules (S.world store.old) (S.world store.new) 0 most_of_request (turn_of frames.new.items result) }
-    ensures opens { Opens frames.old.items frames.new.items result }
-    ensures room { vec_capacity frames.new ≡ vec_capacity frames.old }
+    ensures takes { TakesTurn S.Record.rules (S.world store.old) (S.world store.new) most_of_request frames.old frames.new result }
 {
     match link {
         LinkUse::Unused => judge(store, frames, number),
@@ -91,16 +81,11 @@ pub fn read_disable<S: Store>(
 
 // Continues a request whose SDIS link returned a fault.
 fn judge_faulted<S: Store>(store: &mut S, frames: &mut Vec<Frame>, number: RecordNo) -> Next
-    requires there { Has (S.world store.old) number }
-    requires closed { IsClosed S.Record.rules (S.world store.old) }
-    requires is_idle { (common_at S.Record.rules (S.world store.old) number).active ≡ false }
-    requires room { vec_len frames.old < vec_capacity frames.old }
+    requires ready { IsReady S.Record.rules (S.world store.old) number frames.old }
     ensures turn { ForAnswers (S.given store.new) (λ answers.
         judged S.Record.rules answers (request S.Record.rules answers) (faulted S.Record.rules (S.world store.old) number) number ≡ after_turn S.Record.rules answers (S.world store.new) (turn_of frames.new.items result)) }
     ensures given { Begins S.Device.gives (S.given store.old) (S.given store.new) }
-    ensures turns { Turns S.Record.rules (S.world store.old) (S.world store.new) 0 most_calls (turn_of frames.new.items result) }
-    ensures opens { Opens frames.old.items frames.new.items result }
-    ensures room { vec_capacity frames.new ≡ vec_capacity frames.old }
+    ensures takes { TakesTurn S.Record.rules (S.world store.old) (S.world store.new) most_calls frames.old frames.new result }
 {
     fault_link(store, number);
     judge(store, frames, number)
@@ -113,25 +98,14 @@ fn begin_disable<S: Store>(
     number: RecordNo,
     target: StandingLink,
 ) -> Next
-    requires there { Has (S.world store.old) number }
-    requires closed { IsClosed S.Record.rules (S.world store.old) }
-    requires is_idle { (common_at S.Record.rules (S.world store.old) number).active ≡ false }
-    requires room { vec_len frames.old < vec_capacity frames.old }
-    requires standing { Has (S.world store.old) target.number }
+    requires { IsReadyFor S.Record.rules (S.world store.old) number target frames.old }
     ensures turn { ForAnswers (S.given store.new) (λ answers.
         after_disable S.Record.rules answers number (read_record S.Record.rules (request S.Record.rules answers) (λ _. disable_kind) (S.world store.old) number target) ≡ after_turn S.Record.rules answers (S.world store.new) (turn_of frames.new.items result)) }
     ensures given { Begins S.Device.gives (S.given store.old) (S.given store.new) }
-    ensures turns { Turns S.Record.rules (S.world store.old) (S.world store.new) 0 most_of_request (turn_of frames.new.items result) }
-    ensures opens { Opens frames.old.items frames.new.items result }
-    ensures room { vec_capacity frames.new ≡ vec_capacity frames.old }
+    ensures takes { TakesTurn S.Record.rules (S.world store.old) (S.world store.new) most_of_request frames.old frames.new result }
 {
-    let called = target.number;
-    if passes_on(store, target.process_passive, called) {
-        set_active(store, number, true);
-        frames.push_reserved(Frame {
-            source: number,
-            place: ResumePoint::ReadingDisable(target),
-        });
+    if passes_on(store, target.process_passive, target.number) {
+        open_frame(store, frames, number, ResumePoint::ReadingDisable(target));
         Next::Requests
     } else {
         take_disable(store, frames, number, target)
@@ -145,17 +119,11 @@ pub fn take_disable<S: Store>(
     number: RecordNo,
     target: StandingLink,
 ) -> Next
-    requires there { Has (S.world store.old) number }
-    requires closed { IsClosed S.Record.rules (S.world store.old) }
-    requires is_idle { (common_at S.Record.rules (S.world store.old) number).active ≡ false }
-    requires room { vec_len frames.old < vec_capacity frames.old }
-    requires standing { Has (S.world store.old) target.number }
+    requires { IsReadyFor S.Record.rules (S.world store.old) number target frames.old }
     ensures turn { ForAnswers (S.given store.new) (λ answers.
         (let read = read_at S.Record.rules (λ _. disable_kind) (S.world store.old) number target in judged S.Record.rules answers (request S.Record.rules answers) (disable_came S.Record.rules read.world number read.came) number) ≡ after_turn S.Record.rules answers (S.world store.new) (turn_of frames.new.items result)) }
     ensures given { Begins S.Device.gives (S.given store.old) (S.given store.new) }
-    ensures turns { Turns S.Record.rules (S.world store.old) (S.world store.new) 0 most_calls (turn_of frames.new.items result) }
-    ensures opens { Opens frames.old.items frames.new.items result }
-    ensures room { vec_capacity frames.new ≡ vec_capacity frames.old }
+    ensures takes { TakesTurn S.Record.rules (S.world store.old) (S.world store.new) most_calls frames.old frames.new result }
 {
     let got = read_value(store, number, target, disable_kind());
     take_disable_input(store, number, got);
@@ -166,16 +134,11 @@ pub fn take_disable<S: Store>(
 /// the body.
 #[inline(always)]
 fn judge<S: Store>(store: &mut S, frames: &mut Vec<Frame>, number: RecordNo) -> Next
-    requires there { Has (S.world store.old) number }
-    requires closed { IsClosed S.Record.rules (S.world store.old) }
-    requires is_idle { (common_at S.Record.rules (S.world store.old) number).active ≡ false }
-    requires room { vec_len frames.old < vec_capacity frames.old }
+    requires ready { IsReady S.Record.rules (S.world store.old) number frames.old }
     ensures turn { ForAnswers (S.given store.new) (λ answers.
         judged S.Record.rules answers (request S.Record.rules answers) (S.world store.old) number ≡ after_turn S.Record.rules answers (S.world store.new) (turn_of frames.new.items result)) }
     ensures given { Begins S.Device.gives (S.given store.old) (S.given store.new) }
-    ensures turns { Turns S.Record.rules (S.world store.old) (S.world store.new) 0 most_calls (turn_of frames.new.items result) }
-    ensures opens { Opens frames.old.items frames.new.items result }
-    ensures room { vec_capacity frames.new ≡ vec_capacity frames.old }
+    ensures takes { TakesTurn S.Record.rules (S.world store.old) (S.world store.new) most_calls frames.old frames.new result }
 {
     if is_disabled(store, number) {
         leave_alone(store, number)

@@ -1,21 +1,21 @@
 //! The part of a body after its input: the record takes it, writes its output, and finishes.
-ghost use Rattle.std.specs.Prelude.{◌≡◌, ◌≤◌, ◌<◌, ◌+◌, ◌-◌, ℕ, List, [], Some, false, vec_len};
-ghost use Rattle.std.specs.FinMap.{len};
-ghost use Rattle.std.specs.Vec.{vec_capacity};
-ghost use Rattle.ioc_store.specs.World.{Has, common_at, IsClosed};
+ghost use Rattle.std.specs.Prelude.{◌≡◌, ◌+◌, ◌-◌};
+ghost use Rattle.ioc_store.specs.World.{Has};
 ghost use Rattle.ioc_store.specs.Given.{Answers, Begins};
+ghost use Rattle.ioc_process.specs.Ready.{IsReady, IsReadyFor, TakesTurn};
 ghost use Rattle.ioc_process.specs.Runs.{ForAnswers, IsStanding};
 ghost use Rattle.ioc_dbcommon.specs.declared.body.Output.TheVariants.{WriteLink};
 ghost use Rattle.ioc_dbcommon.specs.declared.link_field.LinkUse.TheVariants.{Standing};
 ghost use Rattle.ioc_process.specs.Processing.{processed, request, completed, faulted, finished, after_output, put_out, write_link, wrote, after_writing, followed_each};
-ghost use Rattle.ioc_process.specs.Frames.{then_finished, remaining, after_turn, turn_of, Opens, Turns};
+ghost use Rattle.ioc_process.specs.Frames.{then_finished, remaining, after_turn, turn_of};
 
 use crate::fast_path::finish_fast;
 use crate::inputs::fault_link;
+use crate::opening::open_frame;
 use crate::outputs::{
     Written, is_chosen, link_at, passive_record, passive_target, write_device, write_value,
 };
-use crate::steps::{finish_request, raise, set_active, take};
+use crate::steps::{finish_request, raise, take};
 use ioc_dbcommon::{Got, LinkUse, Output, StandingLink};
 use ioc_fields::Slot;
 use ioc_ledger::Outcome;
@@ -30,27 +30,17 @@ use ioc_values::Value;
 /// Shows the alarms of a record, follows its forward link, and returns what to do next.
 #[inline(always)]
 pub fn finish<S: Store>(store: &mut S, frames: &mut Vec<Frame>, number: RecordNo) -> Next
-    requires there { Has (S.world store.old) number }
-    requires closed { IsClosed S.Record.rules (S.world store.old) }
-    requires is_idle { (common_at S.Record.rules (S.world store.old) number).active ≡ false }
-    requires room { vec_len frames.old < vec_capacity frames.old }
-    ensures turn { (answers : Answers) → processed (finished S.Record.rules (request S.Record.rules answers) (S.world store.old) number)
-        ≡ after_turn S.Record.rules answers (S.world store.new) (turn_of frames.new.items result) }
+    requires ready { IsReady S.Record.rules (S.world store.old) number frames.old }
+    ensures turn { (answers : Answers) → processed (finished S.Record.rules (request S.Record.rules answers) (S.world store.old) number) ≡ after_turn S.Record.rules answers (S.world store.new) (turn_of frames.new.items result) }
     ensures given { S.given store.new ≡ S.given store.old }
-    ensures turns { Turns S.Record.rules (S.world store.old) (S.world store.new) 0 1 (turn_of frames.new.items result) }
-    ensures opens { Opens frames.old.items frames.new.items result }
-    ensures room { vec_capacity frames.new ≡ vec_capacity frames.old }
+    ensures takes { TakesTurn S.Record.rules (S.world store.old) (S.world store.new) 1 frames.old frames.new result }
 {
     let Some(named) = finish_fast(store, number) else {
         return Next::Ends(Outcome::Processed);
     };
     match passive_record(store, Some(named)) {
         Some(target) => {
-            set_active(store, number, true);
-            frames.push_reserved(Frame {
-                source: number,
-                place: ResumePoint::Following(target),
-            });
+            open_frame(store, frames, number, ResumePoint::Following(target));
             Next::Requests
         }
         None => {
@@ -62,16 +52,10 @@ pub fn finish<S: Store>(store: &mut S, frames: &mut Vec<Frame>, number: RecordNo
 
 /// Raises an alarm for the output link of a record, and finishes.
 pub fn finish_with_fault<S: Store>(store: &mut S, frames: &mut Vec<Frame>, number: RecordNo) -> Next
-    requires there { Has (S.world store.old) number }
-    requires closed { IsClosed S.Record.rules (S.world store.old) }
-    requires is_idle { (common_at S.Record.rules (S.world store.old) number).active ≡ false }
-    requires room { vec_len frames.old < vec_capacity frames.old }
-    ensures turn { (answers : Answers) → processed (finished S.Record.rules (request S.Record.rules answers) (faulted S.Record.rules (S.world store.old) number) number)
-        ≡ after_turn S.Record.rules answers (S.world store.new) (turn_of frames.new.items result) }
+    requires ready { IsReady S.Record.rules (S.world store.old) number frames.old }
+    ensures turn { (answers : Answers) → processed (finished S.Record.rules (request S.Record.rules answers) (faulted S.Record.rules (S.world store.old) number) number) ≡ after_turn S.Record.rules answers (S.world store.new) (turn_of frames.new.items result) }
     ensures given { S.given store.new ≡ S.given store.old }
-    ensures turns { Turns S.Record.rules (S.world store.old) (S.world store.new) 0 1 (turn_of frames.new.items result) }
-    ensures opens { Opens frames.old.items frames.new.items result }
-    ensures room { vec_capacity frames.new ≡ vec_capacity frames.old }
+    ensures takes { TakesTurn S.Record.rules (S.world store.old) (S.world store.new) 1 frames.old frames.new result }
 {
     raise(store, number, Status::Link, Severity::Invalid);
     finish(store, frames, number)
@@ -85,28 +69,17 @@ pub fn write_record<S: Store>(
     target: StandingLink,
     value: Value,
 ) -> Next
-    requires there { Has (S.world store.old) number }
-    requires closed { IsClosed S.Record.rules (S.world store.old) }
-    requires is_idle { (common_at S.Record.rules (S.world store.old) number).active ≡ false }
-    requires room { vec_len frames.old < vec_capacity frames.old }
-    requires standing { Has (S.world store.old) target.number }
-    ensures turn { (answers : Answers) → processed (then_finished S.Record.rules answers number
-        (after_writing S.Record.rules (request S.Record.rules answers) (wrote S.Record.rules (S.world store.old) number target value) number target)) ≡ after_turn S.Record.rules answers (S.world store.new) (turn_of frames.new.items result) }
+    requires { IsReadyFor S.Record.rules (S.world store.old) number target frames.old }
+    ensures turn { (answers : Answers) → processed (then_finished S.Record.rules answers number (after_writing S.Record.rules (request S.Record.rules answers) (wrote S.Record.rules (S.world store.old) number target value) number target)) ≡ after_turn S.Record.rules answers (S.world store.new) (turn_of frames.new.items result) }
     ensures given { S.given store.new ≡ S.given store.old }
-    ensures turns { Turns S.Record.rules (S.world store.old) (S.world store.new) 0 2 (turn_of frames.new.items result) }
-    ensures opens { Opens frames.old.items frames.new.items result }
-    ensures room { vec_capacity frames.new ≡ vec_capacity frames.old }
+    ensures takes { TakesTurn S.Record.rules (S.world store.old) (S.world store.new) 2 frames.old frames.new result }
 {
     let called = target.number;
     match write_value(store, number, target, value) {
         Written::InVain => finish_with_fault(store, frames, number),
         Written::Alone => finish(store, frames, number),
         Written::AndRequests => {
-            set_active(store, number, true);
-            frames.push_reserved(Frame {
-                source: number,
-                place: ResumePoint::Writing(called),
-            });
+            open_frame(store, frames, number, ResumePoint::Writing(called));
             Next::Requests
         }
     }
@@ -121,17 +94,11 @@ pub fn write_link<S: Store>(
     link: LinkUse,
     value: Value,
 ) -> Next
-    requires there { Has (S.world store.old) number }
-    requires closed { IsClosed S.Record.rules (S.world store.old) }
-    requires is_idle { (common_at S.Record.rules (S.world store.old) number).active ≡ false }
-    requires room { vec_len frames.old < vec_capacity frames.old }
     requires standing { IsStanding (S.world store.old) link }
-    ensures turn { (answers : Answers) → processed (then_finished S.Record.rules answers number
-        (write_link S.Record.rules (request S.Record.rules answers) (S.world store.old) number link value)) ≡ after_turn S.Record.rules answers (S.world store.new) (turn_of frames.new.items result) }
+    requires ready { IsReady S.Record.rules (S.world store.old) number frames.old }
+    ensures turn { (answers : Answers) → processed (then_finished S.Record.rules answers number (write_link S.Record.rules (request S.Record.rules answers) (S.world store.old) number link value)) ≡ after_turn S.Record.rules answers (S.world store.new) (turn_of frames.new.items result) }
     ensures given { S.given store.new ≡ S.given store.old }
-    ensures turns { Turns S.Record.rules (S.world store.old) (S.world store.new) 0 2 (turn_of frames.new.items result) }
-    ensures opens { Opens frames.old.items frames.new.items result }
-    ensures room { vec_capacity frames.new ≡ vec_capacity frames.old }
+    ensures takes { TakesTurn S.Record.rules (S.world store.old) (S.world store.new) 2 frames.old frames.new result }
 {
     match link {
         LinkUse::Unused => finish(store, frames, number),
@@ -148,16 +115,10 @@ pub fn follow_each<S: Store>(
     links: u16,
     first: usize,
 ) -> Next
-    requires there { Has (S.world store.old) number }
-    requires closed { IsClosed S.Record.rules (S.world store.old) }
-    requires is_idle { (common_at S.Record.rules (S.world store.old) number).active ≡ false }
-    requires room { vec_len frames.old < vec_capacity frames.old }
-    ensures turn { (answers : Answers) → processed (then_finished S.Record.rules answers number
-        (followed_each S.Record.rules (request S.Record.rules answers) (S.world store.old) number (remaining links first))) ≡ after_turn S.Record.rules answers (S.world store.new) (turn_of frames.new.items result) }
+    requires ready { IsReady S.Record.rules (S.world store.old) number frames.old }
+    ensures turn { (answers : Answers) → processed (then_finished S.Record.rules answers number (followed_each S.Record.rules (request S.Record.rules answers) (S.world store.old) number (remaining links first))) ≡ after_turn S.Record.rules answers (S.world store.new) (turn_of frames.new.items result) }
     ensures given { S.given store.new ≡ S.given store.old }
-    ensures turns { Turns S.Record.rules (S.world store.old) (S.world store.new) 0 ((16 - first) + 1) (turn_of frames.new.items result) }
-    ensures opens { Opens frames.old.items frames.new.items result }
-    ensures room { vec_capacity frames.new ≡ vec_capacity frames.old }
+    ensures takes { TakesTurn S.Record.rules (S.world store.old) (S.world store.new) ((16 - first) + 1) frames.old frames.new result }
 {
     let mut next = first;
     while let Some(slot) = Slot::from_index(next) {
@@ -165,11 +126,8 @@ pub fn follow_each<S: Store>(
         if is_chosen(links, slot) {
             let link = link_at(store, number, slot);
             if let Some(target) = passive_target(store, link) {
-                set_active(store, number, true);
-                frames.push_reserved(Frame {
-                    source: number,
-                    place: ResumePoint::FollowingEach(links, target, next),
-                });
+                let place = ResumePoint::FollowingEach(links, target, next);
+                open_frame(store, frames, number, place);
                 return Next::Requests;
             }
         }
@@ -186,18 +144,12 @@ pub fn put_out<S: Store>(
     number: RecordNo,
     output: &Output,
 ) -> Next
-    requires there { Has (S.world store.old) number }
-    requires closed { IsClosed S.Record.rules (S.world store.old) }
-    requires is_idle { (common_at S.Record.rules (S.world store.old) number).active ≡ false }
-    requires room { vec_len frames.old < vec_capacity frames.old }
     requires standing { (t : StandingLink) (v : Value) → output.now ≡ WriteLink (Standing t) v → Has (S.world store.old) t.number }
+    requires ready { IsReady S.Record.rules (S.world store.old) number frames.old }
     ensures turn { ForAnswers (S.given store.new) (λ answers.
-        processed (after_output S.Record.rules (request S.Record.rules answers) number (put_out S.Record.rules answers (request S.Record.rules answers) (S.world store.old) number output.now))
-        ≡ after_turn S.Record.rules answers (S.world store.new) (turn_of frames.new.items result)) }
+        processed (after_output S.Record.rules (request S.Record.rules answers) number (put_out S.Record.rules answers (request S.Record.rules answers) (S.world store.old) number output.now)) ≡ after_turn S.Record.rules answers (S.world store.new) (turn_of frames.new.items result)) }
     ensures given { Begins S.Device.gives (S.given store.old) (S.given store.new) }
-    ensures turns { Turns S.Record.rules (S.world store.old) (S.world store.new) 0 17 (turn_of frames.new.items result) }
-    ensures opens { Opens frames.old.items frames.new.items result }
-    ensures room { vec_capacity frames.new ≡ vec_capacity frames.old }
+    ensures takes { TakesTurn S.Record.rules (S.world store.old) (S.world store.new) 17 frames.old frames.new result }
 {
     match output {
         Output::NoOutput => finish(store, frames, number),
@@ -217,6 +169,18 @@ pub fn put_out<S: Store>(
     }
 }
 
+/// Continues a body whose link returned a fault.
+pub fn take_fault<S: Store>(store: &mut S, frames: &mut Vec<Frame>, number: RecordNo) -> Next
+    requires ready { IsReady S.Record.rules (S.world store.old) number frames.old }
+    ensures turn { ForAnswers (S.given store.new) (λ answers.
+        processed (completed S.Record.rules answers (request S.Record.rules answers) (faulted S.Record.rules (S.world store.old) number) number Got.Fault) ≡ after_turn S.Record.rules answers (S.world store.new) (turn_of frames.new.items result)) }
+    ensures given { Begins S.Device.gives (S.given store.old) (S.given store.new) }
+    ensures takes { TakesTurn S.Record.rules (S.world store.old) (S.world store.new) 17 frames.old frames.new result }
+{
+    let got = fault_link(store, number);
+    finish_body(store, frames, number, &got)
+}
+
 /// Lets a record take its input, write its output, and finish.
 #[inline(always)]
 pub fn finish_body<S: Store>(
@@ -225,17 +189,11 @@ pub fn finish_body<S: Store>(
     number: RecordNo,
     got: &Got,
 ) -> Next
-    requires there { Has (S.world store.old) number }
-    requires closed { IsClosed S.Record.rules (S.world store.old) }
-    requires is_idle { (common_at S.Record.rules (S.world store.old) number).active ≡ false }
-    requires room { vec_len frames.old < vec_capacity frames.old }
+    requires ready { IsReady S.Record.rules (S.world store.old) number frames.old }
     ensures turn { ForAnswers (S.given store.new) (λ answers.
-        processed (completed S.Record.rules answers (request S.Record.rules answers) (S.world store.old) number got.now)
-        ≡ after_turn S.Record.rules answers (S.world store.new) (turn_of frames.new.items result)) }
+        processed (completed S.Record.rules answers (request S.Record.rules answers) (S.world store.old) number got.now) ≡ after_turn S.Record.rules answers (S.world store.new) (turn_of frames.new.items result)) }
     ensures given { Begins S.Device.gives (S.given store.old) (S.given store.new) }
-    ensures turns { Turns S.Record.rules (S.world store.old) (S.world store.new) 0 17 (turn_of frames.new.items result) }
-    ensures opens { Opens frames.old.items frames.new.items result }
-    ensures room { vec_capacity frames.new ≡ vec_capacity frames.old }
+    ensures takes { TakesTurn S.Record.rules (S.world store.old) (S.world store.new) 17 frames.old frames.new result }
 {
     let mut output = Output::NoOutput;
     if take(store, number, got, &mut output) {
@@ -243,22 +201,4 @@ pub fn finish_body<S: Store>(
     } else {
         finish(store, frames, number)
     }
-}
-
-/// Continues a body whose link returned a fault.
-pub fn take_fault<S: Store>(store: &mut S, frames: &mut Vec<Frame>, number: RecordNo) -> Next
-    requires there { Has (S.world store.old) number }
-    requires closed { IsClosed S.Record.rules (S.world store.old) }
-    requires is_idle { (common_at S.Record.rules (S.world store.old) number).active ≡ false }
-    requires room { vec_len frames.old < vec_capacity frames.old }
-    ensures turn { ForAnswers (S.given store.new) (λ answers.
-        processed (completed S.Record.rules answers (request S.Record.rules answers) (faulted S.Record.rules (S.world store.old) number) number Got.Fault)
-        ≡ after_turn S.Record.rules answers (S.world store.new) (turn_of frames.new.items result)) }
-    ensures given { Begins S.Device.gives (S.given store.old) (S.given store.new) }
-    ensures turns { Turns S.Record.rules (S.world store.old) (S.world store.new) 0 17 (turn_of frames.new.items result) }
-    ensures opens { Opens frames.old.items frames.new.items result }
-    ensures room { vec_capacity frames.new ≡ vec_capacity frames.old }
-{
-    let got = fault_link(store, number);
-    finish_body(store, frames, number, &got)
 }

@@ -1,16 +1,17 @@
 //! The input of a body: it reads a link or its device, or needs neither.
-ghost use Rattle.std.specs.Prelude.{◌≡◌, ◌<◌, ◌-◌, ℕ, List, [], false, vec_len};
-ghost use Rattle.std.specs.Vec.{vec_capacity};
+ghost use Rattle.std.specs.Prelude.{◌≡◌};
 ghost use Rattle.ioc_dbcommon.specs.Wants.{need_of};
-ghost use Rattle.ioc_store.specs.World.{Has, at, common_at, IsClosed};
+ghost use Rattle.ioc_store.specs.World.{at};
 ghost use Rattle.ioc_store.specs.Given.{Begins};
+ghost use Rattle.ioc_process.specs.Ready.{IsReadyFor, IsReady, TakesTurn};
 ghost use Rattle.ioc_process.specs.Runs.{ForAnswers, IsStanding};
 ghost use Rattle.ioc_process.specs.Processing.{processed, request, read_at, completed, body, as_input, read_link, read_record};
-ghost use Rattle.ioc_process.specs.Frames.{after_reading, after_turn, turn_of, Opens, most_calls, Turns};
+ghost use Rattle.ioc_process.specs.Frames.{after_reading, after_turn, turn_of, most_calls};
 
 use crate::finishing::{finish_body, take_fault};
 use crate::inputs::{ask_device, read_value};
-use crate::steps::{need, passes_on, set_active, wanted_link};
+use crate::opening::open_frame;
+use crate::steps::{need, passes_on, wanted_link};
 use ioc_dbcommon::{Got, LinkUse, Need, StandingLink};
 use ioc_ledger::Outcome;
 use ioc_names::RecordNo;
@@ -21,16 +22,11 @@ use ioc_store::store::Store;
 /// Begins the body of a record.
 #[inline(always)]
 pub fn begin_body<S: Store>(store: &mut S, frames: &mut Vec<Frame>, number: RecordNo) -> Next
-    requires there { Has (S.world store.old) number }
-    requires closed { IsClosed S.Record.rules (S.world store.old) }
-    requires is_idle { (common_at S.Record.rules (S.world store.old) number).active ≡ false }
-    requires room { vec_len frames.old < vec_capacity frames.old }
+    requires ready { IsReady S.Record.rules (S.world store.old) number frames.old }
     ensures turn { ForAnswers (S.given store.new) (λ answers.
         processed (body S.Record.rules answers (request S.Record.rules answers) (S.world store.old) number) ≡ after_turn S.Record.rules answers (S.world store.new) (turn_of frames.new.items result)) }
     ensures given { Begins S.Device.gives (S.given store.old) (S.given store.new) }
-    ensures turns { Turns S.Record.rules (S.world store.old) (S.world store.new) 0 most_calls (turn_of frames.new.items result) }
-    ensures opens { Opens frames.old.items frames.new.items result }
-    ensures room { vec_capacity frames.new ≡ vec_capacity frames.old }
+    ensures takes { TakesTurn S.Record.rules (S.world store.old) (S.world store.new) most_calls frames.old frames.new result }
 {
     match need(store, number) {
         Need::Nothing => finish_body(store, frames, number, &Got::Nothing),
@@ -42,17 +38,12 @@ pub fn begin_body<S: Store>(store: &mut S, frames: &mut Vec<Frame>, number: Reco
 /// Begins a body that reads a link first.
 #[inline(never)]
 pub fn begin_wanted<S: Store>(store: &mut S, frames: &mut Vec<Frame>, number: RecordNo) -> Next
-    requires there { Has (S.world store.old) number }
+    requires ready { IsReady S.Record.rules (S.world store.old) number frames.old }
     requires wants { need_of (S.Record.rules.begin (at S.Record.rules (S.world store.old) number)) ≡ Need.Link }
-    requires closed { IsClosed S.Record.rules (S.world store.old) }
-    requires is_idle { (common_at S.Record.rules (S.world store.old) number).active ≡ false }
-    requires room { vec_len frames.old < vec_capacity frames.old }
     ensures turn { ForAnswers (S.given store.new) (λ answers.
         processed (body S.Record.rules answers (request S.Record.rules answers) (S.world store.old) number) ≡ after_turn S.Record.rules answers (S.world store.new) (turn_of frames.new.items result)) }
     ensures given { Begins S.Device.gives (S.given store.old) (S.given store.new) }
-    ensures turns { Turns S.Record.rules (S.world store.old) (S.world store.new) 0 most_calls (turn_of frames.new.items result) }
-    ensures opens { Opens frames.old.items frames.new.items result }
-    ensures room { vec_capacity frames.new ≡ vec_capacity frames.old }
+    ensures takes { TakesTurn S.Record.rules (S.world store.old) (S.world store.new) most_calls frames.old frames.new result }
 {
     let link = wanted_link(store, number);
     begin_reading(store, frames, number, link)
@@ -61,17 +52,12 @@ pub fn begin_wanted<S: Store>(store: &mut S, frames: &mut Vec<Frame>, number: Re
 /// Begins a body that reads its device first.
 #[inline(never)]
 pub fn begin_asking<S: Store>(store: &mut S, frames: &mut Vec<Frame>, number: RecordNo) -> Next
-    requires there { Has (S.world store.old) number }
+    requires ready { IsReady S.Record.rules (S.world store.old) number frames.old }
     requires wants { need_of (S.Record.rules.begin (at S.Record.rules (S.world store.old) number)) ≡ Need.Device }
-    requires closed { IsClosed S.Record.rules (S.world store.old) }
-    requires is_idle { (common_at S.Record.rules (S.world store.old) number).active ≡ false }
-    requires room { vec_len frames.old < vec_capacity frames.old }
     ensures turn { ForAnswers (S.given store.new) (λ answers.
         processed (body S.Record.rules answers (request S.Record.rules answers) (S.world store.old) number) ≡ after_turn S.Record.rules answers (S.world store.new) (turn_of frames.new.items result)) }
     ensures given { Begins S.Device.gives (S.given store.old) (S.given store.new) }
-    ensures turns { Turns S.Record.rules (S.world store.old) (S.world store.new) 0 most_calls (turn_of frames.new.items result) }
-    ensures opens { Opens frames.old.items frames.new.items result }
-    ensures room { vec_capacity frames.new ≡ vec_capacity frames.old }
+    ensures takes { TakesTurn S.Record.rules (S.world store.old) (S.world store.new) most_calls frames.old frames.new result }
 {
     match ask_device(store, number) {
         Some(got) => finish_body(store, frames, number, &got),
@@ -87,17 +73,12 @@ fn begin_reading<S: Store>(
     number: RecordNo,
     link: LinkUse,
 ) -> Next
-    requires there { Has (S.world store.old) number }
-    requires closed { IsClosed S.Record.rules (S.world store.old) }
-    requires is_idle { (common_at S.Record.rules (S.world store.old) number).active ≡ false }
-    requires room { vec_len frames.old < vec_capacity frames.old }
+    requires ready { IsReady S.Record.rules (S.world store.old) number frames.old }
     requires standing { IsStanding (S.world store.old) link }
     ensures turn { ForAnswers (S.given store.new) (λ answers.
         processed (after_reading S.Record.rules answers number (as_input (read_link S.Record.rules (request S.Record.rules answers) S.Record.rules.input_kind (S.world store.old) number link))) ≡ after_turn S.Record.rules answers (S.world store.new) (turn_of frames.new.items result)) }
     ensures given { Begins S.Device.gives (S.given store.old) (S.given store.new) }
-    ensures turns { Turns S.Record.rules (S.world store.old) (S.world store.new) 0 most_calls (turn_of frames.new.items result) }
-    ensures opens { Opens frames.old.items frames.new.items result }
-    ensures room { vec_capacity frames.new ≡ vec_capacity frames.old }
+    ensures takes { TakesTurn S.Record.rules (S.world store.old) (S.world store.new) most_calls frames.old frames.new result }
 {
     match link {
         LinkUse::Unused => finish_body(store, frames, number, &Got::Nothing),
@@ -116,25 +97,14 @@ fn begin_target<S: Store>(
     number: RecordNo,
     target: StandingLink,
 ) -> Next
-    requires there { Has (S.world store.old) number }
-    requires closed { IsClosed S.Record.rules (S.world store.old) }
-    requires is_idle { (common_at S.Record.rules (S.world store.old) number).active ≡ false }
-    requires room { vec_len frames.old < vec_capacity frames.old }
-    requires standing { Has (S.world store.old) target.number }
+    requires { IsReadyFor S.Record.rules (S.world store.old) number target frames.old }
     ensures turn { ForAnswers (S.given store.new) (λ answers.
         processed (after_reading S.Record.rules answers number (as_input (read_record S.Record.rules (request S.Record.rules answers) S.Record.rules.input_kind (S.world store.old) number target))) ≡ after_turn S.Record.rules answers (S.world store.new) (turn_of frames.new.items result)) }
     ensures given { Begins S.Device.gives (S.given store.old) (S.given store.new) }
-    ensures turns { Turns S.Record.rules (S.world store.old) (S.world store.new) 0 most_calls (turn_of frames.new.items result) }
-    ensures opens { Opens frames.old.items frames.new.items result }
-    ensures room { vec_capacity frames.new ≡ vec_capacity frames.old }
+    ensures takes { TakesTurn S.Record.rules (S.world store.old) (S.world store.new) most_calls frames.old frames.new result }
 {
-    let called = target.number;
-    if passes_on(store, target.process_passive, called) {
-        set_active(store, number, true);
-        frames.push_reserved(Frame {
-            source: number,
-            place: ResumePoint::Reading(target),
-        });
+    if passes_on(store, target.process_passive, target.number) {
+        open_frame(store, frames, number, ResumePoint::Reading(target));
         Next::Requests
     } else {
         take_value(store, frames, number, target)
@@ -149,17 +119,11 @@ pub fn take_value<S: Store>(
     number: RecordNo,
     target: StandingLink,
 ) -> Next
-    requires there { Has (S.world store.old) number }
-    requires closed { IsClosed S.Record.rules (S.world store.old) }
-    requires is_idle { (common_at S.Record.rules (S.world store.old) number).active ≡ false }
-    requires room { vec_len frames.old < vec_capacity frames.old }
-    requires standing { Has (S.world store.old) target.number }
+    requires { IsReadyFor S.Record.rules (S.world store.old) number target frames.old }
     ensures turn { ForAnswers (S.given store.new) (λ answers.
         processed (let read = read_at S.Record.rules S.Record.rules.input_kind (S.world store.old) number target in completed S.Record.rules answers (request S.Record.rules answers) read.world number read.came) ≡ after_turn S.Record.rules answers (S.world store.new) (turn_of frames.new.items result)) }
     ensures given { Begins S.Device.gives (S.given store.old) (S.given store.new) }
-    ensures turns { Turns S.Record.rules (S.world store.old) (S.world store.new) 0 17 (turn_of frames.new.items result) }
-    ensures opens { Opens frames.old.items frames.new.items result }
-    ensures room { vec_capacity frames.new ≡ vec_capacity frames.old }
+    ensures takes { TakesTurn S.Record.rules (S.world store.old) (S.world store.new) 17 frames.old frames.new result }
 {
     let kind = store.record(number).input_kind();
     let got = read_value(store, number, target, kind);

@@ -13,6 +13,9 @@ pub returns-then-not-has-clause-done : goal.returns-then-not-has-clause-done
 returns-then-not-has-clause-done g c = λ answers begins.
     makes-refused g.S.Record.RecordKind.rules answers _ (Put c.args.number c.args.field (input_of c.args.text.now)) _ (sym c.has.ensures ∙ c.if-not-has.true)
 
+pub returns-in-Ok-clause-given : goal.returns-in-Ok-clause-given
+returns-in-Ok-clause-given g c = rw (c.rescan.ensures.given, c.in-Ok.ensures.given) at c.process_after_put.ensures.given
+
 pub process_after_put-requires-clause-there : goal.process_after_put-requires-clause-there
 process_after_put-requires-clause-there g c =
     let k = g.S.Record.RecordKind.rules in
@@ -42,9 +45,6 @@ returns-then-not-has-clause-given g c = begins_same refl
 
 pub returns-in-Err-clause-given : goal.returns-in-Err-clause-given
 returns-in-Err-clause-given g c = begins_same c.in-Err.ensures.given
-
-pub returns-in-Ok-clause-given : goal.returns-in-Ok-clause-given
-returns-in-Ok-clause-given g c = rw (c.rescan.ensures.given, c.in-Ok.ensures.given) at c.process_after_put.ensures.given
 
 pub returns-in-Ok-clause-keeps : goal.returns-in-Ok-clause-keeps
 returns-in-Ok-clause-keeps g c =

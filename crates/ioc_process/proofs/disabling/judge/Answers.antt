@@ -1,4 +1,4 @@
-use Rattle.std.proofs.Common.{sym, ◌∙◌}
+use Rattle.std.proofs.Common.{refl, sym, ◌∙◌}
 use Rattle.ioc_process.specs.Answering.{begins_same}
 use Rattle.ioc_process.proofs.FrameSteps.{judged-on}
 use Rattle.ioc_process.proofs.FrameTurns.{opens_none}
@@ -10,8 +10,8 @@ returns-then-is_disabled-clause-turn g c = λ answers begins. rw c.leave_alone.e
 pub returns-then-is_disabled-clause-given : goal.returns-then-is_disabled-clause-given
 returns-then-is_disabled-clause-given g c = begins_same c.leave_alone.ensures.given
 
-pub returns-then-is_disabled-clause-turns : goal.returns-then-is_disabled-clause-turns
-returns-then-is_disabled-clause-turns g c = rw c.leave_alone.ensures.ends c.leave_alone.ensures.turns
+pub returns-then-is_disabled-clause-takes : goal.returns-then-is_disabled-clause-takes
+returns-then-is_disabled-clause-takes g c = rw c.leave_alone.ensures.ends (record { turns = c.leave_alone.ensures.turns; opens = opens_none _ _ _ refl; room = refl })
 
 pub returns-else-is_disabled-clause-turn : goal.returns-else-is_disabled-clause-turn
 returns-else-is_disabled-clause-turn g c = λ answers begins.

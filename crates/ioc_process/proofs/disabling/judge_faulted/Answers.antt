@@ -1,32 +1,15 @@
-use Rattle.std.proofs.Common.{◌∙◌, arith}
+use Rattle.std.proofs.Common.{arith}
 use Rattle.ioc_process.specs.Depth.{faulted-stays}
-use Rattle.ioc_process.specs.Keeping.{faulted-keeps, closed_on}
-use Rattle.ioc_process.proofs.Turning.{turns_on}
+use Rattle.ioc_process.specs.Keeping.{faulted-keeps}
+use Rattle.ioc_process.proofs.Ready.{ready_by, is_ready, takes_ready}
 use Rattle.ioc_process.proofs.disabling.judge_faulted.Goals as goal
 
-pub judge-requires-clause-there : goal.judge-requires-clause-there
-judge-requires-clause-there g c =
-    let k = g.S.Record.RecordKind.rules in
+pub judge-requires : goal.judge-requires
+judge-requires g c =
     let lawful = g.met.S.Record.RecordKind.lawful in
     let w = g.S.Store.world c.args.store.now in
-    let s = c.args.number in
-    rw c.fault_link.ensures.world ((faulted-keeps k lawful w s c.requires.there).has _ c.requires.there)
-
-pub judge-requires-clause-closed : goal.judge-requires-clause-closed
-judge-requires-clause-closed g c =
-    let k = g.S.Record.RecordKind.rules in
-    let lawful = g.met.S.Record.RecordKind.lawful in
-    let w = g.S.Store.world c.args.store.now in
-    let s = c.args.number in
-    rw c.fault_link.ensures.world (closed_on k lawful (faulted-keeps k lawful w s c.requires.there) c.requires.closed)
-
-pub judge-requires-clause-is_idle : goal.judge-requires-clause-is_idle
-judge-requires-clause-is_idle g c =
-    let k = g.S.Record.RecordKind.rules in
-    let lawful = g.met.S.Record.RecordKind.lawful in
-    let w = g.S.Store.world c.args.store.now in
-    let s = c.args.number in
-    rw c.fault_link.ensures.world ((faulted-stays k lawful w s).active ∙ c.requires.is_idle)
+    let stays = ready_by _ lawful c.fault_link.ensures.world (faulted-keeps _ lawful w c.args.number c.requires.ready.there) (faulted-stays _ lawful w c.args.number) c.requires.ready.there c.requires.ready.closed c.requires.ready.is_idle in
+    record { ready = is_ready _ stays c.requires.ready.room }
 
 pub returns-clause-turn : goal.returns-clause-turn
 returns-clause-turn g c = λ answers begins. rw (← c.fault_link.ensures.world) (c.judge.ensures.turn answers begins)
@@ -34,10 +17,9 @@ returns-clause-turn g c = λ answers begins. rw (← c.fault_link.ensures.world)
 pub returns-clause-given : goal.returns-clause-given
 returns-clause-given g c = rw c.fault_link.ensures.given at c.judge.ensures.given
 
-pub returns-clause-turns : goal.returns-clause-turns
-returns-clause-turns g c =
-    let k = g.S.Record.RecordKind.rules in
+pub returns-clause-takes : goal.returns-clause-takes
+returns-clause-takes g c =
     let lawful = g.met.S.Record.RecordKind.lawful in
     let w = g.S.Store.world c.args.store.now in
-    let s = c.args.number in
-    turns_on k (faulted-keeps k lawful w s c.requires.there) (omega (arith, (faulted-stays k lawful w s).fewer)) (omega arith) (rw c.fault_link.ensures.world at c.judge.ensures.turns)
+    let stays = ready_by _ lawful c.fault_link.ensures.world (faulted-keeps _ lawful w c.args.number c.requires.ready.there) (faulted-stays _ lawful w c.args.number) c.requires.ready.there c.requires.ready.closed c.requires.ready.is_idle in
+    takes_ready _ stays (omega arith) c.judge.ensures.takes

@@ -1,4 +1,4 @@
-use Rattle.std.proofs.Common.{◌∙◌, arith}
+use Rattle.std.proofs.Common.{arith}
 use Rattle.ioc_dbcommon.specs.Steps.{disabled}
 use Rattle.ioc_ledger.specs.declared.outcome.Outcome.TheVariants.{Disabled}
 use Rattle.ioc_process.specs.Depth.{stays-changed, disabled-active, notified-idle}

@@ -1,92 +1,54 @@
-use Rattle.std.proofs.Common.{sym, ◌∙◌, arith}
+use Rattle.std.proofs.Common.{◌≡◌, ℕ, false, sym, ◌∙◌, arith}
+use Rattle.ioc_dbcommon.specs.declared.body.Got.{Got}
+use Rattle.ioc_record.specs.RecordRules.{RecordRules}
+use Rattle.ioc_record.specs.Laws.{IsLawful}
+use Rattle.ioc_store.specs.World.{World, Has, at, common_at, put, IsClosed}
 use Rattle.ioc_process.specs.Answering.{begins_same}
 use Rattle.ioc_process.specs.Depth.{taken-stays}
-use Rattle.ioc_process.specs.Keeping.{keeps-taken, closed_on}
+use Rattle.ioc_process.specs.Keeping.{keeps-taken}
 use Rattle.ioc_process.specs.Bodies.{output_stands}
 use Rattle.ioc_process.proofs.FrameSteps.{completed-taken}
 use Rattle.ioc_process.proofs.Needs.{completed-nothing}
-use Rattle.ioc_process.proofs.Turning.{turns_on}
+use Rattle.ioc_process.proofs.Ready.{StaysReady, ready_by, is_ready, takes_ready}
 use Rattle.ioc_process.proofs.finishing.finish_body.Goals as goal
 
-pub put_out-requires-clause-there : goal.put_out-requires-clause-there
-put_out-requires-clause-there g c =
-    let k = g.S.Record.RecordKind.rules in
-    let lawful = g.met.S.Record.RecordKind.lawful in
-    let w = g.S.Store.world c.args.store.now in
-    rw c.take.ensures.world ((keeps-taken k lawful w c.args.number c.requires.there c.args.got.now).has _ c.requires.there)
+module _ {R : Type 0} (k : RecordRules R) (lawful : IsLawful k) where
+  -- A record that has taken its input is ready.
+  took-ready : {w v : World R} {s : ℕ} (got : Got) → v ≡ put w s (k.taken (at k w s) got) → Has w s → IsClosed k w → (common_at k w s).active ≡ false → StaysReady k w v s 0
+  took-ready {w = w} {s = s} got is there closed inactive = ready_by k lawful is (keeps-taken k lawful w s there got) (taken-stays k lawful w s got) there closed inactive
 
-pub put_out-requires-clause-closed : goal.put_out-requires-clause-closed
-put_out-requires-clause-closed g c =
-    let k = g.S.Record.RecordKind.rules in
+pub put_out-requires : goal.put_out-requires
+put_out-requires g c =
     let lawful = g.met.S.Record.RecordKind.lawful in
-    let w = g.S.Store.world c.args.store.now in
-    rw c.take.ensures.world (closed_on k lawful (keeps-taken k lawful w c.args.number c.requires.there c.args.got.now) c.requires.closed)
+    let ready = took-ready _ lawful c.args.got.now c.take.ensures.world c.requires.ready.there c.requires.ready.closed c.requires.ready.is_idle in
+    record {
+      ready = is_ready _ ready c.requires.ready.room;
+      standing = λ t v is. ready.keeps.has _ (output_stands _ lawful _ c.args.number c.args.got.now c.requires.ready.closed t v (sym (c.take.ensures.output c.if-take.true) ∙ is));
+    }
 
-pub put_out-requires-clause-is_idle : goal.put_out-requires-clause-is_idle
-put_out-requires-clause-is_idle g c =
-    let k = g.S.Record.RecordKind.rules in
-    let lawful = g.met.S.Record.RecordKind.lawful in
-    let w = g.S.Store.world c.args.store.now in
-    rw c.take.ensures.world ((taken-stays k lawful w c.args.number c.args.got.now).active ∙ c.requires.is_idle)
-
-pub finish-requires-clause-there : goal.finish-requires-clause-there
-finish-requires-clause-there g c =
-    let k = g.S.Record.RecordKind.rules in
-    let lawful = g.met.S.Record.RecordKind.lawful in
-    let w = g.S.Store.world c.args.store.now in
-    rw c.take.ensures.world ((keeps-taken k lawful w c.args.number c.requires.there c.args.got.now).has _ c.requires.there)
-
-pub finish-requires-clause-closed : goal.finish-requires-clause-closed
-finish-requires-clause-closed g c =
-    let k = g.S.Record.RecordKind.rules in
-    let lawful = g.met.S.Record.RecordKind.lawful in
-    let w = g.S.Store.world c.args.store.now in
-    rw c.take.ensures.world (closed_on k lawful (keeps-taken k lawful w c.args.number c.requires.there c.args.got.now) c.requires.closed)
-
-pub finish-requires-clause-is_idle : goal.finish-requires-clause-is_idle
-finish-requires-clause-is_idle g c =
-    let k = g.S.Record.RecordKind.rules in
-    let lawful = g.met.S.Record.RecordKind.lawful in
-    let w = g.S.Store.world c.args.store.now in
-    rw c.take.ensures.world ((taken-stays k lawful w c.args.number c.args.got.now).active ∙ c.requires.is_idle)
-
-pub put_out-requires-clause-standing : goal.put_out-requires-clause-standing
-put_out-requires-clause-standing g c = λ t v is.
-    let k = g.S.Record.RecordKind.rules in
-    let lawful = g.met.S.Record.RecordKind.lawful in
-    let w = g.S.Store.world c.args.store.now in
-    rw c.take.ensures.world ((keeps-taken k lawful w c.args.number c.requires.there c.args.got.now).has _ (output_stands k lawful w c.args.number c.args.got.now c.requires.closed t v (sym (c.take.ensures.output c.if-take.true) ∙ is)))
+pub finish-requires : goal.finish-requires
+finish-requires g c =
+    let ready = took-ready _ g.met.S.Record.RecordKind.lawful c.args.got.now c.take.ensures.world c.requires.ready.there c.requires.ready.closed c.requires.ready.is_idle in
+    record { ready = is_ready _ ready c.requires.ready.room }
 
 pub returns-then-take-clause-turn : goal.returns-then-take-clause-turn
 returns-then-take-clause-turn g c = λ answers begins.
-    let k = g.S.Record.RecordKind.rules in
-    let lawful = g.met.S.Record.RecordKind.lawful in
-    let w = g.S.Store.world c.args.store.now in
-    completed-taken k lawful answers w c.args.number c.args.got.now _ (sym (c.take.ensures.output c.if-take.true)) (rw c.take.ensures.world at (c.put_out.ensures.turn answers begins))
-
-pub returns-else-take-clause-turn : goal.returns-else-take-clause-turn
-returns-else-take-clause-turn g c = λ answers begins.
-    let k = g.S.Record.RecordKind.rules in
-    let lawful = g.met.S.Record.RecordKind.lawful in
-    let w = g.S.Store.world c.args.store.now in
-    completed-nothing k lawful answers w c.args.number c.args.got.now (sym c.take.ensures.puts_out ∙ c.if-take.false) (rw c.take.ensures.world at (c.finish.ensures.turn answers))
+    completed-taken _ g.met.S.Record.RecordKind.lawful answers _ c.args.number c.args.got.now _ (sym (c.take.ensures.output c.if-take.true)) (rw c.take.ensures.world at (c.put_out.ensures.turn answers begins))
 
 pub returns-then-take-clause-given : goal.returns-then-take-clause-given
 returns-then-take-clause-given g c = rw c.take.ensures.given at c.put_out.ensures.given
 
+pub returns-then-take-clause-takes : goal.returns-then-take-clause-takes
+returns-then-take-clause-takes g c =
+    takes_ready _ (took-ready _ g.met.S.Record.RecordKind.lawful c.args.got.now c.take.ensures.world c.requires.ready.there c.requires.ready.closed c.requires.ready.is_idle) (omega arith) c.put_out.ensures.takes
+
+pub returns-else-take-clause-turn : goal.returns-else-take-clause-turn
+returns-else-take-clause-turn g c = λ answers begins.
+    completed-nothing _ g.met.S.Record.RecordKind.lawful answers _ c.args.number c.args.got.now (sym c.take.ensures.puts_out ∙ c.if-take.false) (rw c.take.ensures.world at (c.finish.ensures.turn answers))
+
 pub returns-else-take-clause-given : goal.returns-else-take-clause-given
 returns-else-take-clause-given g c = begins_same (c.finish.ensures.given ∙ c.take.ensures.given)
 
-pub returns-then-take-clause-turns : goal.returns-then-take-clause-turns
-returns-then-take-clause-turns g c =
-    let k = g.S.Record.RecordKind.rules in
-    let lawful = g.met.S.Record.RecordKind.lawful in
-    let w = g.S.Store.world c.args.store.now in
-    turns_on k (keeps-taken k lawful w c.args.number c.requires.there c.args.got.now) (omega (arith, (taken-stays k lawful w c.args.number c.args.got.now).fewer)) (omega arith) (rw c.take.ensures.world at c.put_out.ensures.turns)
-
-pub returns-else-take-clause-turns : goal.returns-else-take-clause-turns
-returns-else-take-clause-turns g c =
-    let k = g.S.Record.RecordKind.rules in
-    let lawful = g.met.S.Record.RecordKind.lawful in
-    let w = g.S.Store.world c.args.store.now in
-    turns_on k (keeps-taken k lawful w c.args.number c.requires.there c.args.got.now) (omega (arith, (taken-stays k lawful w c.args.number c.args.got.now).fewer)) (omega arith) (rw c.take.ensures.world at c.finish.ensures.turns)
+pub returns-else-take-clause-takes : goal.returns-else-take-clause-takes
+returns-else-take-clause-takes g c =
+    takes_ready _ (took-ready _ g.met.S.Record.RecordKind.lawful c.args.got.now c.take.ensures.world c.requires.ready.there c.requires.ready.closed c.requires.ready.is_idle) (omega arith) c.finish.ensures.takes

@@ -18,7 +18,7 @@ passive_target-requires g c =
     let s = c.args.number in
     let i = c.loop-slot.invariant in
     let links = c.args.links in
-    rw (c.link_at-link.ensures, i.world) (slot_stands k lawful w s c.in-Some.slot c.requires.closed)
+    rw (c.link_at-link.ensures, i.world) (slot_stands k lawful w s c.in-Some.slot c.requires.ready.closed)
 
 pub returns-in-Some-passive_target-clause-turn : goal.returns-in-Some-passive_target-clause-turn
 returns-in-Some-passive_target-clause-turn g c = λ answers.
@@ -30,12 +30,12 @@ returns-in-Some-passive_target-clause-turn g c = λ answers.
     let links = c.args.links in
     let named = rw (c.link_at-link.ensures, i.world) at (sym c.passive_target.ensures ∙ c.in-Some-passive_target.is) in
     let chosen = remaining-chosen k lawful links c.loop-slot.next c.in-Some.slot (sym c.from_index.ensures ∙ c.in-Some.is) (sym c.is_chosen.ensures ∙ c.if-is_chosen.true) in
-    rw (c.push_reserved.ensures.items, turn_pushed, c.set_active.ensures.world, i.world)
+    rw (c.open_frame.ensures.items, turn_pushed, c.open_frame.ensures.world, i.world)
     (ap (λ d. processed d) (i.left answers ∙ ap (λ slots. then_finished k answers s (followed_each k (request k answers) w s slots)) chosen)
-    ∙ each-calls k lawful answers w s links (c.loop-slot.next + 1) c.in-Some.slot c.in-Some-passive_target.target c.requires.is_idle named)
+    ∙ each-calls k lawful answers w s links (c.loop-slot.next + 1) c.in-Some.slot c.in-Some-passive_target.target c.requires.ready.is_idle named)
 
-pub returns-in-Some-passive_target-clause-turns : goal.returns-in-Some-passive_target-clause-turns
-returns-in-Some-passive_target-clause-turns g c =
+pub returns-in-Some-passive_target-clause-takes : goal.returns-in-Some-passive_target-clause-takes
+returns-in-Some-passive_target-clause-takes g c =
     let k = g.S.Record.RecordKind.rules in
     let lawful = g.met.S.Record.RecordKind.lawful in
     let w = g.S.Store.world c.args.store.now in
@@ -43,14 +43,15 @@ returns-in-Some-passive_target-clause-turns g c =
     let i = c.loop-slot.invariant in
     let links = c.args.links in
     let named = rw (c.link_at-link.ensures, i.world) at (sym c.passive_target.ensures ∙ c.in-Some-passive_target.is) in
-    let keeps = keeps-active k lawful w s c.requires.there true in
-    rw (c.push_reserved.ensures.items, turn_pushed, c.set_active.ensures.world, i.world)
-    (turns_calls k _ keeps (omega (arith, room-active k lawful w s, ap {A = Bool} {B = ℕ} (λ b. cond b 1 0) c.requires.is_idle))
-    (record { source_there = keeps.has _ c.requires.there; requested_there = keeps.has _ (passive_there k lawful w (link_at k w s c.in-Some.slot) c.in-Some-passive_target.target (slot_stands k lawful w s c.in-Some.slot c.requires.closed) named) })
-    (omega (arith, i.onward, slot_below c.loop-slot.next c.in-Some.slot (sym c.from_index.ensures ∙ c.in-Some.is))))
-
-pub returns-in-Some-passive_target-clause-opens : goal.returns-in-Some-passive_target-clause-opens
-returns-in-Some-passive_target-clause-opens g c = opens_pushed _ _ _ (rw c.loop-slot.invariant.frames at c.push_reserved.ensures.items)
+    let keeps = keeps-active k lawful w s c.requires.ready.there true in
+    record {
+      turns = rw (c.open_frame.ensures.items, turn_pushed, c.open_frame.ensures.world, i.world)
+          (turns_calls k _ keeps (omega (arith, room-active k lawful w s, ap {A = Bool} {B = ℕ} (λ b. cond b 1 0) c.requires.ready.is_idle))
+          (record { source_there = keeps.has _ c.requires.ready.there; requested_there = keeps.has _ (passive_there k lawful w (link_at k w s c.in-Some.slot) c.in-Some-passive_target.target (slot_stands k lawful w s c.in-Some.slot c.requires.ready.closed) named) })
+          (omega (arith, i.onward, slot_below c.loop-slot.next c.in-Some.slot (sym c.from_index.ensures ∙ c.in-Some.is))));
+      opens = opens_pushed _ _ _ (rw i.frames at c.open_frame.ensures.items);
+      room = c.open_frame.ensures.room ∙ i.room;
+    }
 
 pub loop-slot-preserved-in_default-passive_target : goal.loop-slot-preserved-in_default-passive_target
 loop-slot-preserved-in_default-passive_target g c =

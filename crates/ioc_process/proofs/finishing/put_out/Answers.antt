@@ -9,32 +9,31 @@ use Rattle.ioc_process.specs.Answering.{listed-accords, write_device-requests, b
 use Rattle.ioc_process.specs.Depth.{sent-stays, write_device-outs}
 use Rattle.ioc_process.specs.Keeping.{sent-keeps, closed_on}
 use Rattle.ioc_process.proofs.FrameSteps.{then_finished-none, output-on, output-waits, remaining-all}
-use Rattle.ioc_process.proofs.Turning.{turns_on, turns_ended}
+use Rattle.ioc_process.proofs.Turning.{turns_ended}
+use Rattle.ioc_process.proofs.FrameTurns.{opens_none}
+use Rattle.ioc_process.proofs.Ready.{ready_by, is_ready, takes_ready}
 use Rattle.ioc_process.proofs.finishing.put_out.Goals as goal
 
-pub finish-requires-then-write_device-clause-closed : goal.finish-requires-then-write_device-clause-closed
-finish-requires-then-write_device-clause-closed g c = closed_on _ g.met.S.Record.RecordKind.lawful c.write_device.ensures.keeps c.requires.closed
+pub finish-requires-then-write_device : goal.finish-requires-then-write_device
+finish-requires-then-write_device g c =
+    let keeps = c.write_device.ensures.keeps in
+    record {
+      ready = record {
+        there = keeps.has _ c.requires.ready.there;
+        closed = closed_on _ g.met.S.Record.RecordKind.lawful keeps c.requires.ready.closed;
+        is_idle = (c.write_device.ensures.stays c.if-write_device.true).active ∙ c.requires.ready.is_idle;
+        room = c.requires.ready.room;
+      };
+    }
 
-pub finish-requires-in-PostEvent-clause-there : goal.finish-requires-in-PostEvent-clause-there
-finish-requires-in-PostEvent-clause-there g c =
+pub finish-requires-in-PostEvent : goal.finish-requires-in-PostEvent
+finish-requires-in-PostEvent g c =
     let k = g.S.Record.RecordKind.rules in
     let lawful = g.met.S.Record.RecordKind.lawful in
     let w = g.S.Store.world c.args.store.now in
-    rw c.send.ensures.world ((sent-keeps k lawful (Post c.in-PostEvent.name) w).has _ c.requires.there)
-
-pub finish-requires-in-PostEvent-clause-closed : goal.finish-requires-in-PostEvent-clause-closed
-finish-requires-in-PostEvent-clause-closed g c =
-    let k = g.S.Record.RecordKind.rules in
-    let lawful = g.met.S.Record.RecordKind.lawful in
-    let w = g.S.Store.world c.args.store.now in
-    rw c.send.ensures.world (closed_on k lawful (sent-keeps k lawful (Post c.in-PostEvent.name) w) c.requires.closed)
-
-pub finish-requires-in-PostEvent-clause-is_idle : goal.finish-requires-in-PostEvent-clause-is_idle
-finish-requires-in-PostEvent-clause-is_idle g c =
-    let k = g.S.Record.RecordKind.rules in
-    let lawful = g.met.S.Record.RecordKind.lawful in
-    let w = g.S.Store.world c.args.store.now in
-    rw c.send.ensures.world ((sent-stays k lawful (Post c.in-PostEvent.name) w c.args.number).active ∙ c.requires.is_idle)
+    let item = Post c.in-PostEvent.name in
+    let stays = ready_by k lawful c.send.ensures.world (sent-keeps k lawful item w) (sent-stays k lawful item w c.args.number) c.requires.ready.there c.requires.ready.closed c.requires.ready.is_idle in
+    record { ready = is_ready k stays c.requires.ready.room }
 
 pub returns-in-NoOutput-clause-turn : goal.returns-in-NoOutput-clause-turn
 unfolding put_out
@@ -78,14 +77,14 @@ returns-else-write_device-clause-turn g c = λ answers begins.
     rw c.in-WriteDevice.is (output-waits k lawful answers c.args.number (write_device k answers w c.args.number v) (sym out.goes_on ∙ c.if-write_device.false) (write_device-requests k answers w c.args.number v)
     ∙ ap (λ u. after_turn k answers u (Ended Processed)) (sym out.world))
 
-pub returns-else-write_device-clause-turns : goal.returns-else-write_device-clause-turns
-returns-else-write_device-clause-turns g c =
+pub returns-else-write_device-clause-takes : goal.returns-else-write_device-clause-takes
+returns-else-write_device-clause-takes g c =
     let k = g.S.Record.RecordKind.rules in
     let lawful = g.met.S.Record.RecordKind.lawful in
     let w = g.S.Store.world c.args.store.now in
     let calls = (g.S.Store.given c.write_device.new.store).calls in
     let out = c.write_device.ensures.out (listed (answers_of calls)) (listed-accords calls) in
-    turns_ended k c.write_device.ensures.keeps (rw out.world (omega (arith, (write_device-outs k lawful (listed (answers_of calls)) w c.args.number c.in-WriteDevice.value).fewer))) Processed
+    record { turns = turns_ended k c.write_device.ensures.keeps (rw out.world (omega (arith, (write_device-outs k lawful (listed (answers_of calls)) w c.args.number c.in-WriteDevice.value).fewer))) Processed; opens = opens_none _ _ _ refl; room = refl }
 
 pub returns-in-FollowLinks-clause-turn : goal.returns-in-FollowLinks-clause-turn
 unfolding put_out
@@ -104,13 +103,14 @@ returns-in-PostEvent-clause-turn g c = λ answers begins.
     rw c.in-PostEvent.is (ap (λ d. processed d) (output-on k lawful answers c.args.number _ refl ∙ then_finished-none k lawful answers _ c.args.number)
     ∙ (rw c.send.ensures.world at (c.finish-in-PostEvent.ensures.turn answers)))
 
-pub returns-in-PostEvent-clause-turns : goal.returns-in-PostEvent-clause-turns
-returns-in-PostEvent-clause-turns g c =
+pub returns-in-PostEvent-clause-takes : goal.returns-in-PostEvent-clause-takes
+returns-in-PostEvent-clause-takes g c =
     let k = g.S.Record.RecordKind.rules in
     let lawful = g.met.S.Record.RecordKind.lawful in
     let w = g.S.Store.world c.args.store.now in
-    turns_on k (sent-keeps k lawful (Post c.in-PostEvent.name) w) (omega (arith, (sent-stays k lawful (Post c.in-PostEvent.name) w c.args.number).fewer)) (omega arith)
-    (rw c.send.ensures.world at c.finish-in-PostEvent.ensures.turns)
+    let item = Post c.in-PostEvent.name in
+    let stays = ready_by k lawful c.send.ensures.world (sent-keeps k lawful item w) (sent-stays k lawful item w c.args.number) c.requires.ready.there c.requires.ready.closed c.requires.ready.is_idle in
+    takes_ready k stays (omega arith) c.finish-in-PostEvent.ensures.takes
 
 pub returns-in-NoOutput-clause-given : goal.returns-in-NoOutput-clause-given
 returns-in-NoOutput-clause-given g c = begins_same c.finish.ensures.given

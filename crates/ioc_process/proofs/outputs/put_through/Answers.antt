@@ -1,30 +1,11 @@
-use Rattle.std.proofs.Common.{◌≡◌, refl, ap, ◌∙◌}
-use Rattle.ioc_store.specs.World.{put}
-use Rattle.ioc_store.specs.Worlds.{at-put_same}
-use Rattle.ioc_store.specs.PutBack.{on_ok, on_err_as, put-at}
+use Rattle.ioc_process.proofs.OneLook.{at_back, stored_back, same_back}
 use Rattle.ioc_process.proofs.outputs.put_through.Goals as goal
 
 pub returns-clause-ok : goal.returns-clause-ok
-returns-clause-ok g c =
-    rw (
-      g.met.S.Store.with_record_world c.args.store.now c.args.number c.put_untested.new.record c.requires,
-      at-put_same g.S.Record.RecordKind.rules (g.S.Store.world c.args.store.now) c.args.number c.put_untested.new.record,
-      ← c.record_mut-record.ensures.value,
-    ) c.put_untested.ensures.ok
+returns-clause-ok g c = rw (at_back g.S.Record.RecordKind.rules _ _ _ _ (g.met.S.Store.with_record_world c.args.store.now c.args.number c.put_untested.new.record c.requires), ← c.record_mut-record.ensures.value) c.put_untested.ensures.ok
 
 pub returns-clause-stored : goal.returns-clause-stored
-returns-clause-stored g c =
-    rw (
-      g.met.S.Store.with_record_world c.args.store.now c.args.number c.put_untested.new.record c.requires,
-      at-put_same g.S.Record.RecordKind.rules (g.S.Store.world c.args.store.now) c.args.number c.put_untested.new.record,
-    )
-    (on_ok c.put_untested.result _ refl)
+returns-clause-stored g c = stored_back g.S.Record.RecordKind.rules _ _ _ _ (g.met.S.Store.with_record_world c.args.store.now c.args.number c.put_untested.new.record c.requires) c.put_untested.result
 
 pub returns-clause-same : goal.returns-clause-same
-returns-clause-same g c =
-    on_err_as c.put_untested.result _ _
-    (λ (same : c.put_untested.new.record ≡ c.record_mut-record.result.now).
-    g.met.S.Store.with_record_world c.args.store.now c.args.number c.put_untested.new.record c.requires
-    ∙ ap (put (g.S.Store.world c.args.store.now) c.args.number) (same ∙ c.record_mut-record.ensures.value)
-    ∙ put-at g.S.Record.RecordKind.rules (g.S.Store.world c.args.store.now) c.args.number c.requires)
-    c.put_untested.ensures.same
+returns-clause-same g c = same_back g.S.Record.RecordKind.rules _ _ _ _ _ (g.met.S.Store.with_record_world c.args.store.now c.args.number c.put_untested.new.record c.requires) c.record_mut-record.ensures.value c.requires c.put_untested.result c.put_untested.ensures.same

@@ -26,6 +26,9 @@ returns-then-can_ask-clause-keeps g c =
     by_world g.S.Record.RecordKind.rules _ _ _ (Keeps _ _) (λ a b. (returns-then-can_ask-clause-out g c a b).world)
     (λ a. write_device-keeps _ g.met.S.Record.RecordKind.lawful a _ _ c.requires c.args.value)
 
+pub returns-then-can_ask-clause-given : goal.returns-then-can_ask-clause-given
+returns-then-can_ask-clause-given g c = rw c.acknowledge.ensures.given (begins_call (record { target = c.args.number; ask = Write-ask c.args.value; answer = c.ask-answer.result }) c.ask-answer.ensures.calls c.ask-answer.ensures.moment c.ask-answer.ensures.gives)
+
 pub returns-then-can_ask-clause-stays : goal.returns-then-can_ask-clause-stays
 returns-then-can_ask-clause-stays g c =
     stays_if_out g.S.Record.RecordKind.rules _ _ _ _ _ _ (returns-then-can_ask-clause-out g c) (λ a. write_device-outs _ g.met.S.Record.RecordKind.lawful a _ _ c.args.value)
@@ -42,9 +45,6 @@ returns-else-can_ask-clause-keeps g c =
 pub returns-else-can_ask-clause-stays : goal.returns-else-can_ask-clause-stays
 returns-else-can_ask-clause-stays g c =
     stays_if_out g.S.Record.RecordKind.rules _ _ _ _ _ _ (returns-else-can_ask-clause-out g c) (λ a. write_device-outs _ g.met.S.Record.RecordKind.lawful a _ _ c.args.value)
-
-pub returns-then-can_ask-clause-given : goal.returns-then-can_ask-clause-given
-returns-then-can_ask-clause-given g c = rw c.acknowledge.ensures.given (begins_call (record { target = c.args.number; ask = Write-ask c.args.value; answer = c.ask-answer.result }) c.ask-answer.ensures.calls c.ask-answer.ensures.moment c.ask-answer.ensures.gives)
 
 pub returns-else-can_ask-clause-given : goal.returns-else-can_ask-clause-given
 returns-else-can_ask-clause-given g c = begins_same c.acknowledge-else-can_ask.ensures.given

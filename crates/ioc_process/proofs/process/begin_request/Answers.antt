@@ -4,11 +4,10 @@ use Rattle.ioc_dbcommon.specs.Steps.{blocked}
 use Rattle.ioc_ledger.specs.declared.outcome.Outcome.TheVariants.{Active}
 use Rattle.ioc_process.specs.Frames.{after_turn}
 use Rattle.ioc_store.specs.StepFrames.{blocked-frame}
-use Rattle.ioc_process.specs.Depth.{stays-changed}
-use Rattle.ioc_process.specs.Keeping.{keeps-changed}
 use Rattle.ioc_process.specs.Bodies.{ran-turned_away, ran-idle}
 use Rattle.ioc_process.specs.Answering.{begins_same}
-use Rattle.ioc_process.proofs.Turning.{turns_ended, some_idle}
+use Rattle.ioc_process.proofs.Ready.{turns_changed}
+use Rattle.ioc_process.proofs.Turning.{some_idle}
 use Rattle.ioc_process.proofs.process.begin_request.Goals as goal
 
 pub begin_idle-requires-clause-is_idle : goal.begin_idle-requires-clause-is_idle
@@ -34,12 +33,7 @@ returns-then-common-clause-given g c = begins_same c.block.ensures.given
 
 pub returns-then-common-clause-turns : goal.returns-then-common-clause-turns
 returns-then-common-clause-turns g c =
-    let k = g.S.Record.RecordKind.rules in
-    let lawful = g.met.S.Record.RecordKind.lawful in
-    let w = g.S.Store.world c.args.store.now in
-    let s = c.args.number in
-    rw c.block.ensures.world (turns_ended k (keeps-changed k lawful w s c.requires.there blocked (λ it. (blocked-frame it).links))
-    (omega (arith, (stays-changed k lawful w s blocked (blocked-frame _).active).fewer)) Active)
+    turns_changed _ g.met.S.Record.RecordKind.lawful c.args.number blocked c.block.ensures.world c.requires.there (λ it. (blocked-frame it).links) (blocked-frame _).active Active
 
 pub returns-else-common-clause-turn : goal.returns-else-common-clause-turn
 returns-else-common-clause-turn g c = λ answers begins.

@@ -1,5 +1,8 @@
-use Rattle.std.proofs.Common.{length, refl, ap, sym, ◌∙◌, arith}
-use Rattle.ioc_store.specs.World.{at, put, changed}
+use Rattle.std.proofs.Common.{ℕ, length, refl, ap, sym, ◌∙◌, arith}
+use Rattle.ioc_values.specs.declared.value.Finished.{Finished}
+use Rattle.ioc_record.specs.RecordRules.{RecordRules}
+use Rattle.ioc_record.specs.Laws.{IsLawful}
+use Rattle.ioc_store.specs.World.{World, Has, at, put, changed, Keeps}
 use Rattle.ioc_store.specs.Marks.{resumed}
 use Rattle.ioc_process.specs.Processing.{Ran, went_on_at_last}
 use Rattle.ioc_ledger.specs.Requests.{counted}
@@ -14,138 +17,76 @@ use Rattle.ioc_process.proofs.FrameSteps.{resumed-idle}
 use Rattle.ioc_process.proofs.Turning.{some_idle}
 use Rattle.ioc_process.proofs.process.complete_record.Goals as goal
 
+module _ {R : Type 0} (k : RecordRules R) (lawful : IsLawful k) (w : World R) (s : ℕ) (x : Finished) where
+  -- The record has resumed.
+  abbrev back : World R
+  back = changed k w s resumed
+
+  -- It has taken what its device returned.
+  abbrev taken : World R
+  taken = put back s (k.finished (at k back s) x)
+
+  taken-keeps : Has w s → Keeps k back taken
+  taken-keeps there = keeps-put k back s ((resumed-keeps k lawful w s there).has _ there) _ (links-finished k lawful (at k back s) x)
+
+  both-keep : Has w s → Keeps k w taken
+  both-keep there = keeps_on k (resumed-keeps k lawful w s there) (taken-keeps there)
+
 pub take_at_last-requires : goal.take_at_last-requires
 take_at_last-requires g c =
-    let k = g.S.Record.RecordKind.rules in
-    let lawful = g.met.S.Record.RecordKind.lawful in
-    let w = g.S.Store.world c.args.store.now in
-    let s = c.args.number in
-    let x = c.args.finished in
-    let back = changed k w s resumed in
-    let first = resumed-keeps k lawful w s c.requires.there in
-    let taken = put back s (k.finished (at k back s) x) in
-    let keeps = keeps_on k first (keeps-put k back s (first.has _ c.requires.there) _ (links-finished k lawful (at k back s) x)) in
-    rw c.resume.ensures.world (first.has _ c.requires.there)
+    rw c.resume.ensures.world ((resumed-keeps _ g.met.S.Record.RecordKind.lawful _ c.args.number c.requires.there).has _ c.requires.there)
 
-pub put_out-next-requires-clause-there : goal.put_out-next-requires-clause-there
-put_out-next-requires-clause-there g c =
+pub put_out-next-requires : goal.put_out-next-requires
+put_out-next-requires g c =
     let k = g.S.Record.RecordKind.rules in
     let lawful = g.met.S.Record.RecordKind.lawful in
     let w = g.S.Store.world c.args.store.now in
     let s = c.args.number in
     let x = c.args.finished in
-    let back = changed k w s resumed in
-    let first = resumed-keeps k lawful w s c.requires.there in
-    let taken = put back s (k.finished (at k back s) x) in
-    let keeps = keeps_on k first (keeps-put k back s (first.has _ c.requires.there) _ (links-finished k lawful (at k back s) x)) in
-    rw (c.take_at_last.ensures.world, c.resume.ensures.world) (keeps.has _ c.requires.there)
-
-pub put_out-next-requires-clause-closed : goal.put_out-next-requires-clause-closed
-put_out-next-requires-clause-closed g c =
-    let k = g.S.Record.RecordKind.rules in
-    let lawful = g.met.S.Record.RecordKind.lawful in
-    let w = g.S.Store.world c.args.store.now in
-    let s = c.args.number in
-    let x = c.args.finished in
-    let back = changed k w s resumed in
-    let first = resumed-keeps k lawful w s c.requires.there in
-    let taken = put back s (k.finished (at k back s) x) in
-    let keeps = keeps_on k first (keeps-put k back s (first.has _ c.requires.there) _ (links-finished k lawful (at k back s) x)) in
-    rw (c.take_at_last.ensures.world, c.resume.ensures.world) (closed_on k lawful keeps c.requires.closed)
-
-pub put_out-next-requires-clause-is_idle : goal.put_out-next-requires-clause-is_idle
-put_out-next-requires-clause-is_idle g c =
-    let k = g.S.Record.RecordKind.rules in
-    let lawful = g.met.S.Record.RecordKind.lawful in
-    let w = g.S.Store.world c.args.store.now in
-    let s = c.args.number in
-    let x = c.args.finished in
-    let back = changed k w s resumed in
-    let first = resumed-keeps k lawful w s c.requires.there in
-    let taken = put back s (k.finished (at k back s) x) in
-    let keeps = keeps_on k first (keeps-put k back s (first.has _ c.requires.there) _ (links-finished k lawful (at k back s) x)) in
-    rw (c.take_at_last.ensures.world, c.resume.ensures.world) (resumed-idle k lawful w s x)
-
-pub put_out-next-requires-clause-room : goal.put_out-next-requires-clause-room
-put_out-next-requires-clause-room g c =
-    let k = g.S.Record.RecordKind.rules in
-    let lawful = g.met.S.Record.RecordKind.lawful in
-    let w = g.S.Store.world c.args.store.now in
-    let s = c.args.number in
-    let x = c.args.finished in
-    let back = changed k w s resumed in
-    let first = resumed-keeps k lawful w s c.requires.there in
-    let taken = put back s (k.finished (at k back s) x) in
-    let keeps = keeps_on k first (keeps-put k back s (first.has _ c.requires.there) _ (links-finished k lawful (at k back s) x)) in
-    omega (arith, c.requires.room, some_idle k lawful taken s (resumed-idle k lawful w s x), idle_few k taken, keeps.count, ap length c.requires.empty, c.args.frames.now.ok.0)
-
-pub put_out-next-requires-clause-standing : goal.put_out-next-requires-clause-standing
-put_out-next-requires-clause-standing g c = λ t v is.
-    let k = g.S.Record.RecordKind.rules in
-    let lawful = g.met.S.Record.RecordKind.lawful in
-    let w = g.S.Store.world c.args.store.now in
-    let s = c.args.number in
-    let x = c.args.finished in
-    let back = changed k w s resumed in
-    let first = resumed-keeps k lawful w s c.requires.there in
-    let taken = put back s (k.finished (at k back s) x) in
-    let keeps = keeps_on k first (keeps-put k back s (first.has _ c.requires.there) _ (links-finished k lawful (at k back s) x)) in
-    let output = rw c.resume.ensures.world at (sym c.take_at_last.ensures.output ∙ is) in
-    rw (c.take_at_last.ensures.world, c.resume.ensures.world)
-    ((keeps-put k back s (first.has _ c.requires.there) _ (links-finished k lawful (at k back s) x)).has _ (last_output_stands k lawful back s x (closed_on k lawful first c.requires.closed) t v output))
+    let is = rw c.resume.ensures.world at c.take_at_last.ensures.world in
+    let output = rw c.resume.ensures.world at c.take_at_last.ensures.output in
+    let keeps = both-keep k lawful w s x c.requires.there in
+    let idle = resumed-idle k lawful w s x in
+    let closed = closed_on k lawful (resumed-keeps k lawful w s c.requires.there) c.requires.closed in
+    record {
+      ready = record {
+        there = rw is (keeps.has _ c.requires.there);
+        closed = rw is (closed_on k lawful keeps c.requires.closed);
+        is_idle = rw is idle;
+        room = omega (arith, c.requires.room, some_idle k lawful (taken k lawful w s x) s idle, idle_few k (taken k lawful w s x), keeps.count, ap length c.requires.empty, c.args.frames.now.ok.0);
+      };
+      standing = λ t v wanted. rw is ((taken-keeps k lawful w s x c.requires.there).has _ (last_output_stands k lawful (back k lawful w s x) s x closed t v (sym output ∙ wanted)));
+    }
 
 pub run_frames-requires-clause-closed : goal.run_frames-requires-clause-closed
 run_frames-requires-clause-closed g c =
-    let k = g.S.Record.RecordKind.rules in
     let lawful = g.met.S.Record.RecordKind.lawful in
-    let w = g.S.Store.world c.args.store.now in
-    let s = c.args.number in
-    let x = c.args.finished in
-    let back = changed k w s resumed in
-    let first = resumed-keeps k lawful w s c.requires.there in
-    let taken = put back s (k.finished (at k back s) x) in
-    let keeps = keeps_on k first (keeps-put k back s (first.has _ c.requires.there) _ (links-finished k lawful (at k back s) x)) in
-    let came = rw (c.take_at_last.ensures.world, c.resume.ensures.world) at c.put_out-next.ensures.turns in
-    closed_on k lawful came.keeps (closed_on k lawful keeps c.requires.closed)
+    let came = rw (c.take_at_last.ensures.world, c.resume.ensures.world) at c.put_out-next.ensures.takes.turns in
+    closed_on _ lawful came.keeps (closed_on _ lawful (both-keep _ lawful _ c.args.number c.args.finished c.requires.there) c.requires.closed)
 
 pub run_frames-requires-clause-room : goal.run_frames-requires-clause-room
 run_frames-requires-clause-room g c =
     let k = g.S.Record.RecordKind.rules in
     let lawful = g.met.S.Record.RecordKind.lawful in
     let w = g.S.Store.world c.args.store.now in
-    let s = c.args.number in
-    let x = c.args.finished in
-    let back = changed k w s resumed in
-    let first = resumed-keeps k lawful w s c.requires.there in
-    let taken = put back s (k.finished (at k back s) x) in
-    let keeps = keeps_on k first (keeps-put k back s (first.has _ c.requires.there) _ (links-finished k lawful (at k back s) x)) in
-    let came = rw (c.take_at_last.ensures.world, c.resume.ensures.world) at c.put_out-next.ensures.turns in
+    let came = rw (c.take_at_last.ensures.world, c.resume.ensures.world) at c.put_out-next.ensures.takes.turns in
     let turn = turn_of c.put_out-next.new.frames.items c.put_out-next.result in
     omega (
       arith,
       c.requires.room,
-      idle_few k taken,
-      keeps.count,
+      idle_few k (taken k lawful w c.args.number c.args.finished),
+      (both-keep k lawful w c.args.number c.args.finished c.requires.there).count,
       came.fewer,
-      ap length c.put_out-next.ensures.opens.frames,
+      ap length c.put_out-next.ensures.takes.opens.frames,
       length_opened c.args.frames.now.items turn,
       ap length c.requires.empty,
       c.put_out-next.new.frames.ok.0,
-      c.put_out-next.ensures.room,
+      c.put_out-next.ensures.takes.room,
     )
 
 pub returns-clause-done : goal.returns-clause-done
 unfolding went_on_at_last
 returns-clause-done g c = λ answers begins.
-    let k = g.S.Record.RecordKind.rules in
-    let lawful = g.met.S.Record.RecordKind.lawful in
-    let w = g.S.Store.world c.args.store.now in
-    let s = c.args.number in
-    let x = c.args.finished in
-    let back = changed k w s resumed in
-    let first = resumed-keeps k lawful w s c.requires.there in
-    let taken = put back s (k.finished (at k back s) x) in
-    let keeps = keeps_on k first (keeps-put k back s (first.has _ c.requires.there) _ (links-finished k lawful (at k back s) x)) in
     let run = c.run_frames.ensures.done answers begins in
     let turn = rw (c.take_at_last.ensures.output, c.take_at_last.ensures.world, c.resume.ensures.world) at (c.put_out-next.ensures.turn answers (accords_before c.run_frames.ensures.given begins)) in
     record {
@@ -161,13 +102,5 @@ returns-clause-given g c =
 pub returns-clause-keeps : goal.returns-clause-keeps
 returns-clause-keeps g c =
     let k = g.S.Record.RecordKind.rules in
-    let lawful = g.met.S.Record.RecordKind.lawful in
-    let w = g.S.Store.world c.args.store.now in
-    let s = c.args.number in
-    let x = c.args.finished in
-    let back = changed k w s resumed in
-    let first = resumed-keeps k lawful w s c.requires.there in
-    let taken = put back s (k.finished (at k back s) x) in
-    let keeps = keeps_on k first (keeps-put k back s (first.has _ c.requires.there) _ (links-finished k lawful (at k back s) x)) in
-    let came = rw (c.take_at_last.ensures.world, c.resume.ensures.world) at c.put_out-next.ensures.turns in
-    keeps_on k keeps (keeps_on k came.keeps c.run_frames.ensures.keeps)
+    let came = rw (c.take_at_last.ensures.world, c.resume.ensures.world) at c.put_out-next.ensures.takes.turns in
+    keeps_on k (both-keep k g.met.S.Record.RecordKind.lawful _ c.args.number c.args.finished c.requires.there) (keeps_on k came.keeps c.run_frames.ensures.keeps)

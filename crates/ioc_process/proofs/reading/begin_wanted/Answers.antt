@@ -8,7 +8,7 @@ use Rattle.ioc_process.proofs.reading.begin_wanted.Goals as goal
 
 pub begin_reading-requires-clause-standing : goal.begin_reading-requires-clause-standing
 begin_reading-requires-clause-standing g c =
-    input_stands g.S.Record.RecordKind.rules g.met.S.Record.RecordKind.lawful _ _ _ c.requires.closed
+    input_stands g.S.Record.RecordKind.rules g.met.S.Record.RecordKind.lawful _ _ _ c.requires.ready.closed
     (needs-link _ c.requires.wants ∙ ap ReadLink (sym c.wanted_link-link.ensures))
 
 pub returns-clause-turn : goal.returns-clause-turn

@@ -1,0 +1,28 @@
+-- What a record needs to begin or to resume, and the turn that the code takes then.
+use Rattle.std.specs.Global.{Vec}
+use Rattle.std.specs.Prelude.{◌≡◌, ◌<◌, ℕ, false, vec_len, vec_capacity}
+use Rattle.ioc_dbcommon.specs.declared.link_field.StandingLink.{StandingLink}
+use Rattle.ioc_record.specs.RecordRules.{RecordRules}
+use Rattle.ioc_store.specs.World.{World, Has, common_at, IsClosed}
+use Rattle.ioc_store.specs.declared.frames.Frame.{Frame}
+use Rattle.ioc_store.specs.declared.frames.Next.{Next}
+use Rattle.ioc_process.specs.Frames.{turn_of, Turns, Opens}
+
+-- Holds if record `s` exists and is idle, no link leaves the world, and one more frame has room.
+pub record IsReady {R : Type 0} (k : RecordRules R) (w : World R) (s : ℕ) (frames : Vec Frame) : Type 0 where
+  pub there : Has w s
+  pub closed : IsClosed k w
+  pub is_idle : (common_at k w s).active ≡ false
+  pub room : vec_len frames < vec_capacity frames
+
+-- Holds if record `s` is ready, and the record that this link names exists.
+pub record IsReadyFor {R : Type 0} (k : RecordRules R) (w : World R) (s : ℕ) (t : StandingLink) (frames : Vec Frame) : Type 0 where
+  pub ready : IsReady k w s frames
+  pub standing : Has w t.number
+
+-- The code takes one turn, after which the body makes at most `most` more requests. It opens one
+-- frame if it requests a record, and none otherwise.
+pub record TakesTurn {R : Type 0} (k : RecordRules R) (w after : World R) (most : ℕ) (before frames : Vec Frame) (result : Next) : Type 0 where
+  pub turns : Turns k w after 0 most (turn_of frames.items result)
+  pub opens : Opens before.items frames.items result
+  pub room : vec_capacity frames ≡ vec_capacity before
