@@ -113,7 +113,7 @@ module _ {X : Type 0} (weight : X → ℕ) where
       shared
 
   -- The sum over a map is the sum over the two maps that share it.
-  shared-total : (all one other : FinMap nat_cmp X) → AreShared (get all) (get one) (get other) → total weight (entries all) ≡ total weight (entries one) + total weight (entries other)
+  pub shared-total : (all one other : FinMap nat_cmp X) → AreShared (get all) (get one) (get other) → total weight (entries all) ≡ total weight (entries one) + total weight (entries other)
   shared-total all one other shared =
       let n = top (entries all) + top (entries one) + top (entries other) in
       let whole = map-sum all n (omega arith) in

@@ -14,6 +14,7 @@ mod Calm
 mod Anew
 mod Counts
 mod AwaitedSums
+mod BegunAnew
 mod Rescans
 mod LinkEvents
 mod Linked

@@ -18,7 +18,7 @@ use Rattle.ioc_events.specs.declared.event.Entry.{Entry}
 use Rattle.ioc_events.specs.Holding.{HoldersCounted}
 use Rattle.ioc_set.specs.Awaiting.{awaited}
 use Rattle.ioc_set_store.specs.Puts.{Puts, AreNone, HasBegun, begun_with}
-use Rattle.ioc_set_store.specs.Recounting.{own_waiting, AreLive}
+use Rattle.ioc_set_store.specs.Recounting.{own_waiting}
 use Rattle.ioc_set.specs.SetState.{SetState, now_of}
 use Rattle.ioc_set_store.specs.Resting.{resting}
 use Rattle.ioc_set.specs.Doing.{held_by}
@@ -26,6 +26,7 @@ use Rattle.ioc_set.specs.Linking.{anew, AreCalm, AreHeld, FallsApart, BecomeOne,
 use Rattle.ioc_ledger.specs.Requests.{added}
 use Rattle.ioc_ledger.specs.Shared.{less_awaited}
 use Rattle.ioc_set.specs.Sound.{IsSound, CountsAddUp}
+use Rattle.ioc_set.proofs.BegunAnew.{HasBegunAnew}
 use Rattle.ioc_set.proofs.Anew.{WereNone, none_anew, begun_anew, begun_folded, own_base}
 use Rattle.ioc_set.proofs.HeldRecords.{StaysHeld, rewired-stays, part_held, goes_along, Within, within_on, within_relinked, within_first, within_second}
 use Rattle.ioc_set.proofs.DoneLaws.{alike_after}
@@ -71,13 +72,6 @@ module _ {R : Type 0} (k : RecordRules R) where
 module _ {R : Type 0} (k : RecordRules R) where
   -- Lemmas about a set that is divided.
 
-  -- The puts with notification when a history begins are live with their records.
-  pub begun_live : (was now : Records R) (p q : Puts) → now ≡ was → q ≡ begun_with p → AreLive k was p.waiting p.live → AreLive k now q.waiting q.live
-  begun_live was now p q same is live = subst (λ (x : Puts). AreLive k now x.waiting x.live) (sym is) (subst (λ (rs : Records R). AreLive k rs p.waiting p.live) (sym same) live)
-
-  pub begun_held : (was now : Records R) (p q : Puts) → now ≡ was → q ≡ begun_with p → AreHeld k was p.live p.waiting → AreHeld k now q.live q.waiting
-  begun_held was now p q same is held = subst (λ (x : Puts). AreHeld k now x.live x.waiting) (sym is) (subst (λ (rs : Records R). AreHeld k rs p.live p.waiting) (sym same) held)
-
   module _ (lawful : IsLawful k) (s : ℕ) (field : FieldNo) (link : LinkField) (rs stay rest : Records R) (there : IsSome (get rs s)) (shared : AreShared (get (relinked k rs s field link)) (get stay) (get rest)) where
     pub stay_within : Within k rs stay
     stay_within = within_on k rs (relinked k rs s field link) stay (within_relinked k lawful rs s field link there) (within_first k (relinked k rs s field link) stay rest shared)
@@ -114,22 +108,22 @@ module _ {R D : Type 0} (k : RecordRules R) where
 
   -- Lemmas about a set that is divided, and about two that become one.
 
-  pub fell_apart : (s : ℕ) (field : FieldNo) (link : LinkField) (h : SetState R D) (was stay rest : Contents R D) (whole p q : Puts) (count : ℕ) (b t u v : Tally) (entries rest_entries : List Entry)
-      → was.records ≡ h.records → was.devices ≡ h.devices → t ≡ less_awaited h.tally count → whole.live ≡ h.live → whole.waiting ≡ h.waiting
+  pub fell_apart : (s : ℕ) (field : FieldNo) (link : LinkField) (h : SetState R D) (was stay rest : Contents R D) (whole p q : Puts) (count : ℕ) (all b t u v : Tally) (entries rest_entries : List Entry)
+      → HasBegunAnew k h was whole all → t ≡ less_awaited h.tally count
       → AreShared (get (relinked k was.records s field link)) (get stay.records) (get rest.records) → AreShared (get was.devices) (get stay.devices) (get rest.devices) → IsSome (get stay.records s)
       → p.waiting ≡ own_waiting stay.records whole.waiting → q.waiting ≡ own_waiting rest.records whole.waiting → (AreNone whole → AreNone p) → (AreNone whole → AreNone q)
       → HasBegun p → stay.base ≡ stay.records → b ≡ t → entries ≡ [] → HasBegun q → rest.base ≡ rest.records → u ≡ v → v ≡ awaited_alone count → rest_entries ≡ []
       → count < 2 ^ 63 → added (less_awaited h.tally count) (awaited_alone count) ≡ h.tally
       → FallsApart h (relinked k h.records s field link) s (held_by stay p b t entries) (held_by rest q u v rest_entries)
-  fell_apart s field link h was stay rest whole p q count b t u v entries rest_entries rs ds counts live waits shared devices own stay_waits rest_waits stay_none rest_none begun base same none rest_begun rest_base rest_same alone rest_forgotten few together =
+  fell_apart s field link h was stay rest whole p q count all b t u v entries rest_entries cleared counts shared devices own stay_waits rest_waits stay_none rest_none begun base same none rest_begun rest_base rest_same alone rest_forgotten few together =
       let started : v.started ≡ count = ap (λ (x : Tally). x.started) alone in
       record {
-        shared = subst (λ (x : Records R). AreShared (get (relinked k x s field link)) (get stay.records) (get rest.records)) rs shared;
-        devices = subst (λ (x : Devices D). AreShared (get x) (get stay.devices) (get rest.devices)) ds devices;
+        shared = subst (λ (x : Records R). AreShared (get (relinked k x s field link)) (get stay.records) (get rest.records)) cleared.records shared;
+        devices = subst (λ (x : Devices D). AreShared (get x) (get stay.devices) (get rest.devices)) cleared.devices devices;
         own = own;
-        waiting = goes_along stay.records h.waiting p.waiting (stay_waits ∙ ap (λ (l : List Waiting). own_waiting stay.records l) waits);
-        rest_waiting = goes_along rest.records h.waiting q.waiting (rest_waits ∙ ap (λ (l : List Waiting). own_waiting rest.records l) waits);
-        none_live = λ dead. let nobody : AreNone whole = (live ∙ dead.0, waits ∙ dead.1) in (stay_none nobody, rest_none nobody);
+        waiting = goes_along stay.records h.waiting p.waiting (stay_waits ∙ ap (λ (l : List Waiting). own_waiting stay.records l) cleared.waiting);
+        rest_waiting = goes_along rest.records h.waiting q.waiting (rest_waits ∙ ap (λ (l : List Waiting). own_waiting rest.records l) cleared.waiting);
+        none_live = λ dead. let nobody : AreNone whole = (cleared.live ∙ dead.0, cleared.waiting ∙ dead.1) in (stay_none nobody, rest_none nobody);
         stays =
             begun_anew stay p b t entries begun base same none
             ∙ ap (λ (x : Tally). anew stay.records stay.devices p.live p.waiting x) (counts ∙ ap (λ (n : ℕ). less_awaited h.tally n) (sym started));
@@ -141,24 +135,23 @@ module _ {R D : Type 0} (k : RecordRules R) where
       }
 
   pub became_one : (s : ℕ) (field : FieldNo) (link : LinkField) (h o : SetState R D) (was others both left : Contents R D) (one two p q : Puts) (t u sum : Tally) (none : Tally) (entries other_entries : List Entry)
-      → was.records ≡ h.records → was.devices ≡ h.devices → t ≡ h.tally → one.live ≡ h.live → one.waiting ≡ h.waiting
-      → others.records ≡ o.records → others.devices ≡ o.devices → u ≡ o.tally → two.live ≡ o.live → two.waiting ≡ o.waiting
+      → HasBegunAnew k h was one t → HasBegunAnew k o others two u
       → AreShared (get both.records) (get (relinked k was.records s field link)) (get others.records) → AreShared (get both.devices) (get was.devices) (get others.devices)
       → p.waiting ≡ one.waiting ++ two.waiting → (AreNone one → AreNone two → AreNone p)
       → HasBegun p → both.base ≡ both.records → sum ≡ added t u → entries ≡ [] → left ≡ nothing → WereNone q → none ≡ no_counts → other_entries ≡ []
       → BecomeOne h o (relinked k h.records s field link) (held_by both p sum sum entries) (held_by left q none none other_entries)
-  became_one s field link h o was others both left one two p q t u sum none entries other_entries rs ds counts live waits other_rs other_ds other_counts other_live other_waits shared devices waiting nobody begun base is_sum forgotten empty others_none zero other_forgotten = record {
+  became_one s field link h o was others both left one two p q t u sum none entries other_entries first second shared devices waiting nobody begun base is_sum forgotten empty others_none zero other_forgotten = record {
     shared =
-        subst (λ (x : Records R). AreShared (get both.records) (get (relinked k x s field link)) (get o.records)) rs
-        (subst (λ (x : Records R). AreShared (get both.records) (get (relinked k was.records s field link)) (get x)) other_rs shared);
+        subst (λ (x : Records R). AreShared (get both.records) (get (relinked k x s field link)) (get o.records)) first.records
+        (subst (λ (x : Records R). AreShared (get both.records) (get (relinked k was.records s field link)) (get x)) second.records shared);
     devices =
-        subst (λ (x : Devices D). AreShared (get both.devices) (get x) (get o.devices)) ds
-        (subst (λ (x : Devices D). AreShared (get both.devices) (get was.devices) (get x)) other_ds devices);
-    waiting = waiting ∙ ap (λ (l : List Waiting). l ++ two.waiting) waits ∙ ap (λ (l : List Waiting). h.waiting ++ l) other_waits;
-    none_live = λ dead other_dead. nobody (live ∙ dead.0, waits ∙ dead.1) (other_live ∙ other_dead.0, other_waits ∙ other_dead.1);
+        subst (λ (x : Devices D). AreShared (get both.devices) (get x) (get o.devices)) first.devices
+        (subst (λ (x : Devices D). AreShared (get both.devices) (get was.devices) (get x)) second.devices devices);
+    waiting = waiting ∙ ap (λ (l : List Waiting). l ++ two.waiting) first.waiting ∙ ap (λ (l : List Waiting). h.waiting ++ l) second.waiting;
+    none_live = λ dead other_dead. nobody (first.live ∙ dead.0, first.waiting ∙ dead.1) (second.live ∙ other_dead.0, second.waiting ∙ other_dead.1);
     all =
         begun_anew both p sum sum entries begun base refl forgotten
-        ∙ ap (λ (x : Tally). anew both.records both.devices p.live p.waiting x) (is_sum ∙ ap (λ (x : Tally). added x u) counts ∙ ap (λ (x : Tally). added h.tally x) other_counts);
+        ∙ ap (λ (x : Tally). anew both.records both.devices p.live p.waiting x) (is_sum ∙ ap (λ (x : Tally). added x u) first.tally ∙ ap (λ (x : Tally). added h.tally x) second.tally);
     emptied = none_held left q none none other_entries empty others_none zero zero other_forgotten;
   }
 

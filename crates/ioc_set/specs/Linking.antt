@@ -3,7 +3,7 @@
 --
 -- Application Developer's Guide, "Database Locking, Scanning, and Processing": a changed link
 -- divides lock sets or joins them.
-use Rattle.std.specs.Prelude.{◌≡◌, ◌≢◌, ◌↔◌, ℕ, ◌+◌, ◌-◌, ◌^◌, ◌<◌, ◌≤◌, ◌==◌, if◌then◌else◌, List, [], ◌++◌, length, Contains, IsSome, IsTrue, None}
+use Rattle.std.specs.Prelude.{◌≡◌, ◌≢◌, ◌↔◌, ℕ, ◌+◌, ◌^◌, ◌<◌, ◌≤◌, List, [], ◌++◌, length, Contains, IsSome, IsTrue, None}
 use Rattle.std.specs.FinMap.{get}
 use Rattle.ioc_fields.specs.declared.field_no.FieldNo.{FieldNo}
 use Rattle.ioc_dbcommon.specs.declared.link_field.LinkField.{LinkField}

@@ -56,14 +56,8 @@ impl<K: RecordKind + Drop, D: Drop> LockSet<K, D> {
         ensures err { OnErr result (self.new ≡ folded self.old) }
     {
         held_records_are_sound::<K, D>();
+        self.fold();
         self.puts.are_few();
-        begin_anew(
-            &mut self.members,
-            &mut self.puts,
-            &self.tally,
-            &mut self.base_tally,
-            &mut self.history,
-        );
         let stay_room = self.puts.room(alloc)?;
         let rest_room = self.puts.room(alloc)?;
         let rest = self.members.part(alloc, number, field, link, base_link)?;
@@ -113,22 +107,8 @@ impl<K: RecordKind + Drop, D: Drop> LockSet<K, D> {
         ensures { BecomeOne self.old other.old (relinked K.rules self.old.records number field link) self.new other.new }
     {
         held_records_are_sound::<K, D>();
-        self.puts.are_few();
-        other.puts.are_few();
-        begin_anew(
-            &mut self.members,
-            &mut self.puts,
-            &self.tally,
-            &mut self.base_tally,
-            &mut self.history,
-        );
-        begin_anew(
-            &mut other.members,
-            &mut other.puts,
-            &other.tally,
-            &mut other.base_tally,
-            &mut other.history,
-        );
+        self.fold();
+        other.fold();
         self.members
             .join_in(room, &mut other.members, number, field, link, base_link);
         self.members.are_few();

@@ -67,14 +67,14 @@ module _ {R D : Type 0} where
         sym (ap (λ z. out ++ dealt p z (s ∷ after)) at) ∙ sym (ap (λ z. out ++ dealt p (drop i ns) z) is) ∙ was
 
     -- A slot whose number passes goes to the end of the side.
-    pub dealt_in : (out all outs : List (Slot R D)) (ns : List ℕ) (i : ℕ) (left after : List (Slot R D)) (s : Slot R D) → i < length ns → left ≡ s ∷ after → out ++ dealt p (drop i ns) left ≡ all
+    dealt_in : (out all outs : List (Slot R D)) (ns : List ℕ) (i : ℕ) (left after : List (Slot R D)) (s : Slot R D) → i < length ns → left ≡ s ∷ after → out ++ dealt p (drop i ns) left ≡ all
         → p (get_or ns i 0) ≡ true → outs ≡ out ++ s ∷ [] → outs ++ dealt p (drop (i + 1) ns) after ≡ all
     dealt_in out all outs ns i left after s l is was passes out_is =
         let ds = dealt p (drop (i + 1) ns) after in
         ap (λ z. z ++ ds) out_is ∙ append_assoc out (s ∷ []) ds ∙ sym (ap (λ b. out ++ cond b (s ∷ ds) ds) passes) ∙ dealt_more out all ns i left after s l is was
 
     -- Any other slot leaves the side unchanged.
-    pub dealt_by : (out all outs : List (Slot R D)) (ns : List ℕ) (i : ℕ) (left after : List (Slot R D)) (s : Slot R D) → i < length ns → left ≡ s ∷ after → out ++ dealt p (drop i ns) left ≡ all
+    dealt_by : (out all outs : List (Slot R D)) (ns : List ℕ) (i : ℕ) (left after : List (Slot R D)) (s : Slot R D) → i < length ns → left ≡ s ∷ after → out ++ dealt p (drop i ns) left ≡ all
         → p (get_or ns i 0) ≡ false → outs ≡ out → outs ++ dealt p (drop (i + 1) ns) after ≡ all
     dealt_by out all outs ns i left after s l is was fails out_is =
         let ds = dealt p (drop (i + 1) ns) after in
@@ -110,7 +110,7 @@ module _ (p : ℕ → Bool) where
       let at : drop i ns ≡ n ∷ drop (i + 1) ns = rw (add-one) (drop-cons ns i 0 l) in
       ap (λ z. length (filter p z)) at ∙ ap (λ b. length (cond b (n ∷ filter p (drop (i + 1) ns)) (filter p (drop (i + 1) ns)))) passes ∙ omega arith
 
-  pub count_by : (ns : List ℕ) (i : ℕ) → i < length ns → p (get_or ns i 0) ≡ false → length (filter p (drop i ns)) ≡ length (filter p (drop (i + 1) ns))
+  count_by : (ns : List ℕ) (i : ℕ) → i < length ns → p (get_or ns i 0) ≡ false → length (filter p (drop i ns)) ≡ length (filter p (drop (i + 1) ns))
   count_by ns i l fails =
       let n = get_or ns i 0 in
       let at : drop i ns ≡ n ∷ drop (i + 1) ns = rw (add-one) (drop-cons ns i 0 l) in
@@ -132,3 +132,15 @@ module _ (p : ℕ → Bool) where
     none_dealt_away (n ∷ ns) (s ∷ ss) len all =
         let f = first_passes (p n) n ns all in
         ap (λ b. cond (not b) (s ∷ dealt (λ n. not (p n)) ns ss) (dealt (λ n. not (p n)) ns ss)) f.0 ∙ none_dealt_away ns ss (omega arith) f.1
+
+-- A side of a division: its slots, and its room for those to come.
+module _ {R D : Type 0} (p : ℕ → Bool) (all out outs : List (Slot R D)) (ns : List ℕ) (i : ℕ) (left after : List (Slot R D)) (s : Slot R D) (len cap lens caps : ℕ) (l : i < length ns) (is : left ≡ s ∷ after) where
+  -- One more slot goes to the side.
+  pub side_in : p (get_or ns i 0) ≡ true → out ++ dealt p (drop i ns) left ≡ all → len + length (filter p (drop i ns)) ≤ cap → outs ≡ out ++ s ∷ [] → lens ≡ len + 1 → caps ≡ cap
+      → (outs ++ dealt p (drop (i + 1) ns) after ≡ all) × (lens + length (filter p (drop (i + 1) ns)) ≤ caps)
+  side_in passes was room out_is lens_are caps_are = (dealt_in p out all outs ns i left after s l is was passes out_is, omega (arith, count_in p ns i l passes, room, lens_are, caps_are))
+
+  -- The slot goes to the other side.
+  pub side_by : p (get_or ns i 0) ≡ false → out ++ dealt p (drop i ns) left ≡ all → len + length (filter p (drop i ns)) ≤ cap → outs ≡ out → lens ≡ len → caps ≡ cap
+      → (outs ++ dealt p (drop (i + 1) ns) after ≡ all) × (lens + length (filter p (drop (i + 1) ns)) ≤ caps)
+  side_by fails was room out_is lens_are caps_are = (dealt_by p out all outs ns i left after s l is was fails out_is, omega (arith, count_by p ns i l fails, room, lens_are, caps_are))

@@ -1,18 +1,34 @@
 -- The edges of links, one after another.
 use Rattle.std.proofs.Common.{◌≡◌, ◌≢◌, ℕ, zero, suc, ◌+◌, ◌<◌, List, [], ◌∷◌, ◌++◌, length, take, set, get_or, refl, sym, ap, ◌∙◌, append_assoc, arith, get_or-set_same}
-use Rattle.std.proofs.lemmas.List.{take_more, map-append, append-nil}
+use Rattle.std.specs.Prelude.{Contains, Option}
+use Rattle.std.proofs.lemmas.List.{take_more, map-append, append-nil, get_or-map}
+use Rattle.std.proofs.Math.ListN.{length-map}
 use Rattle.ioc_fields.specs.declared.field_no.FieldNo.{FieldNo}
 use Rattle.ioc_graph.specs.declared.edges.Edge.{Edge}
 use Rattle.ioc_dbcommon.specs.declared.link_field.LinkField.{LinkField}
 use Rattle.ioc_dbcommon.specs.Links.{named_by_field, named_by_all}
 use Rattle.ioc_record.specs.RecordRules.{RecordRules, targets}
-use Rattle.std.specs.Prelude.{Option}
 use Rattle.ioc_set_records.specs.declared.slots.Slot.{Slot}
 use Rattle.ioc_set_records.specs.Edges.{edges_from, edges_in, slot_relinked, slots_relinked}
 
 named_push : (link : FieldNo → Option LinkField) (fs : List FieldNo) (f : FieldNo) → named_by_all link (fs ++ f ∷ []) ≡ named_by_all link fs ++ named_by_field (link f)
 named_push link [] f = append-nil (named_by_field (link f))
 named_push link (x ∷ fs) f = ap (λ z. named_by_field (link x) ++ z) (named_push link fs f) ∙ sym (append_assoc (named_by_field (link x)) (named_by_all link fs) (named_by_field (link f)))
+
+-- The edges from a number to others are those from it to each of them.
+pub from_edges : (n : ℕ) (ts : List ℕ) (a b : ℕ) → Contains (edges_from n ts) (record { from = a; to = b }) → (a ≡ n) × Contains ts b
+from_edges n ts a b c =
+    let e : Edge = record { from = a; to = b } in
+    let f : ℕ → Edge = λ t. record { from = n; to = t } in
+    let l : c.0 < length ts = let g = length-map ts f in let h = c.1 in omega arith in
+    let is : f (get_or ts c.0 b) ≡ e = sym (get_or-map f ts c.0 b e l) ∙ c.2 in
+    (sym (ap (λ (x : Edge). x.from) is), (c.0, l, ap (λ (x : Edge). x.to) is))
+
+pub to_edges : (n : ℕ) (ts : List ℕ) (b : ℕ) → Contains ts b → Contains (edges_from n ts) (record { from = n; to = b })
+to_edges n ts b c =
+    let e : Edge = record { from = n; to = b } in
+    let f : ℕ → Edge = λ t. record { from = n; to = t } in
+    (c.0, let g = length-map ts f in let h = c.1 in omega arith, get_or-map f ts c.0 b e c.1 ∙ ap f c.2)
 
 edges-append : (n : ℕ) (xs ys : List ℕ) → edges_from n (xs ++ ys) ≡ edges_from n xs ++ edges_from n ys
 edges-append n xs ys = map-append (λ (t : ℕ). let e : Edge = record { from = n; to = t } in e) xs ys

@@ -3,9 +3,8 @@ use Rattle.std.proofs.Common.{◌≡◌, ℕ, zero, suc, ◌<◌, List, [], ◌�
 use Rattle.std.specs.Prelude.{Contains, All, IsSome, is_some}
 use Rattle.std.specs.Option.{option_map}
 use Rattle.std.proofs.lemmas.Bool.{cases_eq}
-use Rattle.std.proofs.lemmas.List.{get_or-map, get_or_default}
+use Rattle.std.proofs.lemmas.List.{get_or_default}
 use Rattle.std.proofs.lemmas.List.Elements.{Contains-append_left, Contains-append_right, Contains-append_cases}
-use Rattle.std.proofs.Math.ListN.{length-map}
 use Rattle.ioc_fields.specs.declared.field_no.FieldNo.{FieldNo}
 use Rattle.ioc_graph.specs.declared.edges.Edge.{Edge}
 use Rattle.ioc_graph.specs.Parts.{Joined as EdgeJoined}
@@ -15,25 +14,12 @@ use Rattle.ioc_set_records.specs.declared.slots.Slot.{Slot}
 use Rattle.ioc_set_records.specs.Slots.{records_of, numbers_of, IsBelow, AreAscending}
 use Rattle.ioc_set_records.specs.Edges.{edges_from, edges_in, slots_relinked}
 use Rattle.ioc_set_records.specs.Joined.{links_of, Names, Joined, IsClosed}
+use Rattle.ioc_set_records.proofs.EdgeLaws.{from_edges, to_edges}
 use Rattle.ioc_set_records.proofs.Seen.{record_in, get_record}
 use Rattle.ioc_set_records.proofs.Slotted.{same_Some, none_some, slot_at, slot_first, slot_later, length-numbers, place_cases, below_found}
 
 edge : ℕ → ℕ → Edge
 edge a b = record { from = a; to = b }
-
-from_edges : (n : ℕ) (ts : List ℕ) (a b : ℕ) → Contains (edges_from n ts) (record { from = a; to = b }) → (a ≡ n) × Contains ts b
-from_edges n ts a b c =
-    let e : Edge = record { from = a; to = b } in
-    let f : ℕ → Edge = λ t. record { from = n; to = t } in
-    let l : c.0 < length ts = let g = length-map ts f in let h = c.1 in omega arith in
-    let is : f (get_or ts c.0 b) ≡ e = sym (get_or-map f ts c.0 b e l) ∙ c.2 in
-    (sym (ap (λ (x : Edge). x.from) is), (c.0, l, ap (λ (x : Edge). x.to) is))
-
-to_edges : (n : ℕ) (ts : List ℕ) (b : ℕ) → Contains ts b → Contains (edges_from n ts) (record { from = n; to = b })
-to_edges n ts b c =
-    let e : Edge = record { from = n; to = b } in
-    let f : ℕ → Edge = λ t. record { from = n; to = t } in
-    (c.0, let g = length-map ts f in let h = c.1 in omega arith, get_or-map f ts c.0 b e c.1 ∙ ap f c.2)
 
 module _ {R D : Type 0} where
   pub number_in : (q : ℕ) (ss : List (Slot R D)) (s : Slot R D) → slot_at ss q ≡ Some s → Contains (numbers_of ss) q

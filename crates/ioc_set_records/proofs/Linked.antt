@@ -3,10 +3,9 @@ use Rattle.std.proofs.Common.{◌≡◌, ℕ, zero, suc, ◌+◌, ◌<◌, ◌�
 use Rattle.std.specs.Prelude.{◌==◌, ◌↔◌, Contains, All, IsSome, is_some, slice_get, slice_index}
 use Rattle.std.specs.Option.{option_map}
 use Rattle.std.proofs.lemmas.Bool.{cases_eq, cases_lt}
-use Rattle.std.proofs.lemmas.List.{get_or-map, get_or_default}
+use Rattle.std.proofs.lemmas.List.{get_or_default}
 use Rattle.std.proofs.lemmas.List.FromFn.{length-range_with_len, get_or-range_with_len}
 use Rattle.std.proofs.lemmas.List.Elements.{Contains-get_or, Contains-append_left, Contains-append_right, Contains-append_cases, All-contains}
-use Rattle.std.proofs.Math.ListN.{length-map}
 use Rattle.ioc_graph.specs.declared.edges.Edge.{Edge}
 use Rattle.ioc_graph.specs.Paths.{Connected}
 use Rattle.ioc_graph.specs.Parts.{ArePartsOf, all_below, Joined as EdgeJoined}
@@ -19,21 +18,8 @@ use Rattle.ioc_set_records.specs.declared.loaded.Loaded.{Loaded}
 use Rattle.ioc_set_records.specs.Dealing.{HasPart, AreDealt}
 use Rattle.ioc_set_records.specs.Linked.{links_in, AreParts}
 use Rattle.ioc_set_records.specs.LoadedEdges.{AreEdges}
+use Rattle.ioc_set_records.proofs.EdgeLaws.{from_edges, to_edges}
 use Rattle.ioc_set_records.proofs.LoadedMapLaws.{same_number, other_number}
-
-from_edges : (n : ℕ) (ts : List ℕ) (a b : ℕ) → Contains (edges_from n ts) (record { from = a; to = b }) → (a ≡ n) × Contains ts b
-from_edges n ts a b c =
-    let e : Edge = record { from = a; to = b } in
-    let f : ℕ → Edge = λ t. record { from = n; to = t } in
-    let l : c.0 < length ts = let g = length-map ts f in let h = c.1 in omega arith in
-    let is : f (get_or ts c.0 b) ≡ e = sym (get_or-map f ts c.0 b e l) ∙ c.2 in
-    (sym (ap (λ (x : Edge). x.from) is), (c.0, l, ap (λ (x : Edge). x.to) is))
-
-to_edges : (n : ℕ) (ts : List ℕ) (b : ℕ) → Contains ts b → Contains (edges_from n ts) (record { from = n; to = b })
-to_edges n ts b c =
-    let e : Edge = record { from = n; to = b } in
-    let f : ℕ → Edge = λ t. record { from = n; to = t } in
-    (c.0, let g = length-map ts f in let h = c.1 in omega arith, get_or-map f ts c.0 b e c.1 ∙ ap f c.2)
 
 same_Some : {X : Type 0} (x y : X) → Some x ≡ Some y → x ≡ y
 same_Some x y e = cc

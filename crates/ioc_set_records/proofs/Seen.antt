@@ -13,32 +13,33 @@ use Rattle.ioc_set_records.specs.Slots.{record_entry, device_entry, records_of, 
 use Rattle.ioc_set_records.proofs.MapLaws.{tied, same_number, other_number, get_inserted, get_made, found_first, found_later, one_map}
 use Rattle.ioc_set_records.proofs.Slotted.{slot_at, slot_first, slot_later, slot_there, none_there, none_below, slot_set, slot_push, ascending_set, ascending_push}
 
+-- A part of each slot, as the map of these parts has it.
+module _ {R D : Type 0} (part : Slot R D → R) where
+  pub part_chosen : (b : Bool) (s : Slot R D) (o : Option (Slot R D)) → option_map part (cond b (Some s) o) ≡ cond b (Some (part s)) (option_map part o)
+  part_chosen true s o = refl
+  part_chosen false s o = refl
+
+  pub found_part : (ss : List (Slot R D)) (q : ℕ) → find nat_cmp q (map (λ s. (s.number, part s)) ss) ≡ option_map part (slot_at ss q)
+  found_part [] q = refl
+  found_part (s ∷ ss) q =
+      ap (λ b. cond b (Some (part s)) (find nat_cmp q (map (λ t. (t.number, part t)) ss))) (tied q s.number) ∙ ap (cond (q == s.number) (Some (part s))) (found_part ss q)
+      ∙ sym (part_chosen (q == s.number) s (slot_at ss q))
+
 module _ {R D : Type 0} where
   -- The record in a slot, and its device.
   abbrev pub record_in : Option (Slot R D) → Option R
-  record_in None = None
-  record_in (Some s) = Some s.fields
+  record_in o = option_map (λ s. s.fields) o
 
   abbrev pub device_in : Option (Slot R D) → Option D
   device_in None = None
   device_in (Some s) = s.device
 
-  record_chosen : (b : Bool) (s : Slot R D) (o : Option (Slot R D)) → record_in (cond b (Some s) o) ≡ cond b (Some s.fields) (record_in o)
-  record_chosen true s o = refl
-  record_chosen false s o = refl
-
   device_chosen : (b : Bool) (s : Slot R D) (o : Option (Slot R D)) → device_in (cond b (Some s) o) ≡ cond b s.device (device_in o)
   device_chosen true s o = refl
   device_chosen false s o = refl
 
-  found_record : (ss : List (Slot R D)) (q : ℕ) → find nat_cmp q (map record_entry ss) ≡ record_in (slot_at ss q)
-  found_record [] q = refl
-  found_record (s ∷ ss) q =
-      ap (λ b. cond b (Some s.fields) (find nat_cmp q (map record_entry ss))) (tied q s.number) ∙ ap (cond (q == s.number) (Some s.fields)) (found_record ss q)
-      ∙ sym (record_chosen (q == s.number) s (slot_at ss q))
-
   pub get_record : (ss : List (Slot R D)) (q : ℕ) → get (records_of ss) q ≡ record_in (slot_at ss q)
-  get_record ss q = get_made (map record_entry ss) q ∙ found_record ss q
+  get_record ss q = get_made (map record_entry ss) q ∙ found_part (λ (s : Slot R D). s.fields) ss q
 
   abbrev entries : List (Slot R D) → List (ℕ × D)
   entries ss = filter_map device_entry ss
@@ -97,7 +98,7 @@ module _ {R D : Type 0} where
 
     pub records_set : records_of (set ss i t) ≡ insert (records_of ss) n t.fields
     records_set =
-        one_map _ _ (λ q. get_record (set ss i t) q ∙ ap record_in (slot_set ss i t q up l e) ∙ record_chosen (q == t.number) t (slot_at ss q) ∙ ap (λ m. cond (q == m) (Some t.fields) (record_in (slot_at ss q))) (sym is)
+        one_map _ _ (λ q. get_record (set ss i t) q ∙ ap record_in (slot_set ss i t q up l e) ∙ part_chosen (λ (s : Slot R D). s.fields) (q == t.number) t (slot_at ss q) ∙ ap (λ m. cond (q == m) (Some t.fields) (record_in (slot_at ss q))) (sym is)
         ∙ ap (cond (q == n) (Some t.fields)) (sym (get_record ss q)) ∙ sym (get_inserted (records_of ss) n t.fields q))
 
     device_now : (q : ℕ) → get (devices_of (set ss i t)) q ≡ cond (q == n) t.device (get (devices_of ss) q)
@@ -132,7 +133,7 @@ module _ {R D : Type 0} where
 
     pub pushed_records : records_of (ss ++ s ∷ []) ≡ insert m.records s.number s.fields
     pushed_records =
-        one_map _ _ (λ q. get_record (ss ++ s ∷ []) q ∙ ap record_in (slot_push ss s q all_below) ∙ record_chosen (q == s.number) s (slot_at ss q)
+        one_map _ _ (λ q. get_record (ss ++ s ∷ []) q ∙ ap record_in (slot_push ss s q all_below) ∙ part_chosen (λ (s : Slot R D). s.fields) (q == s.number) s (slot_at ss q)
         ∙ ap (cond (q == s.number) (Some s.fields)) (sym (get_record ss q) ∙ ap (λ (k : Contents R D). get k.records q) is) ∙ sym (get_inserted m.records s.number s.fields q))
 
     device_more : (q : ℕ) (o : Option D) → o ≡ s.device → cond (q == s.number) o (get m.devices q) ≡ get (with_device m.devices s.number o) q

@@ -2,8 +2,9 @@
 use Rattle.std.proofs.Common.{◌≡◌, ◌≢◌, ℕ, zero, suc, ◌<◌, ◌≤◌, ◌+◌, List, [], ◌∷◌, ◌++◌, Option, Some, None, Bool, true, false, length, map, set, get_or, cond, filter_map, refl, sym, ap, ◌∙◌, subst, ⊎_elim, arith}
 use Rattle.std.specs.Prelude.{Result, Ok, Err, OnErr, slice_index, IsSome, is_some, unwrap_or, ◌==◌, Contains}
 use Rattle.std.specs.List.{sum_by, cons_option, range_with_len}
+use Rattle.std.specs.Option.{option_map}
 use Rattle.std.specs.Ordering.{nat_cmp}
-use Rattle.std.specs.FinMap.{get, insert, find, from_entries}
+use Rattle.std.specs.FinMap.{get, insert, from_entries}
 use Rattle.std.specs.List.Sorted.{IsPermutation}
 use Rattle.std.proofs.lemmas.List.Sorted.{IsPermutation-sym, Contains-permutation}
 use Rattle.std.proofs.lemmas.Bool.{cases_eq}
@@ -21,9 +22,9 @@ use Rattle.ioc_set_records.specs.Slots.{record_entry, device_entry, base_entry, 
 use Rattle.ioc_set_records.specs.Twins.{slot_folded, slot_marked, slots_marked, one_if_unmarked, AreFolded, AreTracked, AreKept, AllLikeTheirBases}
 use Rattle.ioc_set_records.specs.Edges.{slots_relinked}
 use Rattle.ioc_set_records.specs.Dealt.{dealt}
-use Rattle.ioc_set_records.proofs.MapLaws.{tied, get_made, one_map, get_inserted}
+use Rattle.ioc_set_records.proofs.MapLaws.{get_made, one_map, get_inserted}
 use Rattle.ioc_set_records.proofs.Slotted.{slot_at, slot_there, slot_push}
-use Rattle.ioc_set_records.proofs.Seen.{record_in, record_there, get_record}
+use Rattle.ioc_set_records.proofs.Seen.{record_in, record_there, get_record, part_chosen, found_part}
 
 at_most : (b : Bool) → cond b 0 1 ≤ 1
 at_most true = omega arith
@@ -52,21 +53,10 @@ range_more a (suc n) =
 module _ {R D : Type 0} where
   -- The base in a slot.
   abbrev pub base_in : Option (Slot R D) → Option R
-  base_in None = None
-  base_in (Some s) = Some s.base
-
-  base_chosen : (b : Bool) (s : Slot R D) (o : Option (Slot R D)) → base_in (cond b (Some s) o) ≡ cond b (Some s.base) (base_in o)
-  base_chosen true s o = refl
-  base_chosen false s o = refl
-
-  found_base : (ss : List (Slot R D)) (q : ℕ) → find nat_cmp q (map base_entry ss) ≡ base_in (slot_at ss q)
-  found_base [] q = refl
-  found_base (s ∷ ss) q =
-      ap (λ b. cond b (Some s.base) (find nat_cmp q (map base_entry ss))) (tied q s.number) ∙ ap (cond (q == s.number) (Some s.base)) (found_base ss q)
-      ∙ sym (base_chosen (q == s.number) s (slot_at ss q))
+  base_in o = option_map (λ s. s.base) o
 
   pub get_base : (ss : List (Slot R D)) (q : ℕ) → get (bases_of ss) q ≡ base_in (slot_at ss q)
-  get_base ss q = get_made (map base_entry ss) q ∙ found_base ss q
+  get_base ss q = get_made (map base_entry ss) q ∙ found_part (λ (s : Slot R D). s.base) ss q
 
   pub base_there : (ss : List (Slot R D)) (i n : ℕ) (s : Slot R D) → AreAscending ss → i < length ss → slice_index (numbers_of ss) i ≡ n → get (bases_of ss) n ≡ Some (get_or ss i s).base
   base_there ss i n s up l e = get_base ss n ∙ ap (λ m. base_in (slot_at ss m)) (sym e) ∙ ap base_in (slot_there ss i s up l)
@@ -89,7 +79,7 @@ module _ {R D : Type 0} where
   pushed_bases ss m s up is above =
       let low : (i : ℕ) → i < length ss → slice_index (numbers_of ss) i < s.number =
       λ i l. above (slice_index (numbers_of ss) i) (ap (λ (k : Contents R D). is_some (get k.records (slice_index (numbers_of ss) i))) (sym is) ∙ ap is_some (record_there ss i (slice_index (numbers_of ss) i) s up l refl)) in
-      one_map _ _ (λ q. get_base (ss ++ s ∷ []) q ∙ ap base_in (slot_push ss s q low) ∙ base_chosen (q == s.number) s (slot_at ss q)
+      one_map _ _ (λ q. get_base (ss ++ s ∷ []) q ∙ ap base_in (slot_push ss s q low) ∙ part_chosen (λ (s : Slot R D). s.base) (q == s.number) s (slot_at ss q)
       ∙ ap (cond (q == s.number) (Some s.base)) (sym (get_base ss q) ∙ ap (λ (k : Contents R D). get k.base q) is) ∙ sym (get_inserted m.base s.number s.base q))
 
   -- Two lists of slots that represent the same contents.

@@ -6,7 +6,7 @@ use Rattle.ioc_set_records.specs.Contents.{Records}
 use Rattle.ioc_store.specs.World.{total}
 use Rattle.ioc_set.specs.Awaiting.{one_if_awaits, awaited}
 use Rattle.ioc_set_store.proofs.Entries.{key_there, none-past}
-use Rattle.ioc_set.proofs.Awaits.{awaits-at, awaits-past}
+use Rattle.ioc_set.proofs.Awaits.{awaits-on, awaits-past}
 use Rattle.ioc_set.proofs.awaited.count_awaited.Goals as goal
 use Rattle.ioc_set.proofs.awaited.count_awaited.Goals.{in-Some+in-Some-pending, in-Some+in_default-pending, in_default}
 
@@ -21,20 +21,15 @@ record-requires g c = key_there g.K.RecordKind.rules c.args.members.now.records 
 
 pub loop-place-preserved : goal.loop-place-preserved
 loop-place-preserved g c =
-    let k = g.K.RecordKind.rules in
-    let rs = c.args.members.now.records in
-    let i = c.loop-place.place in
-    let so_far = c.loop-place.invariant in
     elim c.match-number_at.branch [
       | in-Some+in-Some-pending w ↦
-          let has = sym (ap (λ (x : Common). x.pending) (w.common-common.ensures ∙ ap k.common w.record.ensures)) ∙ w.in-Some-pending.is in
-          let next = awaits-at k rs i w.in-Some.number (sym c.number_at.ensures ∙ w.in-Some.is) (Some w.in-Some-pending.field-0) has in
-          (omega (arith, next, w.count-is, so_far.0), omega (arith, w.count-is, so_far.1))
+          awaits-on g.K.RecordKind.rules c.args.members.now.records c.loop-place.place w.in-Some.number c.loop-place.count c.match-number_at.count (sym c.number_at.ensures ∙ w.in-Some.is) (Some w.in-Some-pending.field-0)
+          (sym (ap (λ (x : Common). x.pending) (w.common-common.ensures ∙ ap g.K.RecordKind.rules.common w.record.ensures)) ∙ w.in-Some-pending.is) (omega (arith, w.count-is)) c.loop-place.invariant
       | in-Some+in_default-pending w ↦
-          let has = sym (ap (λ (x : Common). x.pending) (w.common-common.ensures ∙ ap k.common w.record.ensures)) ∙ w.in_default-pending.is in
-          let next = awaits-at k rs i w.in-Some.number (sym c.number_at.ensures ∙ w.in-Some.is) None has in
-          (omega (arith, next, w.count-is, so_far.0), omega (arith, w.count-is, so_far.1))
-      | in_default w ↦ absurd (none-past k rs i (sym c.number_at.ensures ∙ w.in_default.is) (subst (λ (n : ℕ). i < n) c.len-place-end.ensures c.loop-place-test.true))
+          awaits-on g.K.RecordKind.rules c.args.members.now.records c.loop-place.place w.in-Some.number c.loop-place.count c.match-number_at.count (sym c.number_at.ensures ∙ w.in-Some.is) None
+          (sym (ap (λ (x : Common). x.pending) (w.common-common.ensures ∙ ap g.K.RecordKind.rules.common w.record.ensures)) ∙ w.in_default-pending.is) (omega (arith, w.count-is)) c.loop-place.invariant
+      | in_default w ↦
+          absurd (none-past g.K.RecordKind.rules c.args.members.now.records c.loop-place.place (sym c.number_at.ensures ∙ w.in_default.is) (subst (λ (n : ℕ). c.loop-place.place < n) c.len-place-end.ensures c.loop-place-test.true))
     ]
 
 pub returns : goal.returns

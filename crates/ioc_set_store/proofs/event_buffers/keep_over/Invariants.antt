@@ -1,4 +1,4 @@
-use Rattle.std.proofs.Common.{◌≡◌, ◌+◌, ◌≤◌, length, take, drop, vec_len}
+use Rattle.std.proofs.Common.{◌≡◌, ◌≤◌, take, vec_len}
 use Rattle.std.specs.Prelude.{not, vec_capacity}
 use Rattle.std.specs.List.{filter}
 use Rattle.ioc_notify.specs.Living.{is_live}

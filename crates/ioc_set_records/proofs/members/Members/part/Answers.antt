@@ -1,9 +1,9 @@
-use Rattle.std.proofs.Common.{List, sym, ap, subst, ◌∙◌, arith}
+use Rattle.std.proofs.Common.{◌≡◌, List, sym, ap, subst, ◌∙◌, arith}
 use Rattle.std.specs.Prelude.{is_some, vec_capacity}
 use Rattle.ioc_set_records.specs.declared.slots.Slot.{Slot}
 use Rattle.ioc_set_records.specs.Edges.{slots_relinked}
-use Rattle.ioc_set_records.specs.Slots.{contents_of, AreAscending}
-use Rattle.ioc_set_records.specs.Twins.{AreKept}
+use Rattle.ioc_set_records.specs.Slots.{contents_of, records_of, AreAscending}
+use Rattle.ioc_set_records.specs.Twins.{AreFolded, AreKept}
 use Rattle.ioc_set_records.proofs.EdgeLaws.{length-relinked}
 use Rattle.ioc_set_records.proofs.Seats.{there_not}
 use Rattle.std.specs.FinMap.{len}
@@ -11,7 +11,23 @@ use Rattle.ioc_set_records.proofs.Ordered.{len_is}
 use Rattle.ioc_set_records.proofs.SetParts.{few_stay, stay_folded, rest_folded}
 use Rattle.ioc_set_records.proofs.FallsApart.{zs_closed, link_field, stay_rises, rest_rises, shared, devices, own, stay_is_part, rest_is_part}
 use Rattle.ioc_set_records.proofs.Twins.{where_refused, alike_slots, like_itself, fold_up, refolded, fold_len, fold_folded, folded_kept, relinked_folded, base_is_records}
+use Rattle.ioc_set_records.proofs.members.Members.part.Given.{Over}
+use Rattle.ioc_set_records.proofs.members.Members.part.Goals.{After-part_slots}
 use Rattle.ioc_set_records.proofs.members.Members.part.Goals as goal
+
+-- What is known of the slots once they are folded and one link of them is set.
+module _ (g : Over) (c : After-part_slots g) where
+  up : AreAscending c.fold_slots.new.slots.items
+  up = fold_up c.self.inside.slots.items c.fold_slots.new.slots.items c.self.invariant.ascending c.fold_slots.ensures.slots
+
+  records_are : records_of c.fold_slots.new.slots.items ≡ c.args.self.now.records
+  records_are = ap (λ z. z.records) (refolded c.self.inside.slots.items c.fold_slots.new.slots.items c.args.self.now c.self.view_is c.fold_slots.ensures.slots c.requires.folded)
+
+  abbrev zs : List (Slot g.row.K.Denot g.row.D.Denot)
+  zs = slots_relinked g.K.RecordKind.rules c.fold_slots.new.slots.items c.in-Some.place c.args.field c.args.link
+
+  zs_folded : AreFolded zs
+  zs_folded = relinked_folded g.K.RecordKind.rules c.fold_slots.new.slots.items c.in-Some.place c.args.field c.args.link (fold_folded c.self.inside.slots.items c.fold_slots.new.slots.items c.fold_slots.ensures.slots)
 
 pub unreachable-requires : goal.unreachable-requires
 unreachable-requires g c =
@@ -82,62 +98,47 @@ returns-in_err-rest-clause-err g c =
 
 pub invariant_of-result : goal.invariant_of-result
 invariant_of-result g c =
-    let k = g.K.RecordKind.rules in
-    let ss = c.self.inside.slots.items in
-    let fs = c.fold_slots.new.slots.items in
-    let zs = slots_relinked k fs c.in-Some.place c.args.field c.args.link in
-    let up = rest_rises g.K.RecordKind.rules g.met.K.RecordKind.lawful c.fold_slots.new.slots.items c.deref.result.now c.args.self.now.records (fold_up c.self.inside.slots.items c.fold_slots.new.slots.items c.self.invariant.ascending c.fold_slots.ensures.slots) (ap (λ z. z.records) (refolded c.self.inside.slots.items c.fold_slots.new.slots.items c.args.self.now c.self.view_is c.fold_slots.ensures.slots c.requires.folded)) c.deref.ensures.value c.args.number c.in-Some.place
-    c.in-Some.ensures.found c.args.field c.args.link c.requires.field c.requires.within c.requires.one_part c.part_slots.new.slots.items c.in_ok-rest.rest.items c.in_ok-rest.ensures.ok in
-    let folded = rest_folded k zs c.in-Some.place c.part_slots.new.slots.items c.in_ok-rest.rest.items c.in_ok-rest.ensures.ok
-    (relinked_folded k fs c.in-Some.place c.args.field c.args.link (fold_folded ss fs c.fold_slots.ensures.slots)) in
-    folded_kept c.in_ok-rest.rest.items c.in_ok-rest.places.items (vec_capacity c.in_ok-rest.places) up folded c.in_ok-rest.ensures.room.0 c.in_ok-rest.ensures.room.1
+    let at = (goal.at.invariant_of-result g c).After-part_slots in
+    folded_kept c.in_ok-rest.rest.items c.in_ok-rest.places.items (vec_capacity c.in_ok-rest.places)
+    (rest_rises g.K.RecordKind.rules g.met.K.RecordKind.lawful c.fold_slots.new.slots.items c.deref.result.now c.args.self.now.records (up g at) (records_are g at) c.deref.ensures.value c.args.number c.in-Some.place
+    c.in-Some.ensures.found c.args.field c.args.link c.requires.field c.requires.within c.requires.one_part c.part_slots.new.slots.items c.in_ok-rest.rest.items c.in_ok-rest.ensures.ok)
+    (rest_folded g.K.RecordKind.rules (zs g at) c.in-Some.place c.part_slots.new.slots.items c.in_ok-rest.rest.items c.in_ok-rest.ensures.ok (zs_folded g at)) c.in_ok-rest.ensures.room.0 c.in_ok-rest.ensures.room.1
 
 pub invariant_of-self-2 : goal.invariant_of-self-2
 invariant_of-self-2 g c =
     let k = g.K.RecordKind.rules in
-    let ss = c.self.inside.slots.items in
-    let fs = c.fold_slots.new.slots.items in
-    let zs = slots_relinked k fs c.in-Some.place c.args.field c.args.link in
-    let up = stay_rises g.K.RecordKind.rules g.met.K.RecordKind.lawful c.fold_slots.new.slots.items c.deref.result.now c.args.self.now.records (fold_up c.self.inside.slots.items c.fold_slots.new.slots.items c.self.invariant.ascending c.fold_slots.ensures.slots) (ap (λ z. z.records) (refolded c.self.inside.slots.items c.fold_slots.new.slots.items c.args.self.now c.self.view_is c.fold_slots.ensures.slots c.requires.folded)) c.deref.ensures.value c.args.number c.in-Some.place
+    let at = (goal.at.invariant_of-self-2 g c).After-part_slots in
+    let rises = stay_rises k g.met.K.RecordKind.lawful c.fold_slots.new.slots.items c.deref.result.now c.args.self.now.records (up g at) (records_are g at) c.deref.ensures.value c.args.number c.in-Some.place
     c.in-Some.ensures.found c.args.field c.args.link c.requires.field c.requires.within c.requires.one_part c.part_slots.new.slots.items c.in_ok-rest.rest.items c.in_ok-rest.ensures.ok in
-    let folded = stay_folded k zs c.in-Some.place c.part_slots.new.slots.items c.in_ok-rest.rest.items c.in_ok-rest.ensures.ok
-    (relinked_folded k fs c.in-Some.place c.args.field c.args.link (fold_folded ss fs c.fold_slots.ensures.slots)) in
-    let few = few_stay k zs c.in-Some.place c.part_slots.new.slots.items c.in_ok-rest.rest.items c.in_ok-rest.ensures.ok in
-    let relinked_len = length-relinked k fs c.in-Some.place c.args.field c.args.link in
-    let len = fold_len ss fs c.fold_slots.ensures.slots in
+    let few = few_stay k (zs g at) c.in-Some.place c.part_slots.new.slots.items c.in_ok-rest.rest.items c.in_ok-rest.ensures.ok in
+    let relinked_len = length-relinked k c.fold_slots.new.slots.items c.in-Some.place c.args.field c.args.link in
+    let len = fold_len c.self.inside.slots.items c.fold_slots.new.slots.items c.fold_slots.ensures.slots in
     let room = c.self.invariant.room in
     let same = c.fold_slots.ensures.room in
-    folded_kept c.part_slots.new.slots.items c.fold_slots.new.changed.items (vec_capacity c.fold_slots.new.changed) up folded c.fold_slots.ensures.changed (omega arith)
+    folded_kept c.part_slots.new.slots.items c.fold_slots.new.changed.items (vec_capacity c.fold_slots.new.changed) rises
+    (stay_folded k (zs g at) c.in-Some.place c.part_slots.new.slots.items c.in_ok-rest.rest.items c.in_ok-rest.ensures.ok (zs_folded g at)) c.fold_slots.ensures.changed (omega arith)
 
 pub returns-clause-base : goal.returns-clause-base
 returns-clause-base g c =
-    let k = g.K.RecordKind.rules in
-    let ss = c.self.inside.slots.items in
-    let fs = c.fold_slots.new.slots.items in
-    let zs = slots_relinked k fs c.in-Some.place c.args.field c.args.link in
-    base_is_records c.part_slots.new.slots.items (stay_folded k zs c.in-Some.place c.part_slots.new.slots.items c.in_ok-rest.rest.items c.in_ok-rest.ensures.ok
-    (relinked_folded k fs c.in-Some.place c.args.field c.args.link (fold_folded ss fs c.fold_slots.ensures.slots)))
+    let at = (goal.at.returns-clause-base g c).After-part_slots in
+    base_is_records c.part_slots.new.slots.items
+    (stay_folded g.K.RecordKind.rules (zs g at) c.in-Some.place c.part_slots.new.slots.items c.in_ok-rest.rest.items c.in_ok-rest.ensures.ok (zs_folded g at))
 
 pub returns-clause-rest_base : goal.returns-clause-rest_base
 returns-clause-rest_base g c =
-    let k = g.K.RecordKind.rules in
-    let ss = c.self.inside.slots.items in
-    let fs = c.fold_slots.new.slots.items in
-    let zs = slots_relinked k fs c.in-Some.place c.args.field c.args.link in
-    base_is_records c.in_ok-rest.rest.items (rest_folded k zs c.in-Some.place c.part_slots.new.slots.items c.in_ok-rest.rest.items c.in_ok-rest.ensures.ok
-    (relinked_folded k fs c.in-Some.place c.args.field c.args.link (fold_folded ss fs c.fold_slots.ensures.slots)))
+    let at = (goal.at.returns-clause-rest_base g c).After-part_slots in
+    base_is_records c.in_ok-rest.rest.items
+    (rest_folded g.K.RecordKind.rules (zs g at) c.in-Some.place c.part_slots.new.slots.items c.in_ok-rest.rest.items c.in_ok-rest.ensures.ok (zs_folded g at))
 
 pub returns-clause-fewer : goal.returns-clause-fewer
 returns-clause-fewer g c =
     let k = g.K.RecordKind.rules in
-    let ss = c.self.inside.slots.items in
-    let fs = c.fold_slots.new.slots.items in
-    let zs = slots_relinked k fs c.in-Some.place c.args.field c.args.link in
-    let up = stay_rises g.K.RecordKind.rules g.met.K.RecordKind.lawful c.fold_slots.new.slots.items c.deref.result.now c.args.self.now.records (fold_up c.self.inside.slots.items c.fold_slots.new.slots.items c.self.invariant.ascending c.fold_slots.ensures.slots) (ap (λ z. z.records) (refolded c.self.inside.slots.items c.fold_slots.new.slots.items c.args.self.now c.self.view_is c.fold_slots.ensures.slots c.requires.folded)) c.deref.ensures.value c.args.number c.in-Some.place
+    let at = (goal.at.returns-clause-fewer g c).After-part_slots in
+    let rises = stay_rises k g.met.K.RecordKind.lawful c.fold_slots.new.slots.items c.deref.result.now c.args.self.now.records (up g at) (records_are g at) c.deref.ensures.value c.args.number c.in-Some.place
     c.in-Some.ensures.found c.args.field c.args.link c.requires.field c.requires.within c.requires.one_part c.part_slots.new.slots.items c.in_ok-rest.rest.items c.in_ok-rest.ensures.ok in
-    let few = few_stay k zs c.in-Some.place c.part_slots.new.slots.items c.in_ok-rest.rest.items c.in_ok-rest.ensures.ok in
-    let relinked_len = length-relinked k fs c.in-Some.place c.args.field c.args.link in
-    let same = fold_len ss fs c.fold_slots.ensures.slots in
-    let before = sym (len_is ss c.self.invariant.ascending) ∙ ap (λ z. len z.records) c.self.view_is in
-    let after = len_is c.part_slots.new.slots.items up in
+    let few = few_stay k (zs g at) c.in-Some.place c.part_slots.new.slots.items c.in_ok-rest.rest.items c.in_ok-rest.ensures.ok in
+    let relinked_len = length-relinked k c.fold_slots.new.slots.items c.in-Some.place c.args.field c.args.link in
+    let same = fold_len c.self.inside.slots.items c.fold_slots.new.slots.items c.fold_slots.ensures.slots in
+    let before = sym (len_is c.self.inside.slots.items c.self.invariant.ascending) ∙ ap (λ z. len z.records) c.self.view_is in
+    let after = len_is c.part_slots.new.slots.items rises in
     omega (arith, few, relinked_len, same, before, after)
