@@ -1,11 +1,8 @@
 -- The counts of requests of many lock sets together. This project's own.
-use Rattle.std.specs.Prelude.{◌≡◌, ℕ, zero, suc, ◌+◌, ◌-◌, ◌^◌, ◌==◌, min, if◌then◌else◌}
+use Rattle.std.specs.Prelude.{ℕ, zero, suc, ◌-◌, ◌^◌, ◌==◌, if◌then◌else◌}
+use Rattle.ioc_ledger.specs.Requests.{capped}
 use Rattle.ioc_ledger.specs.declared.tally.Tally.{Tally}
 use Rattle.ioc_ledger.specs.declared.count_blanks.CountBlanks.{CountBlanks}
-
--- A count, up to 2^64 - 1.
-abbrev pub capped : ℕ → ℕ
-capped n = min (2 ^ 64 - 1) n
 
 -- A tally of these counts, each up to 2^64 - 1.
 abbrev pub capped_tally : (begun processed disabled active reprocess started completed : ℕ) → Tally

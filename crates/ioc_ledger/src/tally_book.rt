@@ -1,10 +1,12 @@
 //! The counts of all lock sets together.
 ghost use Rattle.std.specs.Prelude.{◌≡◌, ◌<◌, ◌≤◌, ◌+◌, ◌-◌, ◌^◌, ℕ};
-ghost use Rattle.ioc_ledger.specs.Requests.{added, no_counts};
-ghost use Rattle.ioc_ledger.specs.Shared.{capped, share_view, names_of, less_awaited};
+ghost use Rattle.std.specs.Prelude.{Bool};
+ghost use Rattle.ioc_ledger.specs.Requests.{Requests, added, capped, counted_all, no_counts, FitsAll};
+ghost use Rattle.ioc_ledger.specs.Shared.{share_view, names_of, less_awaited};
 ghost use Rattle.ioc_ledger.specs.declared.tally.Tally.{Tally};
 
 use crate::count_blanks::CountBlanks;
+use crate::laws::counts_are_added;
 use crate::tally::Tally;
 use std::marker::{Brand, Model, PhantomData};
 use std::sync::ledger::{Book, Ledger, Share};
@@ -50,7 +52,8 @@ impl<B: CountNames> Model for TallyBook<B> {
 
     ghost Value = { Tally };
 
-    ghost view = { λ b. capped_tally b.begun.total b.processed.total b.disabled.total b.active.total b.reprocess.total b.started.total b.completed.total };
+    ghost view = { λ b. capped_tally b.begun.total b.processed.total b.disabled.total b.active.total b.reprocess.total
+        b.started.total b.completed.total };
 }
 
 /// The part of an engine's counts that a lock set has, each up to 2^64 - 1. It takes no bytes.
@@ -71,9 +74,11 @@ impl<B: CountNames> Model for TallyShare<B> {
 
     ghost Value = { ShareView };
 
-    ghost view = { λ s. share_view s.begun.parts (capped_tally s.begun.amount s.processed.amount s.disabled.amount s.active.amount s.reprocess.amount s.started.amount s.completed.amount) };
+    ghost view = { λ s. share_view s.begun.parts (capped_tally s.begun.amount s.processed.amount s.disabled.amount s.active.amount
+        s.reprocess.amount s.started.amount s.completed.amount) };
 
-    ghost invariant = { λ s. (s.processed.parts ≡ s.begun.parts) × (s.disabled.parts ≡ s.begun.parts) × (s.active.parts ≡ s.begun.parts) × (s.reprocess.parts ≡ s.begun.parts) × (s.started.parts ≡ s.begun.parts) × (s.completed.parts ≡ s.begun.parts) };
+    ghost invariant = { λ s. (s.processed.parts ≡ s.begun.parts) × (s.disabled.parts ≡ s.begun.parts) × (s.active.parts ≡ s.begun.parts)
+        × (s.reprocess.parts ≡ s.begun.parts) × (s.started.parts ≡ s.begun.parts) × (s.completed.parts ≡ s.begun.parts) };
 }
 
 // Moves a count on from one number to another, in the book and in a share.
@@ -153,8 +158,33 @@ impl<B: CountNames> TallyBook<B> {
         (book, share)
     }
 
-    /// Moves the counts of a share on from one tally to another, and adds as much to the book.
+    /// Records what an event has counted, which has moved the counts of a share on from one tally to
+    /// another: the book counts the same.
+    #[inline(always)]
     pub fn record(&mut self, share: &mut TallyShare<B>, before: &Tally, after: &Tally)
+        requires parts { 0 < share.old.parts }
+        requires before { share.old.counts ≡ before.now }
+        requires counts { (requests : Requests) × (later : ℕ) × (completes : Bool) × (after.now ≡ counted_all before.now requests later completes) }
+        ensures share { share.new ≡ share_view share.old.parts after.now }
+        ensures book { (requests : Requests) (later : ℕ) (completes : Bool) → after.now ≡ counted_all before.now requests later completes
+            → self.new ≡ counted_all self.old requests later completes }
+    {
+        counts_are_added();
+        before.fits();
+        self.fits();
+        self.move_on(share, before, after);
+    }
+
+    // States that each count fits 64 bits.
+    fn fits(&self)
+        ensures { FitsAll self.now }
+    {
+        let _ = &self.begun;
+    }
+
+    // Moves the counts of a share on from one tally to another, and adds as much to the book.
+    #[inline(always)]
+    fn move_on(&mut self, share: &mut TallyShare<B>, before: &Tally, after: &Tally)
         requires parts { 0 < share.old.parts }
         requires before { share.old.counts ≡ before.now }
         requires rises { (more : Tally) × (after.now ≡ added before.now more) }
