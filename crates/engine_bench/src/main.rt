@@ -59,7 +59,7 @@ fn carry_out<B: EngineName<Later> + Send + Sync, R: Clock + Input + Threads + Wa
     seed: Seed<Later>,
     job: &Job,
 ) -> Result<Measured, IocError>
-    requires named { IsNamedBy B.table B.base B.devices B.places B.tickets seed }
+    requires named { IsNamedBy B.table B.base B.devices B.places B.tickets B.counts seed }
 {
     let engine = Engine::<B, _, _>::start(alloc, seed, FixedClock(1), LIMITS)?;
     let begun = Instant::now(rt);

@@ -35,7 +35,7 @@ fn work<B: EngineName<Tank>, R: Wait>(
     alloc: Global,
     seed: Seed<Tank>,
 ) -> Result<Reply, IocError>
-    requires named { IsNamedBy B.table B.base B.devices B.places B.tickets seed }
+    requires named { IsNamedBy B.table B.base B.devices B.places B.tickets B.counts seed }
 {
     let engine = Engine::<B, _, _>::start(alloc, seed, CountingClock::new(), Limits::default())?;
     let mut desk = engine.desk(rt)?;

@@ -67,7 +67,7 @@ impl<B: EngineName<D>, D: Device, C: Drop> Engine<B, D, C> {
     /// [`IocError::BadValue`] if a limit is out of range. [`IocError::NoMemory`] if allocation
     /// fails.
     pub fn start(alloc: Global, seed: Seed<D>, clock: C, limits: Limits) -> Result<Self, IocError>
-        requires named { IsNamedBy B.table B.base B.devices B.places B.tickets seed }
+        requires named { IsNamedBy B.table B.base B.devices B.places B.tickets B.counts seed }
         ensures records { IfOk result (λ e. e.core ≡ length seed.records.items) }
         ensures names { IfOk result (λ e. e.lookup ≡ seed.lookup) }
         ensures limits { OnOk result (AreAllowed limits) }
@@ -78,11 +78,14 @@ impl<B: EngineName<D>, D: Device, C: Drop> Engine<B, D, C> {
             master,
             places,
             tickets,
+            counts,
             records,
             lookup,
             spare: _,
         } = seed;
-        match start::<Record, B, D>(alloc, cell, master, places, tickets, records, limits) {
+        match start::<Record, B, D>(
+            alloc, cell, master, places, tickets, counts, records, limits,
+        ) {
             Ok(core) => Ok(Engine {
                 core,
                 lookup: EngineLookup::new(lookup),

@@ -3,6 +3,7 @@ ghost use Rattle.std.specs.Prelude.{◌≡◌, ◌<◌, ◌≤◌, ◌++◌, len
 ghost use Rattle.rec_types.specs.Record.{record_rules};
 ghost use Rattle.ioc_history.specs.Account.{IsEntryOf};
 ghost use Rattle.ioc_history.specs.Base.{IsBaseOf};
+ghost use Rattle.ioc_history.specs.Counting.{counts_of};
 ghost use Rattle.ioc_history.specs.Legal.{IsLegal, map_of};
 ghost use Rattle.ioc_journaled_set.specs.SameDevice.{IsDeviceOf};
 ghost use Rattle.ioc_engine_core.specs.Ended.{IsEnd, counts_in};
@@ -13,7 +14,7 @@ use crate::Receipt;
 use crate::engine::Engine;
 use crate::engine_name::EngineName;
 use ioc_device::Device;
-use ioc_engine_core::Report as CoreReport;
+use ioc_engine_core::{JournaledSet, Report as CoreReport};
 use ioc_history::{JournalBase, StoredEntry, TicketTally};
 use ioc_ledger::Tally;
 use ioc_names::RecordNo;
@@ -84,6 +85,21 @@ fn add_records<D: Drop>(
     Ok(())
 }
 
+// Returns the records of these sets, those of one set after another, each with its device.
+fn records_in<B: EngineName<D>, D: Device>(
+    alloc: Global,
+    sets: Vec<JournaledSet<Record, B, D>>,
+) -> Result<Vec<StoppedRecord<D>>, AllocError>
+    ensures { IfOk result (λ all. GivesBack (IsDeviceOf D.gives B.devices) sets.items all.items) }
+{
+    let mut all = Vec::new(alloc);
+    for set in sets {
+        set.keeps_devices();
+        add_records(&mut all, set.into_slots())?;
+    }
+    Ok(all)
+}
+
 impl<B: EngineName<D>, D: Device, C: Drop> Engine<B, D, C> {
     /// Ends the engine, once all its calls are finished, since it takes the engine by value. It
     /// allocates nothing, so an engine can be stopped even if memory is short.
@@ -91,6 +107,7 @@ impl<B: EngineName<D>, D: Device, C: Drop> Engine<B, D, C> {
         ensures end { IsEnd record_rules B.base (IsDeviceOf D.gives B.devices) self.core result.core.journal.filled
             result.core.sets.items }
         ensures tickets { AreTicketed record_rules B.base result.core.journal.filled result.core.tickets }
+        ensures tally { counts_in result.core.sets.items ≡ counts_of record_rules B.base result.core.journal.filled }
     {
         let Engine {
             core,
@@ -188,11 +205,6 @@ impl<B: EngineName<D>, D: Device> Report<B, D> {
             once_dropped: _,
             dropped: _,
         } = core;
-        let mut all = Vec::new(alloc);
-        for set in sets {
-            set.keeps_devices();
-            add_records(&mut all, set.into_slots())?;
-        }
-        Ok(all)
+        records_in(alloc, sets)
     }
 }

@@ -17,6 +17,7 @@ use crate::lookup::Lookup;
 use ioc_dbfile::{Database, DeviceName};
 use ioc_engine_core::{new_cell, with_copies};
 use ioc_history::{Cell, KeyPass, PLACES};
+use ioc_ledger::CountBlanks;
 use ioc_set_records::Loaded;
 use ioc_values::IocError;
 use rec_types::Record;
@@ -40,6 +41,7 @@ pub struct Seed<D> {
     pub(crate) master: KeyPass,
     pub(crate) places: Blank,
     pub(crate) tickets: Blank,
+    pub(crate) counts: CountBlanks,
     pub(crate) records: Vec<Loaded<Record, D>>,
     pub(crate) lookup: Lookup,
     /// The devices that no record has: no record has a link to a device of that name, or another
@@ -90,6 +92,7 @@ impl<D: Drop> Seed<D> {
             master,
             places: Blank::new(PLACES),
             tickets: Blank::new(PLACES),
+            counts: CountBlanks::new(),
             records: loaded,
             lookup,
             spare: bound.spare,

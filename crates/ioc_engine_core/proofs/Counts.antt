@@ -1,10 +1,11 @@
 -- The counts of sets, added one after another.
-use Rattle.std.proofs.Common.{◌≡◌, ℕ, ◌+◌, List, [], ◌∷◌, refl, sym, ap, ◌∙◌, arith}
+use Rattle.std.proofs.Common.{◌≡◌, ℕ, ◌+◌, List, [], ◌∷◌, map, refl, sym, ap, ◌∙◌, arith}
 use Rattle.std.proofs.lemmas.List.Sums.{sum_by-cons}
 use Rattle.std.specs.List.{sum_by}
 use Rattle.ioc_ledger.specs.declared.tally.Tally.{Tally}
 use Rattle.ioc_ledger.specs.Requests.{filled, no_counts}
 use Rattle.ioc_ledger.specs.Requests.{added}
+use Rattle.ioc_set.specs.SetState.{SetState}
 use Rattle.ioc_journaled_set.specs.Holding.{HeldView}
 use Rattle.ioc_engine_core.specs.Ended.{counts_in}
 
@@ -65,6 +66,22 @@ none_more R D t u = alike (summed_with {R = R} {D = D} (added t u) []) (added t 
 all_from : {R D : Type 0} (t u : Tally) (sets : List (HeldView R D)) → counted_with (added t u) sets ≡ summed_with (added t u) sets
 all_from {R} {D} t u [] = sym (none_more R D t u)
 all_from t u (h ∷ hs) = all_from (added t u) h.set.tally hs ∙ first_too (added t u) h hs
+
+-- The counts of sets depend only on the sets.
+pub counts_alike : {R D : Type 0} (before after : List (HeldView R D)) → map (λ (h : HeldView R D). h.set) after ≡ map (λ (h : HeldView R D). h.set) before → counts_in after ≡ counts_in before
+counts_alike {R} {D} before after same = alike (counts_in after) (counts_in before)
+    (each (λ t. t.begun)) (each (λ t. t.processed)) (each (λ t. t.disabled)) (each (λ t. t.active)) (each (λ t. t.reprocess)) (each (λ t. t.started)) (each (λ t. t.completed))
+  where
+    by_sets : (count : Tally → ℕ) (hs : List (HeldView R D)) → sum_by (λ (h : HeldView R D). count h.set.tally) hs ≡ sum_by (λ (s : SetState R D). count s.tally) (map (λ (h : HeldView R D). h.set) hs)
+    by_sets count [] = refl
+    by_sets count (h ∷ hs) =
+        let one = sum_by-cons (λ (h : HeldView R D). count h.set.tally) h hs in
+        let other = sum_by-cons (λ (s : SetState R D). count s.tally) h.set (map (λ (h : HeldView R D). h.set) hs) in
+        let rest = by_sets count hs in
+        omega (arith, one, other, rest)
+
+    each : (count : Tally → ℕ) → filled 0 (sum_by (λ (h : HeldView R D). count h.set.tally) after) ≡ filled 0 (sum_by (λ (h : HeldView R D). count h.set.tally) before)
+    each count = ap (λ n. filled 0 n) (by_sets count after ∙ ap (λ l. sum_by (λ (s : SetState R D). count s.tally) l) same ∙ sym (by_sets count before))
 
 pub counted_all : {R D : Type 0} (sets : List (HeldView R D)) → counted_with no_counts sets ≡ counts_in sets
 counted_all [] = refl

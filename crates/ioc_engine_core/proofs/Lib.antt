@@ -7,3 +7,8 @@ mod Copies
 mod Keys
 mod DealtParts
 mod OnceAdding
+mod EachOnce
+mod Merging
+mod PartSizes
+mod SameKeys
+mod Numbered

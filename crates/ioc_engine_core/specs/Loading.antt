@@ -1,7 +1,9 @@
 -- A loaded database before its first event. Application Developer's Guide, "Database Locking,
 -- Scanning, and Processing": records that are connected by links are in one lock set.
-use Rattle.std.specs.Prelude.{◌≡◌, ℕ, ◌<◌, ◌≤◌, false, Option, None, List, [], map, length, All, slice_get, slice_index, slice_index_or}
+use Rattle.std.specs.Prelude.{◌≡◌, ℕ, ◌+◌, ◌-◌, ◌^◌, ◌<◌, ◌≤◌, false, Option, None, List, [], map, length, All, slice_get, slice_index, slice_index_or}
 use Rattle.std.specs.Option.{option_and_then}
+use Rattle.ioc_ledger.specs.Requests.{no_counts}
+use Rattle.ioc_ledger.specs.Shared.{ShareView}
 use Rattle.ioc_record.specs.RecordRules.{RecordRules}
 use Rattle.ioc_set_records.specs.Contents.{Contents, nothing}
 use Rattle.ioc_set_records.specs.Joined.{links_of, IsPart}
@@ -12,6 +14,11 @@ use Rattle.ioc_set_store.specs.Resting.{resting}
 use Rattle.ioc_set_records.specs.declared.loaded.Loaded.{Loaded}
 use Rattle.ioc_set_records.specs.Dealing.{HasPart}
 use Rattle.ioc_set_records.specs.Linked.{AreParts}
+
+-- Holds of the parts of the ledgers of counts that are left beside one for each of so many records.
+pub record IsSpare (spare : ShareView) (count : ℕ) : Type 0 where
+  pub parts : spare.parts + count ≡ 2 ^ 64 - 1
+  pub counts : spare.counts ≡ no_counts
 
 -- The world at the load, in which the records are numbered by their places.
 abbrev pub loaded_world : {R D : Type 0} → List (Loaded R D) → World R

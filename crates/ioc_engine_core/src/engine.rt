@@ -9,14 +9,18 @@ ghost use Rattle.ioc_store.specs.World.{Has};
 ghost use Rattle.ioc_set_store.specs.SetStore.{world_of};
 ghost use Rattle.ioc_history.specs.Account.{IsAccount, calls, calls_by};
 ghost use Rattle.ioc_journaled_set.specs.Puts.{HaveEnded};
+ghost use Rattle.std.specs.FinMap.{len};
+ghost use Rattle.ioc_engine_core.specs.Loading.{IsSpare};
 ghost use Rattle.ioc_engine_core.specs.Served.{WasTold, WasServed, CallIsRefused};
 
+use crate::spare_parts::SpareParts;
 use ioc_callback::OnceQueue;
 use ioc_device::Device;
 use ioc_events::{Event, Reply};
 use ioc_fields::FieldNo;
-use ioc_history::{Desk, Receipt, RequestTickets, SharedJournal};
+use ioc_history::{Desk, EngineCounts, Receipt, RequestTickets, SharedJournal};
 use ioc_journaled_set::{JournaledSet, Served, SetsName, SharedNotifications};
+use ioc_ledger::TallyShare;
 use ioc_names::RecordNo;
 use ioc_record::RecordKind;
 use ioc_set_store::EventBuffers;
@@ -39,6 +43,8 @@ pub struct EngineCore<K: RecordKind + Drop, B: SetsName<K, D>, D: Device> {
     pub(crate) once: Mutex<OnceQueue<RequestTickets<K, B>>>,
     // The number of items that events have dropped because 256 were sent already.
     pub(crate) dropped: AtomicU64,
+    // Locked at the end alone: a share may be sent to other threads, but not be seen by several.
+    pub(crate) spare: Mutex<SpareParts<K, B>>,
 }
 
 impl<K: RecordKind + Drop, B: SetsName<K, D>, D: Device> Model for EngineCore<K, B, D> {
@@ -48,23 +54,28 @@ impl<K: RecordKind + Drop, B: SetsName<K, D>, D: Device> Model for EngineCore<K,
 
     ghost use Rattle.std.specs.Prelude.{◌<◌};
     ghost use Rattle.ioc_store.specs.World.{Has};
+    ghost use Rattle.std.specs.Prelude.{◌≡◌};
+    ghost use Rattle.std.specs.FinMap.{len};
 
     ghost view = { λ e. e.sets };
 
-    ghost invariant = { λ e. (n : ℕ) → Has B.base n → n < e.sets };
+    ghost invariant = { λ e. ((n : ℕ) → Has B.base n → n < e.sets) × (len B.base.records ≡ e.sets) };
 }
 
 impl<K: RecordKind + Drop, B: SetsName<K, D>, D: Device> EngineCore<K, B, D> {
     /// Creates an engine with these sets, the journal of its calls, the table of its puts with
-    /// notification, and the list of its once requests. The sets were made for all records of the
-    /// load.
+    /// notification, the list of its once requests, and the parts of the ledgers of counts that no
+    /// set has. The sets were made for all records of the load.
     pub fn new(
         sets: Directory<JournaledSet<K, B, D>>,
         book: SharedJournal<K, B>,
         puts: SharedNotifications<K, B>,
         once: OnceQueue<RequestTickets<K, B>>,
+        spare: TallyShare<EngineCounts<K, B>>,
     ) -> Self
         requires known { (n : ℕ) → Has B.base n → n < sets }
+        requires records { len B.base.records ≡ sets }
+        requires spare { IsSpare spare sets }
         ensures { result ≡ sets }
     {
         EngineCore {
@@ -73,6 +84,7 @@ impl<K: RecordKind + Drop, B: SetsName<K, D>, D: Device> EngineCore<K, B, D> {
             puts: Mutex::new(puts),
             once: Mutex::new(once),
             dropped: AtomicU64::new(0),
+            spare: Mutex::new(SpareParts::new(spare)),
         }
     }
 

@@ -23,6 +23,7 @@ pub mod opening;
 mod parts;
 pub mod report;
 mod sending;
+pub mod spare_parts;
 pub mod starting;
 
 pub use ended_journal::EndedJournal;

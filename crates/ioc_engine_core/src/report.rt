@@ -1,8 +1,17 @@
 //! The end of the engine.
-ghost use Rattle.std.specs.Prelude.{◌≡◌, All};
-ghost use Rattle.ioc_journaled_set.specs.Holding.{KeepsDevices};
+ghost use Rattle.std.specs.Prelude.{◌≡◌, ◌<◌, ◌+◌, ℕ, All, map};
+ghost use Rattle.std.specs.FinMap.{len};
+ghost use Rattle.std.specs.List.{sum_by};
+ghost use Rattle.ioc_history.specs.Counting.{counts_of};
+ghost use Rattle.ioc_ledger.specs.Requests.{no_counts};
+ghost use Rattle.ioc_history.specs.Legal.{map_of};
+ghost use Rattle.ioc_store.specs.World.{Has};
+ghost use Rattle.ioc_topology.specs.Gathered.{HoldEach};
+ghost use Rattle.ioc_journaled_set.specs.Copies.{IsIn};
+ghost use Rattle.ioc_journaled_set.specs.Holding.{KeepsDevices, numbers_of};
 ghost use Rattle.ioc_journaled_set.specs.SameDevice.{IsDeviceOf};
 ghost use Rattle.ioc_engine_core.specs.Ended.{IsEnd, counts_in};
+ghost use Rattle.ioc_engine_core.specs.Loading.{IsSpare};
 ghost use Rattle.ioc_history.specs.Ticketed.{AreBack, AreTicketed};
 ghost use Rattle.ioc_history.specs.Places.{with_tickets};
 
@@ -11,9 +20,10 @@ use crate::ended_journal::EndedJournal;
 use crate::engine::EngineCore;
 use ioc_callback::OnceQueue;
 use ioc_device::Device;
-use ioc_history::{EngineName, Journal, RequestTickets, TicketTally};
+use ioc_history::legal_laws::lists_leave_sound;
+use ioc_history::{Cell, EngineCounts, EngineName, Journal, RequestTickets, TicketTally};
 use ioc_journaled_set::{JournaledSet, SetsName, move_all_on};
-use ioc_ledger::Tally;
+use ioc_ledger::{Tally, TallyShare};
 use ioc_record::RecordKind;
 use ioc_set::linking::add_counts;
 use std::alloc::Global;
@@ -64,6 +74,47 @@ fn counts_of<K: RecordKind + Drop, B: SetsName<K, D>, D: Device>(
     tally
 }
 
+// Takes the shares of all these sets, and merges them with the parts that no set has.
+fn merge_shares<K: RecordKind + Drop, B: SetsName<K, D>, D: Device, R: Wait>(
+    rt: &R,
+    spare: TallyShare<EngineCounts<K, B>>,
+    sets: &mut [JournaledSet<K, B, D>],
+) -> TallyShare<EngineCounts<K, B>>
+    requires none { spare.counts ≡ no_counts }
+    ensures sets { map (λ h. h.set) sets.new ≡ map (λ h. h.set) sets.old }
+    ensures parts { result.parts ≡ spare.parts + sum_by (λ h. len h.set.records) sets.old }
+    ensures counts { result.counts ≡ counts_in sets.old }
+{
+    let mut all = spare;
+    for place in 0..sets.len() {
+        all.merge(sets[place].take_share(rt));
+    }
+    all
+}
+
+// Moves these sets on to the whole list of the journal, and compares their shares, merged with the
+// parts that no set has, with the book: the counts of the sets are together those of all calls.
+fn settle<K: RecordKind + Drop, B: SetsName<K, D>, D: Device, R: Wait>(
+    rt: &R,
+    cell: &Cell,
+    journal: &mut Journal<K, B>,
+    spare: TallyShare<EngineCounts<K, B>>,
+    sets: &mut [JournaledSet<K, B, D>],
+)
+    requires table { cell.now.table.shared.table_id ≡ B.table }
+    requires all { (count : ℕ) × IsSpare spare count × HoldEach numbers_of sets.old count × ((n : ℕ) → Has B.base n → n < count) }
+    ensures sets { map (λ h. h.set) sets.new ≡ map (λ h. h.set) sets.old }
+    ensures are_in { All (IsIn (map_of K.rules B.base journal.old.filled)) sets.old }
+    ensures journal { journal.new ≡ journal.old }
+    ensures tally { counts_in sets.old ≡ counts_of K.rules B.base journal.old.filled }
+{
+    lists_leave_sound::<K>();
+    journal.is_legal();
+    move_all_on(rt, cell, journal, sets);
+    let mut share = merge_shares(rt, spare, sets);
+    journal.audit(&mut share);
+}
+
 // States that each record of these sets has its device.
 fn all_keep_devices<K: RecordKind + Drop, B: SetsName<K, D>, D: Device>(
     sets: &[JournaledSet<K, B, D>],
@@ -80,6 +131,7 @@ impl<K: RecordKind + Drop, B: SetsName<K, D>, D: Device> EngineCore<K, B, D> {
     pub fn stop<R: Wait>(self, rt: &R, alloc: Global) -> Report<K, B, D>
         ensures end { IsEnd K.rules B.base (IsDeviceOf D.gives B.devices) self result.journal.filled result.sets.items }
         ensures tickets { AreTicketed K.rules B.base result.journal.filled result.tickets }
+        ensures tally { counts_in result.sets.items ≡ counts_of K.rules B.base result.journal.filled }
     {
         let EngineCore {
             mut sets,
@@ -87,11 +139,13 @@ impl<K: RecordKind + Drop, B: SetsName<K, D>, D: Device> EngineCore<K, B, D> {
             puts: _,
             once,
             dropped,
+            spare,
         } = self;
         let mut all = sets.gather(rt, alloc);
         let (cell, mut journal) = book.into_parts();
         journal.is_legal();
-        move_all_on(rt, &cell, &mut journal, all.as_mut_slice());
+        let spare = spare.into_inner().into_share();
+        settle(rt, &cell, &mut journal, spare, all.as_mut_slice());
         all_sound(all.as_slice());
         all_keep_devices(all.as_slice());
         let once_dropped = give_up_all(once.into_inner(), &mut journal);

@@ -5,10 +5,13 @@ ghost use Rattle.ioc_history.specs.Line.{keeper};
 ghost use Rattle.ioc_history.specs.Account.{AreNoDesks, AreRecords};
 ghost use Rattle.ioc_history.specs.Places.{AreAllowed};
 ghost use Rattle.ioc_history.specs.Legal.{IsSound};
+ghost use Rattle.std.specs.FinMap.{len};
 ghost use Rattle.ioc_store.specs.World.{Has};
 ghost use Rattle.ioc_set_records.specs.Joined.{IsClosed};
 ghost use Rattle.ioc_set_records.specs.Linked.{AreParts, links_in};
-ghost use Rattle.ioc_engine_core.specs.Loading.{loaded_world, device_in, IsIdle};
+ghost use Rattle.ioc_engine_core.specs.Loading.{loaded_world, device_in, IsIdle, IsSpare};
+ghost use Rattle.ioc_ledger.specs.Requests.{no_counts};
+ghost use Rattle.ioc_ledger.specs.Shared.{share_view, names_of};
 ghost use Rattle.ioc_engine_core.specs.declared.starting.StartError.TheVariants.{BadValue, NotAtRest, LinkLeaves};
 
 use crate::engine::EngineCore;
@@ -17,9 +20,11 @@ use ioc_callback::OnceQueue;
 use ioc_device::Device;
 use ioc_history::legal_laws::lists_leave_sound;
 use ioc_history::{
-    Cell, EngineName, Journal, KeyPass, Limits, RequestTickets, SharedJournal, TicketCounts, pass,
+    Cell, EngineCounts, EngineName, Journal, KeyPass, Limits, RequestTickets, SharedJournal,
+    TicketCounts, pass,
 };
 use ioc_journaled_set::{JournaledSet, SetsName, SharedNotifications};
+use ioc_ledger::{CountBlanks, TallyBook, TallyShare};
 use ioc_record::RecordKind;
 use ioc_set_records::loaded_laws::dealt_sets_are_parts;
 use ioc_set_records::{Loaded, deal, parts_of};
@@ -107,11 +112,13 @@ fn startable_parts<K: RecordKind, D>(
 }
 
 // Creates all that an engine has beside the journal: the sets of all parts, the table and the list.
-// The cell and the pass are passed by reference, so a failed allocation drops neither.
+// The cell, the pass and the share are passed by reference, so a failed allocation drops none of
+// them.
 fn holdings<K: RecordKind + Drop, B: SetsName<K, D>, D: Device>(
     alloc: Global,
     cell: &Cell,
     master: &mut KeyPass,
+    spare: &mut TallyShare<EngineCounts<K, B>>,
     all: Vec<Loaded<K, D>>,
     parts: &[usize],
 ) -> Result<
@@ -124,6 +131,7 @@ fn holdings<K: RecordKind + Drop, B: SetsName<K, D>, D: Device>(
 >
     requires table { (cell.now.table.shared.table_id ≡ B.table) × (master.old.table_id ≡ B.table) }
     requires master { cell_view master.old ≡ keeper [] [] }
+    requires spare { spare.old ≡ share_view (2 ^ 64 - 1) no_counts }
     requires base { B.base ≡ loaded_world all.items }
     requires devices { B.devices ≡ device_in all.items }
     requires copies { All (λ l. l.base ≡ l.fields) all.items }
@@ -131,23 +139,25 @@ fn holdings<K: RecordKind + Drop, B: SetsName<K, D>, D: Device>(
     requires parts { AreParts K.rules all.items parts.now }
     ensures count { IfOk result (λ x. x.0 ≡ length all.items) }
     ensures known { IfOk result (λ x. (n : ℕ) → Has B.base n → n < x.0) }
+    ensures records { IfOk result (λ x. len B.base.records ≡ x.0) }
     ensures table { OnOk result (master.new.table_id ≡ B.table) }
     ensures master { OnOk result (cell_view master.new ≡ keeper [] (cell_view master.new).born) }
     ensures born { OnOk result (AreNoDesks (cell_view master.new).born) }
     ensures sound { OnOk result (IsSound K.rules B.base) }
+    ensures spare { IfOk result (λ x. IsSpare spare.new x.0) }
 {
     dealt_sets_are_parts::<K, D>();
     lists_leave_sound::<K>();
     let mut sets = deal(alloc, all, parts)?;
-    let directory = hold_all::<K, B, D>(alloc, cell, master, sets.as_mut_slice(), parts)?;
+    let directory = hold_all::<K, B, D>(alloc, cell, master, spare, sets.as_mut_slice(), parts)?;
     let (puts, once) = new_lists::<K, B>(alloc, cell, master)?;
     Ok((directory, puts, once))
 }
 
 /// Starts an engine with these records, each with its device. No record was requested yet. `B`
 /// names the engine: its cell, the world and the devices of the records at the load, the ledger of
-/// places and that of tickets. To start an engine, call a function that is generic over such a
-/// name with `Brand` for `B`.
+/// places, that of tickets, and those of counts. To start an engine, call a function that is generic
+/// over such a name with `Brand` for `B`.
 ///
 /// # Errors
 ///
@@ -158,6 +168,7 @@ pub fn start<K: RecordKind + Drop, B: SetsName<K, D>, D: Device>(
     master: KeyPass,
     blank: Blank,
     tickets: Blank,
+    counts: CountBlanks,
     all: Vec<Loaded<K, D>>,
     limits: Limits,
 ) -> Result<EngineCore<K, B, D>, StartError>
@@ -165,6 +176,7 @@ pub fn start<K: RecordKind + Drop, B: SetsName<K, D>, D: Device>(
     requires master { cell_view master ≡ keeper [] [] }
     requires places { (blank.name ≡ B.places) × (blank.parts ≡ 2 ^ 64 - 1) }
     requires tickets { (tickets.name ≡ B.tickets) × (tickets.parts ≡ 2 ^ 64 - 1) }
+    requires counts { B.counts ≡ names_of counts }
     requires base { B.base ≡ loaded_world all.items }
     requires devices { B.devices ≡ device_in all.items }
     requires copies { All (λ l. l.base ≡ l.fields) all.items }
@@ -178,16 +190,23 @@ pub fn start<K: RecordKind + Drop, B: SetsName<K, D>, D: Device>(
 {
     let parts = startable_parts(alloc, &all, limits)?;
     let mut master = master;
-    let Ok((directory, puts, once)) = holdings::<K, B, D>(alloc, &cell, &mut master, all, &parts)
-    else {
+    let (counted, mut spare) = TallyBook::open(counts);
+    let Ok((directory, puts, once)) = holdings::<K, B, D>(
+        alloc,
+        &cell,
+        &mut master,
+        &mut spare,
+        all,
+        &parts,
+    ) else {
         return Err(StartError::NoMemory);
     };
-    let Ok((journal, free)) = Journal::new(alloc, master, blank, TicketCounts::new(tickets), limits)
-    else {
+    let tickets = TicketCounts::new(tickets);
+    let Ok((journal, free)) = Journal::new(alloc, master, blank, tickets, counted, limits) else {
         return Err(StartError::NoMemory);
     };
     let Ok(book) = SharedJournal::new(alloc, cell, journal, free, limits.checkpoint_at) else {
         return Err(StartError::NoMemory);
     };
-    Ok(EngineCore::new(directory, book, puts, once))
+    Ok(EngineCore::new(directory, book, puts, once, spare))
 }

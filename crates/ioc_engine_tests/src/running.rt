@@ -267,7 +267,7 @@ fn run<B: EngineName<D> + Send + Sync, D: Device + Send + Sync, R: Threads + Wai
     limits: Limits,
     work: Work<'_>,
 ) -> Option<Ended>
-    requires named { IsNamedBy B.table B.base B.devices B.places B.tickets seed }
+    requires named { IsNamedBy B.table B.base B.devices B.places B.tickets B.counts seed }
 {
     let clock = CountingClock::new();
     let Ok(engine) = Engine::<B, D, CountingClock>::start(alloc, seed, clock, limits) else {

@@ -4,6 +4,7 @@ mod Bases
 mod Begun
 mod Calls
 mod Counting
+mod CountsThen
 mod Doing
 mod Endings
 mod Ends

@@ -1,6 +1,9 @@
 -- The counts of calls, the requests among them, and the once requests that they send. Application
 -- Developer's Guide, "Scanning": scanOnce. The counts are this project's own.
-use Rattle.std.specs.Prelude.{◌≡◌, ℕ, ◌+◌, ◌<◌, ◌≤◌, ◌^◌, List, [], ◌∷◌, ◌++◌, length}
+use Rattle.std.specs.Prelude.{◌≡◌, ℕ, ◌+◌, ◌<◌, ◌≤◌, ◌^◌, Bool, List, [], ◌∷◌, ◌++◌, length, Option, Some, None, MatchOption}
+use Rattle.std.specs.Option.{IfSome}
+use Rattle.ioc_ledger.specs.Requests.{Requests, counted_all, no_counts}
+use Rattle.ioc_ledger.specs.Shared.{ShareView, share_view}
 use Rattle.ioc_ledger.specs.declared.tally.Tally.{Tally}
 use Rattle.ioc_ledger.specs.Counts.{Counts}
 use Rattle.ioc_record.specs.RecordRules.{RecordRules}
@@ -11,7 +14,6 @@ use Rattle.ioc_events.specs.declared.event.Entry.{Entry}
 use Rattle.ioc_events.specs.declared.event.Event.{Event}
 use Rattle.ioc_events.specs.declared.event.Event.TheVariants.{Process}
 use Rattle.ioc_events.specs.Step.{tallied}
-use Rattle.ioc_history.specs.declared.entry.JournalEntry.{JournalEntry}
 use Rattle.ioc_history.specs.declared.entry.Note.{Note}
 use Rattle.ioc_history.specs.Key.{Key}
 use Rattle.ioc_history.specs.Line.{noted, Continues}
@@ -42,6 +44,26 @@ pub record AreTickets (t : Counts) (sent requests once : ℕ) : Type 0 where
   pub sent_are : requests + once < 2 ^ 64 → sent ≡ once
   pub begun : requests + once < 2 ^ 64 → t.begun ≤ requests + once
 
+-- Holds if the share, if there is one, has a part, and the counts before an event.
+abbrev pub IsBacked : Option ShareView → Tally → Type 0
+IsBacked share before = IfSome share (λ s. (0 < s.parts) × (s.counts ≡ before))
+
+-- Holds if what an event adds to these counts are requests, calls that are answered later, and a
+-- completion.
+abbrev pub IsCountedOn : Tally → Tally → Type 0
+IsCountedOn before after = (requests : Requests) × (later : ℕ) × (completes : Bool) × (after ≡ counted_all before requests later completes)
+
+-- Holds if the share, if there is one, is given back with the counts after an event.
+abbrev pub IsGivenBack : Option ShareView → Tally → Option ShareView → Type 0
+IsGivenBack share after back = MatchOption share (back ≡ None) (λ s. back ≡ Some (share_view s.parts after))
+
+-- Holds if the book counts what has moved the counts of a share on from one tally to another, and is
+-- unchanged without a share.
+abbrev pub IsRecorded : Option ShareView → (before after book book_then : Tally) → Type 0
+IsRecorded share before after book book_then =
+    MatchOption share (book_then ≡ book)
+    (λ _. (requests : Requests) (later : ℕ) (completes : Bool) → after ≡ counted_all before requests later completes → book_then ≡ counted_all book requests later completes)
+
 module _ {R : Type 0} (k : RecordRules R) where
   -- The tally with what the event of a note counts on a world.
   abbrev pub tallied_by : Tally → World R → Note → Tally
@@ -61,6 +83,21 @@ module _ {R : Type 0} (k : RecordRules R) where
     pub tally : (t : Tally) → tallied_by t m n ≡ tallied_by t v n
     pub once : once_by m n ≡ once_by v n
 
+  -- The tally with what these calls count on a world and those that follow it.
+  abbrev pub counts_on : Tally → World R → List Note → Tally
+  counts_on t m [] = t
+  counts_on t m (n ∷ notes) = counts_on (tallied_by t m n) (done k m n).world notes
+
+  -- The counts of these calls: of all requests that they make, of the calls of devices that are
+  -- answered later, and of the completions among them.
+  abbrev pub counts_of : World R → List Note → Tally
+  counts_of m notes = counts_on no_counts m notes
+
+  -- Holds if the event of a note moves the tally of its set on from one to another, or, if it comes
+  -- without a share, counts nothing.
+  abbrev pub DoesCount : World R → Note → Option ShareView → Tally → Tally → Type 0
+  DoesCount m n share before after = MatchOption share ((t : Tally) → tallied_by t m n ≡ t) (λ _. after ≡ tallied_by before m n)
+
   module _ (base : World R) where
     -- Holds if an event sends this many once requests after any legal list that continues from one
     -- that was seen, without the keys.
@@ -72,6 +109,17 @@ module _ {R : Type 0} (k : RecordRules R) where
     abbrev pub BothMaySend : List Note → List Key → List Note → List Key → Entry → ℕ → Type 0
     BothMaySend seen owned also_seen also_owned made sent = (log : List Note) (desk call : ℕ) (own : List Key) → IsSound k base → Continues seen owned log → Continues also_seen also_owned log → IsLegal k base log
         → sent ≡ once_by (map_of k base log) (noted (journalled desk call made) ((owned ++ also_owned) ++ own))
+
+    -- Holds if an event counts this after any legal list that continues from one that was seen,
+    -- without the keys.
+    abbrev pub MayCount : List Note → List Key → Entry → Option ShareView → Tally → Tally → Type 0
+    MayCount seen owned made share before after = (log : List Note) (desk call : ℕ) (own : List Key) → IsSound k base → Continues seen owned log → IsLegal k base log
+        → DoesCount (map_of k base log) (noted (journalled desk call made) (owned ++ own)) share before after
+
+    -- The same for an event that concerns two passes.
+    abbrev pub BothMayCount : List Note → List Key → List Note → List Key → Entry → Option ShareView → Tally → Tally → Type 0
+    BothMayCount seen owned also_seen also_owned made share before after = (log : List Note) (desk call : ℕ) (own : List Key) → IsSound k base → Continues seen owned log → Continues also_seen also_owned log → IsLegal k base log
+        → DoesCount (map_of k base log) (noted (journalled desk call made) ((owned ++ also_owned) ++ own)) share before after
 
     -- Holds if the requests of these calls and the once requests that they send are fewer than 2^64.
     abbrev pub IsFew : List Note → Type 0

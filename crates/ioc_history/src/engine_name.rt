@@ -3,7 +3,7 @@ use crate::CellName;
 use std::marker::Brand;
 
 /// Names an engine: its cell, the world at the load, the ledger of the held places of its journal,
-/// and the ledger of the tickets of its requests. Its records are of kind `K`.
+/// the ledger of the tickets of its requests, and those of its counts. Its records are of kind `K`.
 pub trait EngineName<K>: CellName {
     ghost use Rattle.std.specs.Prelude.{ℕ};
     ghost use Rattle.ioc_store.specs.World.{World};
@@ -16,6 +16,9 @@ pub trait EngineName<K>: CellName {
 
     /// The name of the ledger of the tickets of requests.
     ghost tickets: { ℕ };
+
+    /// The names of the ledgers of counts.
+    ghost counts: { ℕ → ℕ };
 }
 
 impl<K> EngineName<K> for Brand {
@@ -26,4 +29,6 @@ impl<K> EngineName<K> for Brand {
     ghost places = { 0 };
 
     ghost tickets = { 0 };
+
+    ghost counts = { λ _. 0 };
 }

@@ -1,5 +1,5 @@
 //! All calls of an engine in one order.
-ghost use Rattle.std.specs.Prelude.{◌≡◌, ◌↔◌, ◌+◌, ◌-◌, ◌^◌, ◌++◌, [], if◌then◌else◌, IfOk, IfErr, OnOk, OnErr};
+ghost use Rattle.std.specs.Prelude.{◌≡◌, ◌↔◌, ◌<◌, ◌≤◌, ◌+◌, ◌-◌, ◌^◌, ◌++◌, [], if◌then◌else◌, IfOk, IfErr, OnOk, OnErr};
 ghost use Rattle.crossbeam_utils.specs.Seq.{cell_view};
 ghost use Rattle.ioc_history.specs.Key.{Key, Has};
 ghost use Rattle.ioc_history.specs.Line.{keeper, holder, Continues};
@@ -7,7 +7,9 @@ ghost use Rattle.ioc_history.specs.Legal.{IsLegal, IsSound};
 ghost use Rattle.ioc_values.specs.declared.error.IocError.TheVariants.{JournalFull};
 ghost use Rattle.ioc_history.specs.Account.{AreNoDesks, AreRecords, IsHolder, MayFollow, BothMayFollow, MayBegin, Call, Added, AddedByBoth, AreMerged, calls, calls_by, journalled};
 ghost use Rattle.ioc_history.specs.Stored.{IsStored};
-ghost use Rattle.ioc_history.specs.Counting.{MaySend, BothMaySend, IsFew};
+ghost use Rattle.ioc_history.specs.Counting.{MaySend, BothMaySend, MayCount, BothMayCount, IsBacked, IsGivenBack, IsFew, counts_of};
+ghost use Rattle.ioc_ledger.specs.Requests.{no_counts};
+ghost use Rattle.ioc_ledger.specs.Shared.{share_view, less_awaited};
 ghost use Rattle.ioc_history.specs.Ticketed.{tickets_view, AreBack, AreTicketed};
 ghost use Rattle.ioc_ledger.specs.Counts.{counts};
 ghost use Rattle.ioc_history.specs.Places.{AreAllowed, journal_of, one_more_desk, with_tickets};
@@ -16,6 +18,7 @@ use crate::base::JournalBase;
 use crate::desk::Desk;
 use crate::engine_name::EngineName;
 use crate::entries::{Entries, Piece};
+use crate::event_counts::{EngineCounts, EventCounts, record_event};
 use crate::free_places::{FreePlaces, Place};
 use crate::key_division::{deal, take_over};
 use crate::limits::Limits;
@@ -23,7 +26,7 @@ use crate::receipt::Receipt;
 use crate::request_tickets::{RequestTickets, TicketCounts, TicketTally};
 use crate::stored_entry::StoredEntry;
 use crate::{Cell, EntryName, KeyPass, Keys, pass};
-use ioc_ledger::{Ticket, Tickets};
+use ioc_ledger::{TallyBook, TallyShare, Ticket, Tickets};
 use ioc_record::RecordKind;
 use ioc_values::IocError;
 use std::alloc::{AllocError, Global};
@@ -43,6 +46,8 @@ pub struct Journal<K: RecordKind, B: EngineName<K>> {
     pub(crate) from: Option<JournalBase<K>>,
     desks: u64,
     pub(crate) tickets: TicketCounts<K, B>,
+    // The counts of all calls.
+    pub(crate) counted: TallyBook<EngineCounts<K, B>>,
     pub(crate) pass: KeyPass,
 }
 
@@ -61,7 +66,7 @@ impl<K: RecordKind, B: EngineName<K>> Model for Journal<K, B> {
 
     ghost view = { λ j. journal_of (cell_view j.pass).seen j.dropped j.entries.given j.entries.limit j.desks j.tickets };
 
-    ghost invariant = { λ j. IsKept K.rules B.base B.table j.pass.table_id (cell_view j.pass) j.entries.filled j.dropped j.from j.desks j.tickets };
+    ghost invariant = { λ j. IsKept K.rules B.base B.table j.pass.table_id (cell_view j.pass) j.entries.filled j.dropped j.from j.desks j.tickets j.counted };
 }
 
 /// A call that was added to the journal.
@@ -70,11 +75,14 @@ pub struct Appended<K: RecordKind, B: EngineName<K>> {
     pub receipt: Receipt<K, B>,
     /// The tickets of the once requests that the event has sent.
     pub tickets: Tickets<RequestTickets<K, B>>,
+    /// The share of the set on which the event was done, if it came with one.
+    pub share: Option<TallyShare<EngineCounts<K, B>>>,
 }
 
 impl<K: RecordKind, B: EngineName<K>> Journal<K, B> {
-    /// Creates a journal without calls, with the tickets of their requests, and the free places
-    /// that it has memory for. The keeper's pass has created only keys of records.
+    /// Creates a journal without calls, with the tickets of their requests and the book of their
+    /// counts, and the free places that it has memory for. The keeper's pass has created only keys of
+    /// records.
     ///
     /// # Errors
     ///
@@ -84,6 +92,7 @@ impl<K: RecordKind, B: EngineName<K>> Journal<K, B> {
         master: KeyPass,
         blank: Blank,
         tickets: TicketCounts<K, B>,
+        counted: TallyBook<EngineCounts<K, B>>,
         limits: Limits,
     ) -> Result<(Self, FreePlaces<K, B>), AllocError>
         requires table { master.table_id ≡ B.table }
@@ -91,18 +100,26 @@ impl<K: RecordKind, B: EngineName<K>> Journal<K, B> {
         requires given { AreNoDesks (cell_view master).born }
         requires name { blank.name ≡ B.places }
         requires parts { blank.parts ≡ 2 ^ 64 - 1 }
-        requires none { tickets ≡ tickets_view (counts 0 0 0 0) 0 }
+        requires none { (tickets ≡ tickets_view (counts 0 0 0 0) 0) × (counted ≡ no_counts) }
         requires limits { AreAllowed limits }
         requires sound { IsSound K.rules B.base }
         ensures { IfOk result (λ x. x.0 ≡ journal_of [] 0 x.1 limits.journal 0 tickets) }
     {
         let (entries, free) = Entries::new(alloc, blank, limits)?;
-        Ok((Journal::without_calls(entries, tickets, master), free))
+        Ok((
+            Journal::without_calls(entries, tickets, counted, master),
+            free,
+        ))
     }
 
     // Creates a journal with these entries, of which there are none.
-    fn without_calls(entries: Entries<K, B>, tickets: TicketCounts<K, B>, master: KeyPass) -> Self
-        requires none { entries.filled ≡ [] }
+    fn without_calls(
+        entries: Entries<K, B>,
+        tickets: TicketCounts<K, B>,
+        counted: TallyBook<EngineCounts<K, B>>,
+        master: KeyPass,
+    ) -> Self
+        requires none { (entries.filled ≡ []) × (counted ≡ no_counts) }
         requires tickets { tickets ≡ tickets_view (counts 0 0 0 0) 0 }
         requires table { master.table_id ≡ B.table }
         requires pass { cell_view master ≡ keeper [] (cell_view master).born }
@@ -116,6 +133,7 @@ impl<K: RecordKind, B: EngineName<K>> Journal<K, B> {
             from: None,
             desks: 0,
             tickets,
+            counted,
             pass: master,
         }
     }
@@ -172,9 +190,8 @@ impl<K: RecordKind, B: EngineName<K>> Journal<K, B> {
         self.entries.add_piece(piece)
     }
 
-    /// Adds the next call of a desk, of the event that `S` names, which sends this many
-    /// once requests. The caller holds the lock of the set that the call concerns; all keys of the
-    /// set's pass are noted.
+    /// Adds the next call of a desk, of the event that `S` names, with what it counts. The caller
+    /// holds the lock of the set that the call concerns; all keys of the set's pass are noted.
     #[inline(always)]
     pub fn append<S: EntryName, R: Wait>(
         &mut self,
@@ -184,17 +201,21 @@ impl<K: RecordKind, B: EngineName<K>> Journal<K, B> {
         set: &mut KeyPass,
         desk: &mut Desk<K, B>,
         made: StoredEntry,
-        sent: u64,
+        counts: EventCounts<K, B>,
     ) -> Appended<K, B>
         requires table { (cell.now.table.shared.table_id ≡ B.table) × (set.old.table_id ≡ B.table) }
         requires set { IsHolder (cell_view set.old) × AreNoDesks (cell_view set.old).owns }
         requires stored { IsStored (journalled desk.old.number desk.old.next S.entry) made }
         requires follows { MayFollow K.rules B.base (cell_view set.old).seen (cell_view set.old).owns S.entry }
         requires begins { MayBegin (cell_view set.old).seen (cell_view set.old).owns S.entry.event }
-        requires sent { MaySend K.rules B.base (cell_view set.old).seen (cell_view set.old).owns S.entry sent }
+        requires sent { MaySend K.rules B.base (cell_view set.old).seen (cell_view set.old).owns S.entry counts.sent }
+        requires counts { MayCount K.rules B.base (cell_view set.old).seen (cell_view set.old).owns S.entry
+            counts.share counts.before counts.after }
+        requires backed { IsBacked counts.share counts.before }
         ensures call { Call K.rules B.base desk.old S.entry desk.new }
         ensures receipt { result.receipt ≡ desk.new.seen }
-        ensures tickets { IsFew K.rules B.base self.new.filled → result.tickets ≡ sent }
+        ensures tickets { IsFew K.rules B.base self.new.filled → result.tickets ≡ counts.sent }
+        ensures share { IsGivenBack counts.share counts.after result.share }
         ensures list { self.new ≡ journal_of desk.new.seen self.old.dropped self.old.given self.old.limit self.old.desks self.new.tickets }
         ensures set { (set.new.table_id ≡ set.old.table_id) × (cell_view set.new ≡ holder self.new.filled (cell_view set.old).owns) }
         ensures added { Added K.rules B.base (cell_view set.old).seen (cell_view set.old).owns S.entry self.old.filled self.new.filled }
@@ -202,7 +223,8 @@ impl<K: RecordKind, B: EngineName<K>> Journal<K, B> {
         let index = self.dropped + self.entries.len() as u64;
         let is_request = made.is_request();
         let pass = pass::append(rt, cell, &mut self.pass, set, &mut desk.pass, &made);
-        let tickets = self.tickets.add(is_request, sent);
+        let tickets = self.tickets.add(is_request, counts.sent);
+        let share = record_event(&mut self.counted, counts);
         self.entries.fill(place, made);
         desk.next += 1;
         let receipt = Receipt {
@@ -211,12 +233,17 @@ impl<K: RecordKind, B: EngineName<K>> Journal<K, B> {
             of: PhantomData,
             kind: PhantomData,
         };
-        Appended { receipt, tickets }
+        Appended {
+            receipt,
+            tickets,
+            share,
+        }
     }
 
-    /// Adds the next call of a desk, of the event that `S` names, which concerns two sets and
-    /// sends this many once requests. The caller holds the locks of both. Afterwards the first pass owns the keys of `P` and the
-    /// second the rest of `P`.
+    /// Adds the next call of a desk, of the event that `S` names, which concerns two sets, with what
+    /// it counts. The caller holds the locks of both. Afterwards the first pass owns the keys of `P`
+    /// and the second the rest of `P`.
+    #[inline(always)]
     pub fn append_two<P: Keys, S: EntryName, R: Wait>(
         &mut self,
         rt: &R,
@@ -226,7 +253,7 @@ impl<K: RecordKind, B: EngineName<K>> Journal<K, B> {
         other: &mut KeyPass,
         desk: &mut Desk<K, B>,
         made: StoredEntry,
-        sent: u64,
+        counts: EventCounts<K, B>,
     ) -> Appended<K, B>
         requires table { (cell.now.table.shared.table_id ≡ B.table) × (one.old.table_id ≡ B.table) × (other.old.table_id ≡ B.table) }
         requires one { IsHolder (cell_view one.old) × AreRecords (cell_view one.old).owns }
@@ -238,10 +265,14 @@ impl<K: RecordKind, B: EngineName<K>> Journal<K, B> {
             (cell_view other.old).owns S.entry }
         requires begins { MayBegin (cell_view other.old).seen (cell_view other.old).owns S.entry.event }
         requires sent { BothMaySend K.rules B.base (cell_view one.old).seen (cell_view one.old).owns (cell_view other.old).seen
-            (cell_view other.old).owns S.entry sent }
+            (cell_view other.old).owns S.entry counts.sent }
+        requires counts { BothMayCount K.rules B.base (cell_view one.old).seen (cell_view one.old).owns (cell_view other.old).seen
+            (cell_view other.old).owns S.entry counts.share counts.before counts.after }
+        requires backed { IsBacked counts.share counts.before }
         ensures call { Call K.rules B.base desk.old S.entry desk.new }
         ensures receipt { result.receipt ≡ desk.new.seen }
-        ensures tickets { IsFew K.rules B.base self.new.filled → result.tickets ≡ sent }
+        ensures tickets { IsFew K.rules B.base self.new.filled → result.tickets ≡ counts.sent }
+        ensures share { IsGivenBack counts.share counts.after result.share }
         ensures list { self.new ≡ journal_of desk.new.seen self.old.dropped self.old.given self.old.limit self.old.desks self.new.tickets }
         ensures one { (one.new.table_id ≡ one.old.table_id) × (cell_view one.new ≡ holder self.new.filled P.keys) }
         ensures other { (other.new.table_id ≡ other.old.table_id) × (cell_view other.new ≡ holder self.new.filled P.rest) }
@@ -252,7 +283,8 @@ impl<K: RecordKind, B: EngineName<K>> Journal<K, B> {
         let index = self.dropped + self.entries.len() as u64;
         let is_request = made.is_request();
         let pass = deal::<P, R>(rt, cell, &mut self.pass, one, other, &mut desk.pass, &made);
-        let tickets = self.tickets.add(is_request, sent);
+        let tickets = self.tickets.add(is_request, counts.sent);
+        let share = record_event(&mut self.counted, counts);
         self.entries.fill(place, made);
         desk.next = call + 1;
         let receipt = Receipt {
@@ -261,7 +293,11 @@ impl<K: RecordKind, B: EngineName<K>> Journal<K, B> {
             of: PhantomData,
             kind: PhantomData,
         };
-        Appended { receipt, tickets }
+        Appended {
+            receipt,
+            tickets,
+            share,
+        }
     }
 
     /// Takes back the ticket of a request that wasn't made.
@@ -286,6 +322,35 @@ impl<K: RecordKind, B: EngineName<K>> Journal<K, B> {
         ensures { AreTicketed K.rules B.base self.now.filled result }
     {
         self.tickets.tally()
+    }
+
+    /// Moves calls that are answered later from the counts of a share to those of another, which has
+    /// none yet. A full count stays full.
+    pub fn divide_started(
+        &mut self,
+        share: &mut TallyShare<EngineCounts<K, B>>,
+        other: &mut TallyShare<EngineCounts<K, B>>,
+        started: u64,
+        count: u64,
+    )
+        requires started { started ≡ share.old.counts.started }
+        requires enough { count ≤ started }
+        requires none { other.old.counts ≡ no_counts }
+        requires parts { 0 < count → 0 < other.old.parts }
+        ensures share { share.new ≡ share_view share.old.parts (less_awaited share.old.counts count) }
+        ensures other { other.new ≡ share_view other.old.parts (record no_counts { started = count }) }
+        ensures same { self.new ≡ self.old }
+    {
+        self.counted.divide_started(share, other, started, count);
+    }
+
+    /// Compares the share that has all parts with the book: its counts are those of all calls.
+    pub fn audit(&mut self, share: &mut TallyShare<EngineCounts<K, B>>)
+        requires parts { share.old.parts ≡ 2 ^ 64 - 1 }
+        ensures same { (self.new ≡ self.old) × (share.new ≡ share.old) }
+        ensures counts { share.old.counts ≡ counts_of K.rules B.base self.old.filled }
+    {
+        self.counted.audit(share);
     }
 
     /// Compares two passes: they have no key in common. Afterwards both know the whole list.

@@ -81,6 +81,9 @@ impl<K, B: EngineName<K>> TicketCounts<K, B> {
             let ticket = self.ledger.begin();
             self.ledger.spend(ticket);
         }
+        if sent == 0 {
+            return self.ledger.begin_many(0);
+        }
         self.sent = self.sent.saturating_add(sent);
         self.ledger.begin_many(sent)
     }
@@ -104,6 +107,8 @@ impl<K, B: EngineName<K>> TicketCounts<K, B> {
         ensures begun { result.begun ≡ self.now.counts.begun }
         ensures sent { result.sent ≡ self.now.sent }
         ensures spent { result.spent ≡ self.now.counts.spent }
+        ensures handed_back { result.handed_back ≡ self.now.counts.back }
+        ensures out { result.out ≡ self.now.counts.out }
         ensures all { result.begun ≡ result.spent + result.handed_back + result.out }
     {
         let out = self.ledger.out();

@@ -1,17 +1,20 @@
 //! The journal under its lock.
-ghost use Rattle.std.specs.Prelude.{◌≡◌, ◌++◌, List, [], IfOk, IfErr};
+ghost use Rattle.std.specs.Prelude.{◌≡◌, ◌<◌, ◌≤◌, ◌++◌, List, [], IfOk, IfErr};
 ghost use Rattle.crossbeam_utils.specs.Seq.{cell_view};
 ghost use Rattle.ioc_history.specs.declared.entry.Note.{Note};
 ghost use Rattle.ioc_history.specs.Key.{Key, Has};
 ghost use Rattle.ioc_history.specs.Line.{holder};
 ghost use Rattle.ioc_history.specs.Account.{IsHolder, AreNoDesks, AreRecords, MayFollow, BothMayFollow, MayBegin, Call, Added, AddedByBoth, AreKnown, AreMerged, calls, calls_by};
 ghost use Rattle.ioc_history.specs.Places.{IsNoPlace};
-ghost use Rattle.ioc_history.specs.Counting.{MaySend, BothMaySend, IsFew};
+ghost use Rattle.ioc_history.specs.Counting.{MaySend, BothMaySend, MayCount, BothMayCount, IsBacked, IsGivenBack, IsFew};
+ghost use Rattle.ioc_ledger.specs.Requests.{no_counts};
+ghost use Rattle.ioc_ledger.specs.Shared.{share_view, less_awaited};
 ghost use Rattle.ioc_values.specs.declared.error.IocError.TheVariants.{JournalFull};
 
 use crate::desk::Desk;
 use crate::engine_name::EngineName;
 use crate::entries::Piece;
+use crate::event_counts::{EngineCounts, EventCounts};
 use crate::free_places::{FreePlaces, Place};
 use crate::gate::Gate;
 use crate::journal::{Appended, Journal};
@@ -22,7 +25,7 @@ use crate::stored_entry::StoredEntry;
 use crate::{Cell, EntryName, KeyPass, Keys};
 use crossbeam_utils::CachePadded;
 use ioc_events::Entry;
-use ioc_ledger::Tickets;
+use ioc_ledger::{TallyShare, Tickets};
 use ioc_record::RecordKind;
 use ioc_values::IocError;
 use std::alloc::{AllocError, Global};
@@ -217,28 +220,32 @@ impl<K: RecordKind, B: EngineName<K>> SharedJournal<K, B> {
         set: &mut KeyPass,
         desk: &mut Desk<K, B>,
         entry: Entry,
-        sent: u64,
+        counts: EventCounts<K, B>,
     ) -> Appended<K, B>
         requires entry { S.entry ≡ entry }
         requires table { set.old.table_id ≡ B.table }
         requires set { IsHolder (cell_view set.old) × AreNoDesks (cell_view set.old).owns }
         requires follows { MayFollow K.rules B.base (cell_view set.old).seen (cell_view set.old).owns S.entry }
         requires begins { MayBegin (cell_view set.old).seen (cell_view set.old).owns S.entry.event }
-        requires sent { MaySend K.rules B.base (cell_view set.old).seen (cell_view set.old).owns S.entry sent }
+        requires sent { MaySend K.rules B.base (cell_view set.old).seen (cell_view set.old).owns S.entry counts.sent }
+        requires counts { MayCount K.rules B.base (cell_view set.old).seen (cell_view set.old).owns S.entry
+            counts.share counts.before counts.after }
+        requires backed { IsBacked counts.share counts.before }
         ensures call { Call K.rules B.base desk.old S.entry desk.new }
         ensures receipt { result.receipt ≡ desk.new.seen }
-        ensures tickets { IsFew K.rules B.base desk.new.seen → result.tickets ≡ sent }
+        ensures tickets { IsFew K.rules B.base desk.new.seen → result.tickets ≡ counts.sent }
+        ensures share { IsGivenBack counts.share counts.after result.share }
         ensures set { (set.new.table_id ≡ set.old.table_id) × (cell_view set.new ≡ holder desk.new.seen (cell_view set.old).owns) }
         ensures added { (log : List Note) × Added K.rules B.base (cell_view set.old).seen (cell_view set.old).owns S.entry log desk.new.seen }
     {
         let made = StoredEntry::new(desk.number, desk.next, entry);
         let mut guard = lock_soon(rt, &self.journal);
         let journal = &mut *guard;
-        journal.append::<S, R>(rt, &self.cell, place, set, desk, made, sent)
+        journal.append::<S, R>(rt, &self.cell, place, set, desk, made, counts)
     }
 
-    /// Adds a call of a desk, whose event sends this many once requests. The caller holds the lock of
-    /// the set that the call concerns; all keys of the set's pass are noted. Afterwards desk and pass know the whole list.
+    /// Adds a call of a desk, with what it counts. The caller holds the lock of the set that the call
+    /// concerns; all keys of the set's pass are noted. Afterwards desk and pass know the whole list.
     #[inline(always)]
     pub fn append<R: Wait>(
         &self,
@@ -247,20 +254,24 @@ impl<K: RecordKind, B: EngineName<K>> SharedJournal<K, B> {
         set: &mut KeyPass,
         desk: &mut Desk<K, B>,
         entry: Entry,
-        sent: u64,
+        counts: EventCounts<K, B>,
     ) -> Appended<K, B>
         requires table { set.old.table_id ≡ B.table }
         requires set { IsHolder (cell_view set.old) × AreNoDesks (cell_view set.old).owns }
         requires follows { MayFollow K.rules B.base (cell_view set.old).seen (cell_view set.old).owns entry }
         requires begins { MayBegin (cell_view set.old).seen (cell_view set.old).owns entry.event }
-        requires sent { MaySend K.rules B.base (cell_view set.old).seen (cell_view set.old).owns entry sent }
+        requires sent { MaySend K.rules B.base (cell_view set.old).seen (cell_view set.old).owns entry counts.sent }
+        requires counts { MayCount K.rules B.base (cell_view set.old).seen (cell_view set.old).owns entry
+            counts.share counts.before counts.after }
+        requires backed { IsBacked counts.share counts.before }
         ensures call { Call K.rules B.base desk.old entry desk.new }
         ensures receipt { result.receipt ≡ desk.new.seen }
-        ensures tickets { IsFew K.rules B.base desk.new.seen → result.tickets ≡ sent }
+        ensures tickets { IsFew K.rules B.base desk.new.seen → result.tickets ≡ counts.sent }
+        ensures share { IsGivenBack counts.share counts.after result.share }
         ensures set { (set.new.table_id ≡ set.old.table_id) × (cell_view set.new ≡ holder desk.new.seen (cell_view set.old).owns) }
         ensures added { (log : List Note) × Added K.rules B.base (cell_view set.old).seen (cell_view set.old).owns entry log desk.new.seen }
     {
-        self.append_as::<Brand, R>(rt, place, set, desk, entry, sent)
+        self.append_as::<Brand, R>(rt, place, set, desk, entry, counts)
     }
 
     // Adds a call of a desk, of the event that `S` names.
@@ -273,7 +284,7 @@ impl<K: RecordKind, B: EngineName<K>> SharedJournal<K, B> {
         other: &mut KeyPass,
         desk: &mut Desk<K, B>,
         entry: Entry,
-        sent: u64,
+        counts: EventCounts<K, B>,
     ) -> Appended<K, B>
         requires entry { S.entry ≡ entry }
         requires table { (one.old.table_id ≡ B.table) × (other.old.table_id ≡ B.table) }
@@ -285,10 +296,14 @@ impl<K: RecordKind, B: EngineName<K>> SharedJournal<K, B> {
             (cell_view other.old).owns S.entry }
         requires begins { MayBegin (cell_view other.old).seen (cell_view other.old).owns S.entry.event }
         requires sent { BothMaySend K.rules B.base (cell_view one.old).seen (cell_view one.old).owns (cell_view other.old).seen
-            (cell_view other.old).owns S.entry sent }
+            (cell_view other.old).owns S.entry counts.sent }
+        requires counts { BothMayCount K.rules B.base (cell_view one.old).seen (cell_view one.old).owns (cell_view other.old).seen
+            (cell_view other.old).owns S.entry counts.share counts.before counts.after }
+        requires backed { IsBacked counts.share counts.before }
         ensures call { Call K.rules B.base desk.old S.entry desk.new }
         ensures receipt { result.receipt ≡ desk.new.seen }
-        ensures tickets { IsFew K.rules B.base desk.new.seen → result.tickets ≡ sent }
+        ensures tickets { IsFew K.rules B.base desk.new.seen → result.tickets ≡ counts.sent }
+        ensures share { IsGivenBack counts.share counts.after result.share }
         ensures one { (one.new.table_id ≡ one.old.table_id) × (cell_view one.new ≡ holder desk.new.seen P.keys) }
         ensures other { (other.new.table_id ≡ other.old.table_id) × (cell_view other.new ≡ holder desk.new.seen P.rest) }
         ensures added { (log : List Note)
@@ -299,12 +314,13 @@ impl<K: RecordKind, B: EngineName<K>> SharedJournal<K, B> {
         let made = StoredEntry::new(desk.number, call, entry);
         let mut guard = lock_soon(rt, &self.journal);
         let journal = &mut *guard;
-        journal.append_two::<P, S, R>(rt, &self.cell, place, one, other, desk, made, sent)
+        journal.append_two::<P, S, R>(rt, &self.cell, place, one, other, desk, made, counts)
     }
 
-    /// Adds a call of a desk that concerns two sets, both of whose locks the caller holds.
-    /// Afterwards the first pass owns the keys of `P` and the second the rest of `P`; the desk and
-    /// both passes know the whole list.
+    /// Adds a call of a desk that concerns two sets, both of whose locks the caller holds, with what
+    /// it counts. Afterwards the first pass owns the keys of `P` and the second the rest of `P`; the
+    /// desk and both passes know the whole list.
+    #[inline(always)]
     pub fn append_two<P: Keys, R: Wait>(
         &self,
         rt: &R,
@@ -313,7 +329,7 @@ impl<K: RecordKind, B: EngineName<K>> SharedJournal<K, B> {
         other: &mut KeyPass,
         desk: &mut Desk<K, B>,
         entry: Entry,
-        sent: u64,
+        counts: EventCounts<K, B>,
     ) -> Appended<K, B>
         requires table { (one.old.table_id ≡ B.table) × (other.old.table_id ≡ B.table) }
         requires one { IsHolder (cell_view one.old) × AreRecords (cell_view one.old).owns }
@@ -324,17 +340,41 @@ impl<K: RecordKind, B: EngineName<K>> SharedJournal<K, B> {
             (cell_view other.old).owns entry }
         requires begins { MayBegin (cell_view other.old).seen (cell_view other.old).owns entry.event }
         requires sent { BothMaySend K.rules B.base (cell_view one.old).seen (cell_view one.old).owns (cell_view other.old).seen
-            (cell_view other.old).owns entry sent }
+            (cell_view other.old).owns entry counts.sent }
+        requires counts { BothMayCount K.rules B.base (cell_view one.old).seen (cell_view one.old).owns (cell_view other.old).seen
+            (cell_view other.old).owns entry counts.share counts.before counts.after }
+        requires backed { IsBacked counts.share counts.before }
         ensures call { Call K.rules B.base desk.old entry desk.new }
         ensures receipt { result.receipt ≡ desk.new.seen }
-        ensures tickets { IsFew K.rules B.base desk.new.seen → result.tickets ≡ sent }
+        ensures tickets { IsFew K.rules B.base desk.new.seen → result.tickets ≡ counts.sent }
+        ensures share { IsGivenBack counts.share counts.after result.share }
         ensures one { (one.new.table_id ≡ one.old.table_id) × (cell_view one.new ≡ holder desk.new.seen P.keys) }
         ensures other { (other.new.table_id ≡ other.old.table_id) × (cell_view other.new ≡ holder desk.new.seen P.rest) }
         ensures added { (log : List Note)
             × AddedByBoth K.rules B.base (cell_view one.old).seen (cell_view one.old).owns (cell_view other.old).seen
             (cell_view other.old).owns entry log desk.new.seen }
     {
-        self.append_two_as::<P, Brand, R>(rt, place, one, other, desk, entry, sent)
+        self.append_two_as::<P, Brand, R>(rt, place, one, other, desk, entry, counts)
+    }
+
+    /// Moves calls that are answered later from the counts of a share to those of another, which has
+    /// none yet. A full count stays full.
+    pub fn divide_started<R: Wait>(
+        &self,
+        rt: &R,
+        share: &mut TallyShare<EngineCounts<K, B>>,
+        other: &mut TallyShare<EngineCounts<K, B>>,
+        started: u64,
+        count: u64,
+    )
+        requires started { started ≡ share.old.counts.started }
+        requires enough { count ≤ started }
+        requires none { other.old.counts ≡ no_counts }
+        requires parts { 0 < count → 0 < other.old.parts }
+        ensures share { share.new ≡ share_view share.old.parts (less_awaited share.old.counts count) }
+        ensures other { other.new ≡ share_view other.old.parts (record no_counts { started = count }) }
+    {
+        lock_soon(rt, &self.journal).divide_started(share, other, started, count);
     }
 
     /// Compares two passes: they have no key in common. Afterwards both know the same list.

@@ -1,5 +1,5 @@
 -- What a set and the table of the puts with notification know after an event on the set.
-use Rattle.std.proofs.Common.{◌≡◌, ◌↔◌, ℕ, ◌+◌, ◌≤◌, Bool, true, false, cond, nat_eq, nat_lt, List, [], ◌∷◌, ◌++◌, length, refl, sym, ap, subst, inl, arith}
+use Rattle.std.proofs.Common.{◌≡◌, ◌↔◌, ℕ, ◌+◌, ◌≤◌, Bool, true, false, cond, nat_eq, nat_lt, List, [], ◌∷◌, ◌++◌, length, Option, None, refl, sym, ap, ◌∙◌, subst, inl, arith}
 use Rattle.std.specs.Prelude.{Contains}
 use Rattle.std.proofs.lemmas.List.Sums.{sum_by-cons}
 use Rattle.ioc_device.specs.declared.Ask.{Ask}
@@ -20,7 +20,9 @@ use Rattle.ioc_history.specs.Key.{Key, Has as Has_key}
 use Rattle.ioc_history.specs.KeyLaws.{has_left, has_right}
 use Rattle.ioc_history.specs.Line.{Continues, noted}
 use Rattle.ioc_history.specs.Legal.{IsLegal, IsSound, key_of, map_of, notifications_key}
-use Rattle.ioc_history.specs.Counting.{once_in, BothMaySend}
+use Rattle.ioc_history.specs.Counting.{once_in, tallied_by, BothMaySend, BothMayCount}
+use Rattle.ioc_ledger.specs.Shared.{ShareView}
+use Rattle.ioc_ledger.specs.declared.tally.Tally.{Tally}
 use Rattle.ioc_history.specs.CountLaws.{PartsCountAlike}
 use Rattle.ioc_history.specs.Covering.{Holds, Cover, CancelsWithin}
 use Rattle.ioc_history.specs.Laws.{Lasts, OneMore, HoldersMove, MovesAlike, HeldAlike, HeldAreFewer, HoldersAreFew, EndsOver, NobodyHas, StaysSound, GoesOn}
@@ -28,7 +30,7 @@ use Rattle.ioc_history.specs.Account.{journalled, BothMayFollow, AddedByBoth, pu
 use Rattle.ioc_set.specs.SetState.{SetState, now_of, done_by}
 use Rattle.ioc_set.specs.Doing.{Does}
 use Rattle.ioc_journaled_set.specs.Puts.{AreMoved}
-use Rattle.ioc_journaled_set.proofs.Serving.{holds_on, live_then, records_then, waiting_then, ended_then, noted_on, moved_on, sent_on, ended_on}
+use Rattle.ioc_journaled_set.proofs.Serving.{holds_on, live_then, records_then, waiting_then, ended_then, noted_on, moved_on, sent_on, counted_on, counts_with, ended_on}
 
 -- The two ways of counting the lines of a number agree.
 pub lines_are : (n : ℕ) (ls : List Live) → lines_of n ls ≡ how_many (λ (l : Live). l.number) n ls
@@ -93,6 +95,19 @@ module _ {R D : Type 0} (k : RecordRules R) (gives : D → Ask → ℕ → Answe
       sent_on k gives h h' moment event reply come_to does there one_more moves base log desk call ((owned ++ puts_key) ++ own) sound legal here
       (λ r s. has_left (key_of r) (owned ++ puts_key) own (has_left (key_of r) owned puts_key (covers r s)))
       (cancels log sound also legal here) (asks log sound also legal here) (λ out. absurd (out (has_puts own))) law)
+
+  -- The event counts as much after any such list as on the set.
+  pub both_count : PartsCountAlike k → (entry : Entry) → does.entry ≡ entry → (share : Option ShareView) (before then : Tally) → (share ≡ None → ⊥) → before ≡ h.tally → then ≡ h'.tally
+      → BothMayCount k base seen owned also_seen puts_key entry share before then
+  both_count law entry is share before then share_there was now = subst (λ (x : Entry). BothMayCount k base seen owned also_seen puts_key x share before then) is
+      (λ log desk call own sound go also legal.
+      let here = held log desk call own sound go also legal in
+      counts_with k (map_of k base log) (note desk call own) share before then share_there
+      (now
+      ∙ counted_on k gives h h' moment event reply come_to does there one_more moves base log desk call ((owned ++ puts_key) ++ own) sound legal here
+      (λ r s. has_left (key_of r) (owned ++ puts_key) own (has_left (key_of r) owned puts_key (covers r s)))
+      (cancels log sound also legal here) (asks log sound also legal here) (λ out. absurd (out (has_puts own))) law
+      ∙ ap (λ (t : Tally). tallied_by k t (map_of k base log) (note desk call own)) (sym was)))
 
   module _ (entry : Entry) (is : does.entry ≡ entry) (log longer : List Note) (added : AddedByBoth k base seen owned also_seen puts_key entry log longer) where
     as_done : AddedByBoth k base seen owned also_seen puts_key does.entry log longer

@@ -1,5 +1,5 @@
 -- The number of records of two sets that share those of a third.
-use Rattle.std.proofs.Common.{◌≡◌, ℕ, zero, suc, Bool, true, false, cond, List, [], ◌∷◌, length, Option, None, refl, sym, ap, ◌∙◌, inl, inr, ◌+◌, ◌-◌, arith}
+use Rattle.std.proofs.Common.{◌≡◌, ℕ, zero, suc, Bool, true, false, cond, List, [], ◌∷◌, length, Option, None, refl, sym, ap, ◌∙◌, inl, inr, ◌+◌, ◌-◌, ◌<◌, arith}
 use Rattle.std.specs.Prelude.{◌⊎◌, Contains, IsSome, is_some}
 use Rattle.std.specs.Ordering.{nat_cmp, eq_by_cmp}
 use Rattle.std.specs.FinMap.{FinMap, get, keys, len, insert, remove, empty_of_len, get-empty, get-remove, len-insert, len-remove, same_map, nat_cmp-IsAntisymmetric}
@@ -68,6 +68,10 @@ module _ {X : Type 0} where
 
   pub shared_count : (f g h : FinMap nat_cmp X) → AreShared (get f) (get g) (get h) → len f ≡ len g + len h
   shared_count f g h shared = shared_by (len h) f g h refl shared
+
+  -- A map with an entry isn't empty.
+  pub some_len : (m : FinMap nat_cmp X) (q : ℕ) → IsSome (get m q) → 0 < len m
+  some_len m q has = let less = less_by_one m q has in omega (arith, less)
 
   -- Setting an entry that is there adds no entry.
   pub set_count : (m : FinMap nat_cmp X) (n : ℕ) (x : X) → IsSome (get m n) → len (insert m n x) ≡ len m

@@ -17,7 +17,8 @@ use Rattle.ioc_history.specs.KeyLaws.{has_left}
 use Rattle.ioc_history.specs.Line.{Continues, holder, noted}
 use Rattle.ioc_history.specs.Legal.{IsLegal, key_of, map_of, notifications_key}
 use Rattle.ioc_history.specs.Legal.{IsSound as IsSound-world}
-use Rattle.ioc_history.specs.Counting.{once_by, MaySend}
+use Rattle.ioc_history.specs.CountLaws.{CountsNothing}
+use Rattle.ioc_journaled_set.specs.Sent.{MayCountNothing}
 use Rattle.ioc_history.specs.Covering.{Holds, Cover}
 use Rattle.ioc_history.specs.Laws.{Lasts, LiveLasts, GoesOn}
 use Rattle.ioc_history.proofs.Basics.{is-none}
@@ -85,7 +86,7 @@ module _ {R : Type 0} (k : RecordRules R) (base : World R) where
       })
 
       by_law : IsSound-world k base → (desk call : ℕ) (own : List Key)
-          → GoesOn k base log (cancel_note desk call moment number (v.owns ++ own)) (IsGivenUpByAll k moment number sets (map_of k base log)) × (once_by k (map_of k base log) (cancel_note desk call moment number (v.owns ++ own)) ≡ 0)
+          → GoesOn k base log (cancel_note desk call moment number (v.owns ++ own)) (IsGivenUpByAll k moment number sets (map_of k base log)) × CountsNothing k (map_of k base log) (cancel_note desk call moment number (v.owns ++ own))
       by_law base_sound desk call own =
           law base log sets desk call moment number (v.owns ++ own) base_sound legal (held_soundly own) share_none
           (have.all ∙ sym (still_live number)) (λ none. have.some (sym (still_live number) ∙ none)) (has_left notifications_key v.owns own puts_owned)
@@ -93,9 +94,9 @@ module _ {R : Type 0} (k : RecordRules R) (base : World R) where
       gone_on : IsSound-world k base → (desk call : ℕ) (own : List Key) → GoesOn k base log (cancel_note desk call moment number (v.owns ++ own)) (IsGivenUpByAll k moment number sets (map_of k base log))
       gone_on base_sound desk call own = (by_law base_sound desk call own).0
 
-    -- The cancel sends no once request.
-    pub may_send : MaySend k base v.seen v.owns (cancel_entry moment number) 0
-    may_send log desk call own base_sound goes legal = sym (by_law log goes legal base_sound desk call own).1
+    -- The cancel counts nothing.
+    pub counts_nothing : MayCountNothing k base v.seen v.owns (cancel_entry moment number)
+    counts_nothing log desk call own base_sound goes legal = (by_law log goes legal base_sound desk call own).1
 
     pub may_follow : MayFollow k base v.seen v.owns (cancel_entry moment number)
     may_follow log desk call own base_sound goes legal = (gone_on log goes legal base_sound desk call own).legal

@@ -9,6 +9,7 @@ use Rattle.ioc_device.specs.declared.Ask.{Ask}
 use Rattle.ioc_device.specs.declared.Answer.{Answer}
 use Rattle.ioc_dbcommon.specs.Steps.{with_notification}
 use Rattle.ioc_ledger.specs.Requests.{None as No_requests, followed_by}
+use Rattle.ioc_ledger.specs.declared.tally.Tally.{Tally}
 use Rattle.ioc_notify.specs.declared.live_numbers.Live.{Live}
 use Rattle.ioc_notify.specs.declared.waiting_lists.Waiting.{Waiting}
 use Rattle.ioc_notify.specs.Living.{holders_of, is_live, forgotten}
@@ -28,11 +29,11 @@ use Rattle.ioc_events.specs.declared.reply.Reply.{Reply}
 use Rattle.ioc_events.specs.declared.reply.Reply.TheVariants.{Plain}
 use Rattle.ioc_events.specs.Holding.{how_many, one_if_has, holders}
 use Rattle.ioc_events.specs.Starting.{NoneReady}
-use Rattle.ioc_events.specs.Step.{Stepped, stepped}
+use Rattle.ioc_events.specs.Step.{Stepped, stepped, tallied}
 use Rattle.ioc_history.specs.declared.entry.Note.{Note}
 use Rattle.ioc_history.specs.Key.{Key, Has as Has_key}
 use Rattle.ioc_history.specs.Legal.{key_of, notifications_key, done, map_of, Fits, IsLegal, IsUntouched}
-use Rattle.ioc_history.specs.Counting.{once_in, once_by}
+use Rattle.ioc_history.specs.Counting.{once_in, once_by, tallied_by}
 use Rattle.ioc_history.specs.Covering.{Holds}
 use Rattle.ioc_history.specs.Laws.{StaysSound, CancelIsHeld, BeginningIsHeld, HeldAlike}
 use Rattle.ioc_history.proofs.Placing.{live-once}
@@ -166,6 +167,13 @@ module _ {R : Type 0} (k : RecordRules R) where
     once-none : (m : World R) → is_live number m.live ≡ true → NoneReady k m → AreActive k number m → once_by k m note ≡ 0
     once-none m live none active = ap (λ (s : Stepped R). length (once_in s.world.outbox)) (note-done m live none active) ∙ none-sent m
 
+    counts-none : (t : Tally) (m : World R) → tallied t (begun_at moment m) (Cancel number) (record { world = given_up m; reply = Plain; requests = followed_by No_requests No_requests }) ≡ t
+    unfolding tallied begun begun_at cancelled
+    counts-none t m = refl
+
+    tally-none : (m : World R) → is_live number m.live ≡ true → NoneReady k m → AreActive k number m → (t : Tally) → tallied_by k t m note ≡ t
+    tally-none m live none active t = ap (λ (s : Stepped R). tallied t (begun_at moment m) (Cancel number) s) (note-done m live none active) ∙ counts-none t m
+
     untouched : (m : World R) (r : ℕ) → point k number m r ≡ 0 → IsUntouched k r m (given_up m)
     unfolding at begun begun_at
     untouched m r nobody = record {
@@ -253,7 +261,10 @@ module _ {R : Type 0} (k : RecordRules R) where
             none_ended = ap (λ (w : World R). w.ended) leads ∙ none-ended lawful desk call moment number keys m;
           };
         },
-        once-none lawful desk call moment number keys m live is_sound.none_ready active,
+        record {
+          tally = tally-none lawful desk call moment number keys m live is_sound.none_ready active;
+          once = once-none lawful desk call moment number keys m live is_sound.none_ready active;
+        },
       )
 
   -- The cancel on one set.
@@ -272,14 +283,20 @@ module _ {R : Type 0} (k : RecordRules R) where
       | false ↦ refl
     ]
 
+    tally-placed : (h : SetState R D) → (with_place h).tally ≡ h.tally
+    tally-placed h = elim (nat_eq (length h.history) 64) as (λ b. (cond b (folded h) h).tally ≡ h.tally) [
+      | true ↦ refl
+      | false ↦ refl
+    ]
+
     module _ (h after : SetState R D) (moment : ℕ) where
       abbrev given : World R
       given = cancelled k number (begun_at moment (now_of h))
 
-      gives : after.records ≡ given.records → after.waiting ≡ given.waiting → after.live ≡ given.live → get after.devices ≡ get h.devices
+      gives : after.records ≡ given.records → after.waiting ≡ given.waiting → after.live ≡ given.live → get after.devices ≡ get h.devices → after.tally ≡ h.tally
           → after ≡ held_after k (with_place h) (cancel_entry moment number) after.devices → GivesUp k moment number h after
       unfolding begun begun_at cancelled
-      gives records waiting live devices told = record { records = records; waiting = waiting; live = live; devices = devices; told = told }
+      gives records waiting live devices tally told = record { records = records; waiting = waiting; live = live; devices = devices; tally = tally; told = told }
 
       nothing : (come_to : World R) → come_to.calls ≡ given.calls → come_to.outbox ≡ given.outbox → come_to.ended ≡ given.ended → CameToNothing come_to
       unfolding begun begun_at cancelled
@@ -304,6 +321,14 @@ module _ {R : Type 0} (k : RecordRules R) where
       let placed = ap (λ (w : World R). done_by k w e) (now-placed lawful number before) ∙ is in
       let plain = sym does.tells.reply ∙ ap (λ (s : Stepped R). s.reply) placed in
       let uncalled-here = no-calls lawful 0 0 e.moment number [] (now_of before) in
+      let cancelled_alone : Stepped R = record { world = cancelled k number (begun_at e.moment (now_of before)); reply = Plain; requests = followed_by No_requests No_requests } in
+      let counts : after.tally ≡ before.tally
+      = ap (λ (h : SetState R D). h.tally) does.after
+      ∙ ap (λ (s : Stepped R). tallied (with_place before).tally (begun_at e.moment (now_of (with_place before))) e.event s) placed
+      ∙ ap (λ (w : World R). tallied (with_place before).tally (begun_at e.moment w) e.event cancelled_alone) (now-placed lawful number before)
+      ∙ ap (λ (v : Event). tallied (with_place before).tally (begun_at e.moment (now_of before)) v cancelled_alone) does.event
+      ∙ counts-none lawful 0 0 e.moment number [] (with_place before).tally (now_of before)
+      ∙ tally-placed lawful number before in
       let silent = sym does.tells.answers ∙ ap (λ (s : Stepped R). answers_of s.world.calls) placed ∙ ap answers_of uncalled-here in
       record {
         answer = sym does.answer ∙ plain;
@@ -312,6 +337,7 @@ module _ {R : Type 0} (k : RecordRules R) where
             (ap (λ (h : SetState R D). h.waiting) does.after ∙ ap (λ (s : Stepped R). s.world.waiting) placed)
             (ap (λ (h : SetState R D). h.live) does.after ∙ ap (λ (s : Stepped R). s.world.live) placed)
             (uncalled does.work (ap (λ (s : Stepped R). s.world.calls) is ∙ uncalled-here))
+            counts
             (does.after ∙ ap (λ (entry : Entry). held_after k (with_place before) entry after.devices) (entry-is e number does.event silent plain)));
         nothing = nothing lawful number before after e.moment come_to
             (ap (λ (w : World R). w.calls) (does.left ∙ ap (λ (s : Stepped R). s.world) is))

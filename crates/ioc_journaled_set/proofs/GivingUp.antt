@@ -9,20 +9,22 @@ use Rattle.std.specs.Option.{IfSome}
 use Rattle.atomic_table.specs.Seated.{TableId}
 use Rattle.crossbeam_utils.specs.Seq.{cell_view}
 use Rattle.ioc_record.specs.RecordRules.{RecordRules}
-use Rattle.std.specs.FinMap.{contains_key}
+use Rattle.std.specs.FinMap.{contains_key, len}
 use Rattle.ioc_store.specs.World.{World}
-use Rattle.ioc_store.specs.Freeing.{has-cancelled}
+use Rattle.ioc_store.specs.Freeing.{has-cancelled, len-cancelled}
+use Rattle.ioc_ledger.specs.Shared.{ShareView}
+use Rattle.ioc_journaled_set.proofs.Shares.{counted_alike}
 use Rattle.ioc_history.specs.declared.entry.Note.{Note}
 use Rattle.ioc_history.specs.declared.cell.View.{View}
 use Rattle.ioc_history.specs.Key.{Key}
 use Rattle.ioc_history.specs.Account.{DeskView, AreRecords, AreNoDesks, Pass}
 use Rattle.ioc_journaled_set.specs.GiveUpLaws.{GivesUp}
-use Rattle.ioc_journaled_set.specs.Sets.{GaveUp, EachIsHeldBy, IsHeldBy}
+use Rattle.ioc_journaled_set.specs.Sets.{GaveUp, EachGivesUp, EachIsHeldBy, IsHeldBy}
 use Rattle.ioc_history.specs.Legal.{map_of}
 use Rattle.ioc_history.specs.Covering.{Holds}
 use Rattle.ioc_set.specs.SetState.{SetState, now_of}
-use Rattle.ioc_journaled_set.specs.Holding.{HeldView, IsLent, IsOwner, KeepsDevices, held_view, seen_by}
-use Rattle.ioc_journaled_set.specs.GivingUp.{EachIsLent, sets_of, HeldGaveUp, AreSameSets}
+use Rattle.ioc_journaled_set.specs.Holding.{HeldView, IsCounted, IsLent, IsOwner, KeepsDevices, held_view, seen_by}
+use Rattle.ioc_journaled_set.specs.GivingUp.{EachIsLent, EachIsCounted, sets_of, HeldGaveUp, AreSameSets}
 use Rattle.ioc_journaled_set.proofs.Dealing.{dealt_owner}
 
 front : {X : Type 0} (xs ys : List X) (i : ℕ) (d : X) → i < length xs → get_or (xs ++ ys) i d ≡ get_or xs i d
@@ -174,3 +176,35 @@ line_other n other h apart =
     let all = sum_by-cons (has_by other) l [] in
     let here : has_by other l ≡ 0 = ap (λ (b : Bool). cond b h 0) (ne_eqb n other (λ e. apart (sym e))) in
     omega (arith, all, here)
+
+-- The shares beside sets.
+
+module _ {R D : Type 0} where
+  pub counted_more : (sets : List (SetState R D)) (shares : List (Option ShareView)) (h : SetState R D) (s : Option ShareView) → length shares ≡ length sets → EachIsCounted sets shares → IsCounted s h → EachIsCounted (sets ++ h ∷ []) (shares ++ s ∷ [])
+  counted_more sets shares h s same each one i d e lt =
+      let P : ℕ → Type 0 = λ j. (d : SetState R D) (e : Option ShareView) → IsCounted (get_or (shares ++ s ∷ []) j e) (get_or (sets ++ h ∷ []) j d) in
+      let all = length-append sets (h ∷ []) in
+      below_more P (length sets)
+      (λ j below d e. subst (λ (x : Option ShareView). IsCounted x (get_or (sets ++ h ∷ []) j d)) (sym (front shares (s ∷ []) j e (omega (arith, below, same))))
+      (subst (λ (x : SetState R D). IsCounted (get_or shares j e) x) (sym (front sets (h ∷ []) j d below)) (each j d e below)))
+      (λ d e. subst (λ (x : Option ShareView). IsCounted x (get_or (sets ++ h ∷ []) (length sets) d)) (sym (ap (λ (n : ℕ). get_or (shares ++ s ∷ []) n e) (sym same) ∙ last shares s e))
+      (subst (λ (x : SetState R D). IsCounted s x) (sym (last sets h d)) one)) i (omega (arith, lt, all)) d e
+
+  module _ (k : RecordRules R) (moment number : ℕ) (sets sets_then : List (SetState R D)) (shares : List (Option ShareView)) (long : length sets_then ≡ length sets) (each : EachIsCounted sets shares) where
+    -- A cancel leaves the counts and the number of records of each set.
+    pub counted_given_up : EachGivesUp k moment number sets sets_then → EachIsCounted sets_then shares
+    counted_given_up gives i d e lt =
+        let within : i < length sets = omega (arith, lt, long) in
+        let up = gives i d within in
+        counted_alike (get_or shares i e) (get_or sets i d) (get_or sets_then i d) (ap (λ rs. len rs) up.records ∙ len-cancelled k number (now_of (get_or sets i d))) up.tally (each i d e within)
+
+    as_counted : sets_then ≡ sets → EachIsCounted sets_then shares
+    as_counted same = subst (λ (l : List (SetState R D)). EachIsCounted l shares) (sym same) each
+
+    -- After a call on all of them.
+    pub still_counted : {A E : Type 0} (base : World R) (table : TableId) (Q S T : Type 0) (given : Result (Option A) E) (desk desk_then : DeskView) (passes passes_then : List (Option Pass)) (kept kept_then : View)
+        → IfOk given (λ o. IfSome o (λ _. GaveUp k base table moment number desk sets kept desk_then sets_then passes_then kept_then)) → IfOk given (λ o. IfNone o ((sets_then ≡ sets) × (passes_then ≡ passes) × Q × S × T))
+        → OnErr given ((sets_then ≡ sets) × (passes_then ≡ passes) × Q × S) → EachIsCounted sets_then shares
+    still_counted base table Q S T (Ok (Some r)) desk desk_then passes passes_then kept kept_then gave missing refused = counted_given_up gave.gives_up
+    still_counted base table Q S T (Ok None) desk desk_then passes passes_then kept kept_then gave missing refused = as_counted missing.0
+    still_counted base table Q S T (Err e) desk desk_then passes passes_then kept kept_then gave missing refused = as_counted refused.0

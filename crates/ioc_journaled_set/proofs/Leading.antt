@@ -60,7 +60,7 @@ module _ {R D : Type 0} (k : RecordRules R) (before other after other_then rest 
   fell : (q : ℕ) → IsSome (get rest.records q) → IsSome (get before.records q)
   fell q has = set_back k s q before.records _ takes.there (of_other (get freed) (get led.stay.records) (get rest.records) led.falls.shared q has)
 
-  own_in_both : IsSome (get led.both.records s)
+  pub own_in_both : IsSome (get led.both.records s)
   own_in_both = elim (led.joins.shared s) [
     | inl p ↦ subst (λ (o : Option R). IsSome o) p.0 (set_there k s s led.stay.records _ led.falls.own led.falls.own)
     | inr p ↦ absurd (none_some (get linked s) p.0 (set_there k s s led.stay.records _ led.falls.own led.falls.own))

@@ -10,24 +10,26 @@ mod GiveUpAmong
 mod GiveUpEvents
 mod GiveUpGiving
 mod GivingUp
-mod Keys
 mod KeysOfSets
 mod Leading
 mod LedSets
 mod Lending
+mod LinkShares
 mod Nothing
 mod PartedSets
 mod Parting
 mod Placed
 mod Places
 mod Refusing
-mod Replaced
 mod Sending
 mod Serving
 mod SetsTogether
+mod Shares
 mod Taken
 mod TakingOver
 mod Telling
 pub mod Dealing
 pub mod Devices
 pub mod Kept
+pub mod Keys
+pub mod Replaced

@@ -1,12 +1,14 @@
 -- What a set knows after an event of its own.
-use Rattle.std.proofs.Common.{◌≡◌, ◌↔◌, ℕ, Bool, true, false, cond, List, [], ◌∷◌, ◌++◌, length, None, refl, sym, ap, ◌∙◌, subst, zero, suc, arith}
+use Rattle.std.proofs.Common.{◌≡◌, ◌↔◌, ℕ, Bool, true, false, cond, List, [], ◌∷◌, ◌++◌, length, Option, Some, None, refl, sym, ap, ◌∙◌, subst, zero, suc, arith}
 use Rattle.std.specs.Prelude.{◌==◌, Contains, is_some}
 use Rattle.std.specs.Ordering.{nat_cmp}
-use Rattle.std.specs.FinMap.{FinMap, get}
+use Rattle.std.specs.FinMap.{FinMap, get, len}
 use Rattle.atomic_table.specs.Seated.{TableId}
 use Rattle.ioc_device.specs.declared.Ask.{Ask}
 use Rattle.ioc_device.specs.declared.Answer.{Answer}
 use Rattle.ioc_ledger.specs.Requests.{Requests}
+use Rattle.ioc_ledger.specs.Shared.{ShareView}
+use Rattle.ioc_ledger.specs.declared.tally.Tally.{Tally}
 use Rattle.ioc_fields.specs.declared.field_no.FieldNo.{FieldNo}
 use Rattle.ioc_record.specs.RecordRules.{RecordRules}
 use Rattle.ioc_store.specs.World.{World, Has, IsClosed, at, begun, begun_at}
@@ -17,7 +19,7 @@ use Rattle.ioc_events.specs.declared.event.Entry.{Entry}
 use Rattle.ioc_events.specs.declared.reply.Reply.{Reply}
 use Rattle.ioc_events.specs.Holding.{IsCounted, IsHeld, holders}
 use Rattle.ioc_events.specs.Local.{AskAlike}
-use Rattle.ioc_events.specs.Step.{names, stepped}
+use Rattle.ioc_events.specs.Step.{names, stepped, tallied}
 use Rattle.ioc_events.specs.StepRules.{Step, KeepsRecords}
 use Rattle.ioc_history.specs.declared.entry.Note.{Note}
 use Rattle.ioc_history.specs.declared.cell.View.{View}
@@ -25,7 +27,7 @@ use Rattle.ioc_history.specs.Key.{Key, Has as Has_key}
 use Rattle.ioc_history.specs.Line.{Continues, holder, noted}
 use Rattle.ioc_history.specs.KeyLaws.{has_left}
 use Rattle.ioc_history.specs.Legal.{AreLiveAlike, IsLegal, IsSound, key_of, notifications_key, map_of, done}
-use Rattle.ioc_history.specs.Counting.{once_in, once_by, MaySend}
+use Rattle.ioc_history.specs.Counting.{once_in, once_by, tallied_by, MaySend, MayCount, DoesCount}
 use Rattle.ioc_history.specs.CountLaws.{PartsCountAlike}
 use Rattle.ioc_store.specs.declared.outbox.OutboxItem.{OutboxItem}
 use Rattle.ioc_history.specs.Covering.{Holds, Cover, CancelsWithin, AreHeldAlike, IsOf, IsDone, question_note}
@@ -123,6 +125,15 @@ module _ {R : Type 0} (k : RecordRules R) where
     counted = record { counted = c.counted.counted; live = c.counted.live; waits_once = c.counted.waits_once };
   }
 
+  placed_tally : {D : Type 0} (full : Bool) (h : SetState R D) → (cond full (folded h) h).tally ≡ h.tally
+  placed_tally true h = refl
+  placed_tally false h = refl
+
+  -- With a share, an event counts what has moved the counts of its set on.
+  pub counts_with : (m : World R) (n : Note) (share : Option ShareView) (before then : Tally) → (share ≡ None → ⊥) → then ≡ tallied_by k before m n → DoesCount k m n share before then
+  counts_with m n None before then there is = absurd (there refl)
+  counts_with m n (Some s) before then there is = is
+
   placed_now : {D : Type 0} (full : Bool) (h : SetState R D) → now_of (cond full (folded h) h) ≡ now_of h
   placed_now true h = refl
   placed_now false h = refl
@@ -170,6 +181,13 @@ module _ {R D : Type 0} (k : RecordRules R) (gives : D → Ask → ℕ → Answe
   pub outbox_then : come_to.outbox ≡ after.outbox
   outbox_then = ap (λ (w : World R). w.outbox) does.left
 
+  -- The counts of the set are those before with what the event counts.
+  pub tally_then : h'.tally ≡ tallied h.tally (begun_at e.moment (now_of h)) e.event (done_by k (now_of h) e)
+  tally_then =
+      ap (λ (z : SetState R D). z.tally) does.after
+      ∙ ap (λ (t : Tally). tallied t (begun_at e.moment (now_of (with_place h))) e.event (done_by k (now_of (with_place h)) e)) (placed_tally k (length h.history == 64) h)
+      ∙ ap (λ (w : World R). tallied h.tally (begun_at e.moment w) e.event (done_by k w e)) was_now
+
   -- If no put with notification is live before and after, no record is part of one.
   pub none_held : (counted : (answers : Answers) (w after : World R) (event : Event) (reply : Reply) (requests : Requests) → Step k answers w event after reply requests → IsCounted k w → IsCounted k after)
       → (allowed : (answers : Answers) (w : World R) (event : Event) → Step k answers w event (stepped k answers w event).world (stepped k answers w event).reply (stepped k answers w event).requests)
@@ -213,6 +231,11 @@ module _ {R D : Type 0} (k : RecordRules R) (gives : D → Ask → ℕ → Answe
     unfolding done
     sent_on law = ap (λ (items : List OutboxItem). length (once_in items)) outbox_then ∙ sym (law base (now_of h) log note sound legal holds is_of).once
 
+    -- The event counts as much among all records as on the set.
+    pub counted_on : PartsCountAlike k → h'.tally ≡ tallied_by k h.tally (map_of k base log) note
+    unfolding done
+    counted_on law = tally_then ∙ sym ((law base (now_of h) log note sound legal holds is_of).tally h.tally)
+
     -- What has ended among all records has ended on the set, and no record is part of it.
     pub ended_on : EndsOver k → IsCounted k (now_of h) → (n : ℕ) → Contains (map_of k base (log ++ note ∷ [])).ended n ↔ (Contains after.ended n × (IsHeld k (map_of k base (log ++ note ∷ [])) n → ⊥))
     ended_on ends counted n = ends base (now_of h) after log note sound legal holds is_of is_done counted n
@@ -226,6 +249,16 @@ module _ {R D : Type 0} (k : RecordRules R) (gives : D → Ask → ℕ → Answe
       there_begun k (now_of h) e.moment n
       ((kept (listed e.answers) (begun_at e.moment (now_of h)) after e.event (done_by k (now_of h) e).reply (done_by k (now_of h) e).requests step (closed_begun k (now_of h) e.moment shut)).only n
       (subst (λ (rs : FinMap nat_cmp R). is_some (get rs n) ≡ true) records_then has))
+
+  -- The set has as many records as before.
+  pub as_many : ((answers : Answers) (w : World R) (event : Event) → Step k answers w event (stepped k answers w event).world (stepped k answers w event).reply (stepped k answers w event).requests)
+      → ((answers : Answers) (w after : World R) (event : Event) (reply : Reply) (requests : Requests) → Step k answers w event after reply requests → IsClosed k w → KeepsRecords w after)
+      → IsClosed k (now_of h) → len h'.records ≡ len h.records
+  unfolding begun_at begun
+  as_many allowed kept shut =
+      let step = allowed (listed e.answers) (begun_at e.moment (now_of h)) e.event in
+      ap (λ (rs : FinMap nat_cmp R). len rs) records_then
+      ∙ (kept (listed e.answers) (begun_at e.moment (now_of h)) after e.event (done_by k (now_of h) e).reply (done_by k (now_of h) e).requests step (closed_begun k (now_of h) e.moment shut)).count
 
   -- An event that asks nothing of all puts with notification, and leaves the counts of the set as
   -- they were.
@@ -249,6 +282,17 @@ module _ {R D : Type 0} (k : RecordRules R) (gives : D → Ask → ℕ → Answe
         sent_on one_more moves base log desk call (owned ++ own) sound legal (holds_on k lasts base (now_of h) seen owned covers holds log go legal)
         (λ r s. has_left (key_of r) owned own (covers r s)) (no_cancel k (map_of k base log) (now_of h) event ordinary)
         (asks_nothing k (begun_at moment (now_of h)) (begun_at moment (map_of k base log)) event ordinary) (λ out. same) law)
+
+    -- The event counts as much after any legal list as on the set.
+    pub may_count : PartsCountAlike k → (done_entry : Entry) → e ≡ done_entry → (share : Option ShareView) (before then : Tally) → (share ≡ None → ⊥) → before ≡ h.tally → then ≡ h'.tally → MayCount k base seen owned done_entry share before then
+    may_count law done_entry is share before then there was now = subst (λ (x : Entry). MayCount k base seen owned x share before then) is
+        (λ log desk call own sound go legal.
+        counts_with k (map_of k base log) (noted (journalled desk call e) (owned ++ own)) share before then there
+        (now
+        ∙ counted_on one_more moves base log desk call (owned ++ own) sound legal (holds_on k lasts base (now_of h) seen owned covers holds log go legal)
+        (λ r s. has_left (key_of r) owned own (covers r s)) (no_cancel k (map_of k base log) (now_of h) event ordinary)
+        (asks_nothing k (begun_at moment (now_of h)) (begun_at moment (map_of k base log)) event ordinary) (λ out. same) law
+        ∙ ap (λ (t : Tally). tallied_by k t (map_of k base log) (noted (journalled desk call e) (owned ++ own))) (sym was)))
 
     -- If nothing has ended on the set, nothing has among all records.
     pub none_ended : EndsOver k → IsCounted k (now_of h) → come_to.ended ≡ [] → (done_entry : Entry) → e ≡ done_entry → (log longer : List Note) → Added k base seen owned done_entry log longer

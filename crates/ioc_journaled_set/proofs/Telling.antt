@@ -3,7 +3,8 @@ use Rattle.std.proofs.Common.{length, ◌≡◌, ◌↔◌, ℕ, ◌<◌, Bool, 
 use Rattle.std.specs.Prelude.{IsTrue}
 use Rattle.std.proofs.lemmas.Bool.{ltb-true, lt-ltb}
 use Rattle.ioc_values.specs.declared.error.IocError.TheVariants.{Stale}
-use Rattle.ioc_ledger.specs.Requests.{None}
+use Rattle.ioc_ledger.specs.Requests.{None, counted_completion}
+use Rattle.ioc_ledger.specs.declared.tally.Tally.{Tally}
 use Rattle.ioc_notify.specs.declared.live_numbers.Live.{Live}
 use Rattle.ioc_notify.specs.Living.{holders_of, is_live}
 use Rattle.ioc_notify.specs.Counts.{holders_in, lines_of, IsTable}
@@ -17,10 +18,11 @@ use Rattle.ioc_events.specs.declared.event.Entry.{Entry}
 use Rattle.ioc_events.specs.declared.reply.Reply.{Reply}
 use Rattle.ioc_events.specs.declared.reply.Reply.TheVariants.{Live as Live-reply}
 use Rattle.ioc_events.specs.Holding.{IsCounted, holders}
-use Rattle.ioc_events.specs.Step.{Stepped, stepped, done_alone, done_there, refused, with_starts, lets_start}
+use Rattle.ioc_events.specs.Step.{Stepped, stepped, done_alone, done_there, refused, with_starts, lets_start, completes, tallied}
 use Rattle.ioc_history.specs.declared.entry.Note.{Note}
 use Rattle.ioc_history.specs.Key.{Key}
-use Rattle.ioc_history.specs.Counting.{once_in, MaySend}
+use Rattle.ioc_history.specs.Counting.{once_in}
+use Rattle.ioc_journaled_set.specs.Sent.{MayCountNothing}
 use Rattle.ioc_history.specs.Line.{Continues, noted}
 use Rattle.ioc_history.specs.Legal.{AreLiveAlike, IsLegal, IsSound, IsUntouched, Fits, done, map_of}
 use Rattle.ioc_history.specs.Account.{journalled, MayFollow, Added, puts_key}
@@ -93,6 +95,11 @@ module _ {R : Type 0} (k : RecordRules R) where
   unfolding begun begun_at
   none_sent m moment = refl
 
+  none_counted : (m : World R) (moment : ℕ) (t : Tally) (event : Event) (reply : Reply) → completes event reply ≡ false
+      → tallied t (begun_at moment m) event (record { world = begun_at moment m; reply = reply; requests = None }) ≡ t
+  unfolding tallied begun begun_at
+  none_counted m moment t event reply none = ap (λ (b : Bool). cond b (counted_completion t) t) none
+
   -- A question or a refusal leaves the world after any legal list as it is.
   module _ (base : World R) (moment : ℕ) (event : Event) (reply : Reply) (seen : List Note)
       (comes : (log : List Note) → IsSound k base → Continues seen puts_key log → IsLegal k base log
@@ -123,9 +130,14 @@ module _ {R : Type 0} (k : RecordRules R) where
     pub told_follows : (entry : Entry) → told_at moment event reply ≡ entry → MayFollow k base seen puts_key entry
     told_follows entry is = subst (λ (x : Entry). MayFollow k base seen puts_key x) is (λ log desk call own sound go legal. legal_then log desk call (puts_key ++ own) sound go legal)
 
-    pub told_sends_none : (entry : Entry) → told_at moment event reply ≡ entry → MaySend k base seen puts_key entry 0
-    told_sends_none entry is = subst (λ (x : Entry). MaySend k base seen puts_key x 0) is
-        (λ log desk call own sound go legal. sym (ap (λ (d : Stepped R). length (once_in d.world.outbox)) (done_is log desk call (puts_key ++ own) sound go legal) ∙ none_sent (map_of k base log) moment))
+    pub told_counts_none : completes event reply ≡ false → (entry : Entry) → told_at moment event reply ≡ entry → MayCountNothing k base seen puts_key entry
+    told_counts_none none entry is = subst (λ (x : Entry). MayCountNothing k base seen puts_key x) is
+        (λ log desk call own sound go legal.
+        let same = done_is log desk call (puts_key ++ own) sound go legal in
+        record {
+          tally = λ t. ap (λ (d : Stepped R). tallied t (begun_at moment (map_of k base log)) event d) same ∙ none_counted (map_of k base log) moment t event reply none;
+          once = ap (λ (d : Stepped R). length (once_in d.world.outbox)) same ∙ none_sent (map_of k base log) moment;
+        })
 
     pub told_alike : (entry : Entry) → told_at moment event reply ≡ entry → (log longer : List Note) → Added k base seen puts_key entry log longer → AreLiveAlike (map_of k base log) (map_of k base longer)
     told_alike entry is log longer added =

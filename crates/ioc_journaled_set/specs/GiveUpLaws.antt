@@ -17,7 +17,7 @@ use Rattle.ioc_history.specs.declared.entry.Note.{Note}
 use Rattle.ioc_history.specs.Key.{Key, Has as Has_key}
 use Rattle.ioc_history.specs.Legal.{IsLegal, map_of, notifications_key}
 use Rattle.ioc_history.specs.Legal.{IsSound as IsSound-world}
-use Rattle.ioc_history.specs.Counting.{once_by}
+use Rattle.ioc_history.specs.CountLaws.{CountsNothing}
 use Rattle.ioc_history.specs.Covering.{Holds, Cover}
 use Rattle.ioc_history.specs.Laws.{GoesOn}
 use Rattle.ioc_set.specs.SetState.{SetState, now_of, held_after}
@@ -55,6 +55,7 @@ module _ {R D : Type 0} (k : RecordRules R) where
     pub waiting : after.waiting ≡ (cancelled k number (now_of before)).waiting
     pub live : after.live ≡ (cancelled k number (now_of before)).live
     pub devices : get after.devices ≡ get before.devices
+    pub tally : after.tally ≡ before.tally
     pub told : after ≡ held_after k (with_place before) (cancel_entry moment number) after.devices
 
   -- Holds if a set is sound and held, and these keys include those of its records.
@@ -86,12 +87,13 @@ module _ {R D : Type 0} (k : RecordRules R) where
 
 module _ {R : Type 0} (D : Type 0) (k : RecordRules R) where
   -- If the count of a put with notification in held sets without a common record is its count in
-  -- the world of all, canceling it in all of them is one event of all records, which sends no once
-  -- request. The note has the keys of all the sets and that of the puts with notification.
+  -- the world of all, canceling it in all of them is one event of all records, which counts nothing
+  -- and sends no once request. The note has the keys of all the sets and that of the puts with
+  -- notification.
   abbrev pub SetsGiveUp : Type 0
   SetsGiveUp = (base : World R) (log : List Note) (sets : List (SetState R D)) (desk call moment number : ℕ) (keys : List Key)
       → IsSound-world k base → IsLegal k base log
       → ((h : SetState R D) → Contains sets h → IsHeldSoundly k (map_of k base log) keys h) → AllPairs ShareNone sets
       → holders_in_all number sets ≡ holders_of number (map_of k base log).live → holders_of number (map_of k base log).live ≢ 0
       → Has_key notifications_key keys
-      → GoesOn k base log (cancel_note desk call moment number keys) (IsGivenUpByAll k moment number sets (map_of k base log)) × (once_by k (map_of k base log) (cancel_note desk call moment number keys) ≡ 0)
+      → GoesOn k base log (cancel_note desk call moment number keys) (IsGivenUpByAll k moment number sets (map_of k base log)) × CountsNothing k (map_of k base log) (cancel_note desk call moment number keys)

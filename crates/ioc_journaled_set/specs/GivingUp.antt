@@ -18,11 +18,17 @@ use Rattle.ioc_store.specs.World.{World}
 use Rattle.ioc_history.specs.declared.cell.View.{View}
 use Rattle.ioc_history.specs.Legal.{map_of}
 use Rattle.ioc_set.specs.SetState.{SetState}
-use Rattle.ioc_journaled_set.specs.Holding.{HeldView, IsLent}
+use Rattle.ioc_journaled_set.specs.Holding.{HeldView, IsLent, IsCounted}
+use Rattle.ioc_ledger.specs.Shared.{ShareView}
 
 module _ {R D : Type 0} (k : RecordRules R) (base : World R) where
   abbrev pub EachIsLent : (ℕ → Option D → Type 0) → TableId → List (SetState R D) → List (Option Pass) → Type 0
   EachIsLent had table sets passes = (i : ℕ) (d : SetState R D) (e : Option Pass) → i < length sets → IsLent k base had table (slice_index_or sets i d) (slice_index_or passes i e)
+
+-- Holds if the share beside each of these sets, if there is one, has its counts and a part for each
+-- of its records.
+abbrev pub EachIsCounted : {R D : Type 0} → List (SetState R D) → List (Option ShareView) → Type 0
+EachIsCounted {R} {D} sets shares = (i : ℕ) (d : SetState R D) (e : Option ShareView) → i < length sets → IsCounted (slice_index_or shares i e) (slice_index_or sets i d)
 
 -- The sets of these journaled sets.
 abbrev pub sets_of : {R D : Type 0} → List (HeldView R D) → List (SetState R D)

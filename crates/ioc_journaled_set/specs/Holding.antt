@@ -1,8 +1,9 @@
 -- Sets under their locks, and the calls on them. Application Developer's Guide, "Database Locking,
 -- Scanning, and Processing". The journal is this project's own.
 use Rattle.std.specs.Prelude.{◌≡◌, ◌⊎◌, ℕ, List, [], ◌∷◌, ◌++◌, Option, Some, None, MatchOption, unwrap_or}
-use Rattle.std.specs.Option.{option_map}
-use Rattle.std.specs.FinMap.{get, keys}
+use Rattle.std.specs.Option.{option_map, IfSome}
+use Rattle.ioc_ledger.specs.Shared.{ShareView, share_view}
+use Rattle.std.specs.FinMap.{get, keys, len}
 use Rattle.atomic_table.specs.Seated.{TableId}
 use Rattle.crossbeam_utils.specs.Seq.{cell_view}
 use Rattle.ioc_device.specs.declared.Ask.{Ask}
@@ -44,6 +45,11 @@ numbers_of v = keys v.set.records
 -- Holds if each of the set's records has its device, of which `had` tells, or none if it had none.
 abbrev pub KeepsDevices : {R D : Type 0} → (ℕ → Option D → Type 0) → SetState R D → Type 0
 KeepsDevices had h = (n : ℕ) → Has (now_of h) n → had n (get h.devices n)
+
+-- Holds if a set's share of the engine's counts, if there is one, has one part for each of the set's
+-- records, and the set's counts.
+abbrev pub IsCounted : {R D : Type 0} → Option ShareView → SetState R D → Type 0
+IsCounted share h = IfSome share (λ s. s ≡ share_view (len h.records) h.tally)
 
 -- The list that the pass has seen, which is empty without a pass.
 abbrev pub seen_by : Option Pass → List Note

@@ -5,14 +5,14 @@ ghost use Rattle.ioc_notify.specs.Living.{is_live};
 ghost use Rattle.ioc_history.specs.declared.entry.Note.{Note};
 ghost use Rattle.ioc_history.specs.Legal.{AreLiveAlike, map_of};
 ghost use Rattle.ioc_history.specs.Account.{Call, MayFollow, Added, number_given, puts_key};
-ghost use Rattle.ioc_history.specs.Counting.{MaySend};
+ghost use Rattle.ioc_journaled_set.specs.Sent.{MayCountNothing};
 ghost use Rattle.ioc_history.specs.Places.{IsNoPlace};
 ghost use Rattle.ioc_journaled_set.specs.Puts.{puts_view, WasAsked, WasStale};
 
 use crate::shared_notifications::SharedNotifications;
 use ioc_events::{Entry, Event, KeptAnswers, Reply};
 use ioc_history::legal_laws::{lists_leave_sound, live_lasts};
-use ioc_history::{Desk, EngineName, Place, Receipt, SharedJournal};
+use ioc_history::{Desk, EngineName, EventCounts, Place, Receipt, SharedJournal};
 use ioc_notify::NotifyId;
 use ioc_notify::table_laws::lines_tell_holders;
 use ioc_record::RecordKind;
@@ -41,13 +41,13 @@ impl<K: RecordKind, B: EngineName<K>> SharedNotifications<K, B> {
         requires begins_none { number_given entry.event ≡ None }
         requires alike { (log longer : List Note) → Added K.rules B.base self.old.seen puts_key entry log longer
             → AreLiveAlike (map_of K.rules B.base log) (map_of K.rules B.base longer) }
-        requires none_sent { MaySend K.rules B.base self.old.seen puts_key entry 0 }
+        requires none_counted { MayCountNothing K.rules B.base self.old.seen puts_key entry }
         ensures call { Call K.rules B.base desk.old entry desk.new }
         ensures receipt { result ≡ desk.new.seen }
         ensures kept { self.new ≡ puts_view self.old.live self.old.taken self.old.last desk.new.seen }
     {
         live_lasts::<K>();
-        book.append(rt, place, &mut self.pass, desk, entry, 0)
+        book.append(rt, place, &mut self.pass, desk, entry, EventCounts::none())
             .receipt
     }
 

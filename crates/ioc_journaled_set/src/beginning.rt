@@ -10,6 +10,7 @@ ghost use Rattle.ioc_set.specs.NoCalls.{no_call};
 ghost use Rattle.ioc_journaled_set.specs.Holding.{numbers_of, Begins, IsNoCall};
 ghost use Rattle.ioc_journaled_set.specs.Puts.{NoneMayBegin, HaveEnded};
 
+use crate::counts::{counts_since, wait_forever};
 use crate::journaled_set::JournaledSet;
 use crate::running::{Ran, Served, run_counted};
 use crate::sets_name::SetsName;
@@ -73,6 +74,7 @@ impl<K: RecordKind + Drop, B: SetsName<K, D>, D: Device> JournaledSet<K, B, D> {
         parts_count_alike::<K>();
         lines_tell_holders();
         self.set.is_sound();
+        let tally = self.set.tally();
         let event = Event::Notify(target, notification, field, given);
         let ran = run_counted(
             rt,
@@ -87,6 +89,11 @@ impl<K: RecordKind + Drop, B: SetsName<K, D>, D: Device> JournaledSet<K, B, D> {
         let Some(mut pass) = self.pass.take() else {
             unreachable!();
         };
+        let Some(share) = self.share.take() else {
+            wait_forever(rt);
+            unreachable!();
+        };
+        let counts = counts_since(share, tally, &self.set, buffers);
         let mut guard = lock_taken(rt, puts, notification);
         let all = &mut *guard;
         all.is_counted();
@@ -97,9 +104,10 @@ impl<K: RecordKind + Drop, B: SetsName<K, D>, D: Device> JournaledSet<K, B, D> {
             entry,
         } = ran;
         let appended = keep_beside(
-            rt, book, place, &mut pass, all, desk, buffers, entry, &before, &self.set,
+            rt, book, place, &mut pass, all, desk, buffers, entry, counts, &before, &self.set,
         );
         self.pass = Some(pass);
+        self.share = appended.share;
         Ok(Served {
             reply,
             receipt: appended.receipt,

@@ -2,16 +2,18 @@
 ghost use Rattle.std.specs.Prelude.{◌≡◌, ℕ, IsSome};
 ghost use Rattle.ioc_notify.specs.Waits.{at_record};
 ghost use Rattle.ioc_set.specs.SetState.{now_of};
-ghost use Rattle.std.specs.FinMap.{get};
+ghost use Rattle.std.specs.FinMap.{get, len};
 ghost use Rattle.crossbeam_utils.specs.Seq.{cell_view};
 ghost use Rattle.ioc_history.specs.Legal.{map_of};
+ghost use Rattle.ioc_ledger.specs.Shared.{share_view};
 
+use crate::counts::take_share;
 use crate::journaled_set::JournaledSet;
 use crate::sets_name::SetsName;
 use ioc_device::Device;
 use ioc_history::legal_laws::holding_lasts;
-use ioc_history::{Cell, Journal};
-use ioc_ledger::Tally;
+use ioc_history::{Cell, EngineCounts, Journal};
+use ioc_ledger::{Tally, TallyShare};
 use ioc_record::RecordKind;
 use std::sync::Wait;
 
@@ -21,6 +23,15 @@ impl<K: RecordKind, B: SetsName<K, D>, D: Device> JournaledSet<K, B, D> {
         ensures { result ≡ self.now.set.tally }
     {
         self.set.tally()
+    }
+
+    /// Takes the set's share of the engine's counts: one part for each of its records, and the counts
+    /// of the set. Waits forever if it was taken before.
+    pub fn take_share<R: Wait>(&mut self, rt: &R) -> TallyShare<EngineCounts<K, B>>
+        ensures share { result ≡ share_view (len self.old.set.records) self.old.set.tally }
+        ensures same { self.new ≡ self.old }
+    {
+        take_share(rt, &mut self.share)
     }
 
     /// Moves the set on to the whole list of the journal. At the set's numbers, the list leads to

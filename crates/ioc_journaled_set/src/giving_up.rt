@@ -11,7 +11,7 @@ ghost use Rattle.crossbeam_utils.specs.Seq.{cell_view};
 ghost use Rattle.ioc_set.specs.SetState.{SetState};
 ghost use Rattle.ioc_journaled_set.specs.Holding.{HeldView, held_view, seen_by};
 ghost use Rattle.ioc_journaled_set.specs.Sets.{AreItsSets};
-ghost use Rattle.ioc_journaled_set.specs.GivingUp.{EachIsLent, HaveNotAll, sets_of, AreSameSets, HeldGaveUp, GaveUpOn};
+ghost use Rattle.ioc_journaled_set.specs.GivingUp.{EachIsLent, EachIsCounted, HaveNotAll, sets_of, AreSameSets, HeldGaveUp, GaveUpOn};
 ghost use Rattle.ioc_journaled_set.specs.SameDevice.{IsDeviceOf};
 ghost use Rattle.ioc_history.specs.Account.{puts_key, Pass};
 
@@ -20,7 +20,8 @@ use crate::together::giving_up::give_up_all;
 use crate::{JournaledSet, SharedNotifications};
 use ioc_device::Device;
 use ioc_events::Reply;
-use ioc_history::{Cell, Desk, KeyPass, Receipt, SharedJournal};
+use ioc_history::{Cell, Desk, EngineCounts, KeyPass, Receipt, SharedJournal};
+use ioc_ledger::TallyShare;
 use ioc_notify::table_laws::lines_tell_holders;
 use ioc_notify::{Live, NotifyId};
 use ioc_record::RecordKind;
@@ -32,7 +33,7 @@ use std::alloc::Global;
 use std::mem;
 use std::sync::Wait;
 
-// Separates each of these journaled sets from its pass, into reserved memory.
+// Separates each of these journaled sets from its pass and its share, into reserved memory.
 fn lend_all<K: RecordKind + Drop, B: SetsName<K, D>, D: Device>(
     alloc: Global,
     cell: &Cell,
@@ -40,32 +41,38 @@ fn lend_all<K: RecordKind + Drop, B: SetsName<K, D>, D: Device>(
     held: &mut [JournaledSet<K, B, D>],
     sets: &mut Vec<LockSet<K, D>>,
     passes: &mut Vec<Option<KeyPass>>,
+    shares: &mut Vec<Option<TallyShare<EngineCounts<K, B>>>>,
 )
     requires table { (keeper.old.table_id ≡ B.table) × (cell.now.table.shared.table_id ≡ B.table) }
-    requires room { (length held.old ≤ vec_capacity sets.old) × (length held.old ≤ vec_capacity passes.old) }
-    requires empty { (sets.old.items ≡ []) × (passes.old.items ≡ []) }
+    requires room { (length held.old ≤ vec_capacity sets.old) × (length held.old ≤ vec_capacity passes.old)
+        × (length held.old ≤ vec_capacity shares.old) }
+    requires empty { (sets.old.items ≡ []) × (passes.old.items ≡ []) × (shares.old.items ≡ []) }
     ensures keeper { (keeper.new.table_id ≡ keeper.old.table_id) × (cell_view keeper.new ≡ cell_view keeper.old) }
     ensures sets { sets.new.items ≡ sets_of held.old }
-    ensures beside { length passes.new.items ≡ length held.old }
+    ensures beside { (length passes.new.items ≡ length held.old) × (length shares.new.items ≡ length held.old) }
     ensures lent { EachIsLent K.rules B.base (IsDeviceOf D.gives B.devices) B.table sets.new.items passes.new.items }
+    ensures counted { EachIsCounted sets.new.items shares.new.items }
 {
     for i in 0..held.len() {
         let one = mem::replace(&mut held[i], JournaledSet::empty(alloc));
-        let (set, own) = one.into_parts(cell, keeper);
+        let (set, own, share) = one.into_parts(cell, keeper);
         sets.push_reserved(set);
         passes.push_reserved(Some(own));
+        shares.push_reserved(share);
     }
 }
 
-// Puts sets and passes together again.
+// Puts sets, passes and shares together again.
 fn take_back_all<K: RecordKind + Drop, B: SetsName<K, D>, D: Device>(
     alloc: Global,
     held: &mut [JournaledSet<K, B, D>],
     sets: &mut [LockSet<K, D>],
     passes: &mut [Option<KeyPass>],
+    shares: &mut [Option<TallyShare<EngineCounts<K, B>>>],
 )
-    requires count { (length sets.old ≡ length held.old) × (length passes.old ≡ length held.old) }
+    requires count { (length sets.old ≡ length held.old) × (length passes.old ≡ length held.old) × (length shares.old ≡ length held.old) }
     requires lent { EachIsLent K.rules B.base (IsDeviceOf D.gives B.devices) B.table sets.old passes.old }
+    requires counted { EachIsCounted sets.old shares.old }
     ensures { (i : ℕ) (d : HeldView K D) (e : SetState K D) (f : Option Pass) → i < length held.new →
         slice_index_or held.new i d ≡ held_view (slice_index_or sets.old i e) (seen_by (slice_index_or passes.old i f)) }
 {
@@ -74,12 +81,12 @@ fn take_back_all<K: RecordKind + Drop, B: SetsName<K, D>, D: Device>(
         let Some(own) = passes[i].take() else {
             unreachable!();
         };
-        held[i] = JournaledSet::new(set, own);
+        held[i] = JournaledSet::new(set, own, shares[i].take());
     }
 }
 
-// Cancels a put with notification on sets that were separated from their passes, if they have all
-// its `total` records. Then puts sets and passes together again.
+// Cancels a put with notification on sets that were separated from their passes and shares, if they
+// have all its `total` records. Then puts them together again.
 fn give_up_lent<K: RecordKind + Drop, B: SetsName<K, D>, D: Device, R: Wait>(
     rt: &R,
     alloc: Global,
@@ -90,6 +97,7 @@ fn give_up_lent<K: RecordKind + Drop, B: SetsName<K, D>, D: Device, R: Wait>(
     held: &mut [JournaledSet<K, B, D>],
     sets: &mut [LockSet<K, D>],
     passes: &mut [Option<KeyPass>],
+    shares: &mut [Option<TallyShare<EngineCounts<K, B>>>],
     number: NotifyId,
     total: u64,
     moment: u64,
@@ -97,8 +105,9 @@ fn give_up_lent<K: RecordKind + Drop, B: SetsName<K, D>, D: Device, R: Wait>(
     requires keeper { (keeper.old.table_id ≡ B.table) × (cell_view keeper.old ≡ holder (cell_view keeper.old).seen puts_key) }
     requires total { total ≡ holders_of number (map_of K.rules B.base (cell_view keeper.old).seen).live }
     requires some { total ≢ 0 }
-    requires count { (length sets.old ≡ length held.old) × (length passes.old ≡ length held.old) }
+    requires count { (length sets.old ≡ length held.old) × (length passes.old ≡ length held.old) × (length shares.old ≡ length held.old) }
     requires lent { EachIsLent K.rules B.base (IsDeviceOf D.gives B.devices) B.table sets.old passes.old }
+    requires counted { EachIsCounted sets.old shares.old }
     ensures gave_up { IfOk result (λ given. IfSome given (λ _. HeldGaveUp K.rules B.base moment number desk.old sets.old
         (cell_view keeper.old) desk.new held.new (cell_view keeper.new))) }
     ensures receipt { IfOk result (λ given. IfSome given (λ receipt. receipt ≡ desk.new.seen)) }
@@ -114,7 +123,7 @@ fn give_up_lent<K: RecordKind + Drop, B: SetsName<K, D>, D: Device, R: Wait>(
         rt, alloc, book, desk, buffers, keeper, sets, passes, number, total, moment,
     );
     buffers.ended_everywhere.clear();
-    take_back_all(alloc, held, sets, passes);
+    take_back_all(alloc, held, sets, passes, shares);
     given
 }
 
@@ -153,6 +162,7 @@ pub fn cancel_on<K: RecordKind + Drop, B: SetsName<K, D>, D: Device, R: Wait>(
     }
     let mut sets = Vec::with_capacity(alloc, held.len())?;
     let mut passes = Vec::with_capacity(alloc, held.len())?;
+    let mut shares = Vec::with_capacity(alloc, held.len())?;
     lend_all(
         alloc,
         book.cell(),
@@ -160,6 +170,7 @@ pub fn cancel_on<K: RecordKind + Drop, B: SetsName<K, D>, D: Device, R: Wait>(
         held,
         &mut sets,
         &mut passes,
+        &mut shares,
     );
     let given = give_up_lent(
         rt,
@@ -171,6 +182,7 @@ pub fn cancel_on<K: RecordKind + Drop, B: SetsName<K, D>, D: Device, R: Wait>(
         held,
         sets.as_mut_slice(),
         passes.as_mut_slice(),
+        shares.as_mut_slice(),
         number,
         total,
         moment,

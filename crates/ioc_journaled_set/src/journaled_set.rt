@@ -14,10 +14,11 @@ ghost use Rattle.ioc_history.specs.Places.{IsNoPlace};
 ghost use Rattle.ioc_set_records.specs.Slots.{devices_of, records_of};
 ghost use Rattle.ioc_set_store.specs.SetStore.{world_of};
 ghost use Rattle.ioc_journaled_set.specs.Puts.{HaveEnded};
-ghost use Rattle.ioc_journaled_set.specs.Holding.{IsLent, IsOwner, KeepsDevices, held_view, numbers_of, Serves, Tells, IsNoCall};
+ghost use Rattle.ioc_journaled_set.specs.Holding.{IsCounted, IsLent, IsOwner, KeepsDevices, held_view, numbers_of, Serves, Tells, IsNoCall};
 ghost use Rattle.ioc_journaled_set.specs.SameDevice.{IsDeviceOf};
 
-use crate::running::{Ran, Served, count_once, run_counted, run_with_answers};
+use crate::counts::{counts_since, wait_forever};
+use crate::running::{Ran, Served, run_counted, run_with_answers};
 use crate::sets_name::SetsName;
 use crate::shared_notifications::{SharedNotifications, keep_beside};
 use ioc_device::Device;
@@ -30,7 +31,8 @@ use ioc_history::legal_laws::{
     events_are_held, holders_move, holding_lasts, lists_leave_sound, parts_share_what_is_held,
     those_ended_are_over,
 };
-use ioc_history::{Cell, Desk, KeyPass, Receipt, SharedJournal, pass};
+use ioc_history::{Cell, Desk, EngineCounts, EventCounts, KeyPass, Receipt, SharedJournal, pass};
+use ioc_ledger::TallyShare;
 use ioc_names::RecordNo;
 use ioc_notify::NotifyId;
 use ioc_notify::table_laws::lines_tell_holders;
@@ -40,17 +42,18 @@ use ioc_set_records::Slot;
 use ioc_set_store::EventBuffers;
 use ioc_values::IocError;
 use std::alloc::Global;
-use std::marker::{Model, PhantomData};
+use std::marker::Model;
 use std::sync::{Mutex, Wait};
 
-/// A set, and the pass that owns the keys of its records; a set without records needs none.
-/// Contracts see the set, and the beginning of the journal's list that the pass has seen: the set
-/// is equal to the world of all records at its own records.
+/// A set, the pass that owns the keys of its records, and its share of the engine's counts; a set
+/// without records needs neither. Contracts see the set, and the beginning of the journal's list that
+/// the pass has seen: the set is equal to the world of all records at its own records.
 #[derive(Drop)]
 pub struct JournaledSet<K: RecordKind, B: SetsName<K, D>, D: Device> {
     pub set: LockSet<K, D>,
     pub(crate) pass: Option<KeyPass>,
-    pub(crate) of: PhantomData<B>,
+    // Taken once the engine has ended.
+    pub(crate) share: Option<TallyShare<EngineCounts<K, B>>>,
 }
 
 impl<K: RecordKind, B: SetsName<K, D>, D: Device> Model for JournaledSet<K, B, D> {
@@ -61,19 +64,24 @@ impl<K: RecordKind, B: SetsName<K, D>, D: Device> Model for JournaledSet<K, B, D
 
     ghost coded = { held_view_code K.code D.code };
 
-    ghost use Rattle.ioc_journaled_set.specs.Holding.{held_view, seen_by, IsHeld};
+    ghost use Rattle.ioc_journaled_set.specs.Holding.{held_view, seen_by, IsHeld, IsCounted};
     ghost use Rattle.ioc_journaled_set.specs.SameDevice.{IsDeviceOf};
 
     ghost view = { λ h. held_view h.set (seen_by h.pass) };
 
-    ghost invariant = { λ h. IsHeld K.rules B.base (IsDeviceOf D.gives B.devices) B.table h.pass h.set };
+    ghost invariant = { λ h. IsHeld K.rules B.base (IsDeviceOf D.gives B.devices) B.table h.pass h.set × IsCounted h.share h.set };
 }
 
 impl<K: RecordKind, B: SetsName<K, D>, D: Device> JournaledSet<K, B, D> {
-    /// A set with the pass of its records. The world has the set's records, and each record has its
-    /// device.
-    pub fn new(set: LockSet<K, D>, pass: KeyPass) -> Self
+    /// A set with the pass of its records and its share of the engine's counts. The world has the
+    /// set's records, and each record has its device.
+    pub fn new(
+        set: LockSet<K, D>,
+        pass: KeyPass,
+        share: Option<TallyShare<EngineCounts<K, B>>>,
+    ) -> Self
         requires owner { IsOwner B.table pass.table_id (cell_view pass) (now_of set) }
+        requires counted { IsCounted share set }
         requires holds { Holds K.rules (map_of K.rules B.base (cell_view pass).seen) (now_of set) }
         requires devices { KeepsDevices (IsDeviceOf D.gives B.devices) set }
         ensures { result ≡ held_view set (cell_view pass).seen }
@@ -81,7 +89,7 @@ impl<K: RecordKind, B: SetsName<K, D>, D: Device> JournaledSet<K, B, D> {
         JournaledSet {
             set,
             pass: Some(pass),
-            of: PhantomData,
+            share,
         }
     }
 
@@ -109,27 +117,36 @@ impl<K: RecordKind, B: SetsName<K, D>, D: Device> JournaledSet<K, B, D> {
         let JournaledSet {
             set,
             pass: _,
-            of: _,
+            share: _,
         } = self;
         set.into_members().into_slots()
     }
 
-    /// Returns the set and the pass that owns the keys of its records. A set without records and
-    /// pass gets a pass.
-    pub fn into_parts(self, cell: &Cell, keeper: &mut KeyPass) -> (LockSet<K, D>, KeyPass)
+    /// Returns the set, the pass that owns the keys of its records, and its share of the engine's
+    /// counts. A set without records and pass gets a pass.
+    pub fn into_parts(
+        self,
+        cell: &Cell,
+        keeper: &mut KeyPass,
+    ) -> (
+        LockSet<K, D>,
+        KeyPass,
+        Option<TallyShare<EngineCounts<K, B>>>,
+    )
         requires table { (keeper.old.table_id ≡ B.table) × (cell.now.table.shared.table_id ≡ B.table) }
         ensures keeper { (keeper.new.table_id ≡ keeper.old.table_id) × (cell_view keeper.new ≡ cell_view keeper.old) }
         ensures set { result.0 ≡ self.set }
         ensures lent { IsLent K.rules B.base (IsDeviceOf D.gives B.devices) B.table result.0 (Some result.1) }
+        ensures counted { IsCounted result.2 result.0 }
     {
         let JournaledSet {
             set,
             pass: owner,
-            of: _,
+            share,
         } = self;
         match owner {
-            Some(own) => (set, own),
-            None => (set, pass::copy(cell, keeper)),
+            Some(own) => (set, own, share),
+            None => (set, pass::copy(cell, keeper), share),
         }
     }
 }
@@ -195,6 +212,7 @@ impl<K: RecordKind + Drop, B: SetsName<K, D>, D: Device> JournaledSet<K, B, D> {
         parts_count_alike::<K>();
         sets_stay_without_puts::<K, D>();
         self.set.is_sound();
+        let before = self.set.tally();
         let place = book.reserve(rt, alloc, desk)?;
         let (reply, answers) = match run_with_answers(
             &mut self.set,
@@ -220,9 +238,14 @@ impl<K: RecordKind + Drop, B: SetsName<K, D>, D: Device> JournaledSet<K, B, D> {
         let Some(mut pass) = self.pass.take() else {
             unreachable!();
         };
-        let sent = count_once(buffers.items());
-        let appended = book.append(rt, place, &mut pass, desk, entry, sent);
+        let Some(share) = self.share.take() else {
+            wait_forever(rt);
+            unreachable!();
+        };
+        let counts = counts_since(share, before, &self.set, buffers);
+        let appended = book.append(rt, place, &mut pass, desk, entry, counts);
         self.pass = Some(pass);
+        self.share = appended.share;
         Ok(Served {
             reply,
             receipt: appended.receipt,
@@ -268,10 +291,16 @@ impl<K: RecordKind + Drop, B: SetsName<K, D>, D: Device> JournaledSet<K, B, D> {
         parts_count_alike::<K>();
         lines_tell_holders();
         self.set.is_sound();
+        let tally = self.set.tally();
         let ran = run_counted(rt, alloc, book, desk, &mut self.set, buffers, event, moment)?;
         let Some(mut pass) = self.pass.take() else {
             unreachable!();
         };
+        let Some(share) = self.share.take() else {
+            wait_forever(rt);
+            unreachable!();
+        };
+        let counts = counts_since(share, tally, &self.set, buffers);
         let mut guard = puts.lock(rt);
         let all = &mut *guard;
         let Ran {
@@ -281,9 +310,10 @@ impl<K: RecordKind + Drop, B: SetsName<K, D>, D: Device> JournaledSet<K, B, D> {
             entry,
         } = ran;
         let appended = keep_beside(
-            rt, book, place, &mut pass, all, desk, buffers, entry, &before, &self.set,
+            rt, book, place, &mut pass, all, desk, buffers, entry, counts, &before, &self.set,
         );
         self.pass = Some(pass);
+        self.share = appended.share;
         Ok(Served {
             reply,
             receipt: appended.receipt,
@@ -370,7 +400,7 @@ impl<K: RecordKind + Drop, B: SetsName<K, D>, D: Device> JournaledSet<K, B, D> {
         let Some(mut pass) = self.pass.take() else {
             unreachable!();
         };
-        let appended = book.append(rt, place, &mut pass, desk, entry, 0);
+        let appended = book.append(rt, place, &mut pass, desk, entry, EventCounts::none());
         self.pass = Some(pass);
         Ok((*text, appended.receipt))
     }

@@ -13,6 +13,7 @@ mod beginning;
 pub mod changing;
 mod checkpoint;
 mod copying;
+mod counts;
 mod ending;
 pub mod give_up_laws;
 mod giving_up;

@@ -18,6 +18,7 @@ ghost use Rattle.ioc_set.specs.Linking.{MayBeOne};
 ghost use Rattle.ioc_set_store.specs.SetStore.{world_of};
 ghost use Rattle.ioc_journaled_set.specs.LinkChanges.{link_change, keys_of, IsKnown, Refuses, Parts, Leads};
 
+use crate::counts::{divide_share, take_share};
 use crate::journaled_set::JournaledSet;
 use crate::link_laws::{held_sets_may_be_one, led_sets_are_held, parted_sets_are_held};
 use crate::sets_name::SetsName;
@@ -27,14 +28,16 @@ use ioc_events::{Entry, Event, KeptAnswers, Reply};
 use ioc_fields::FieldNo;
 use ioc_history::count_laws::questions_count_nothing;
 use ioc_history::legal_laws::{holding_lasts, lists_leave_sound};
-use ioc_history::{Desk, EngineName, KeyPass, Keys, Place, Receipt, SharedJournal, pass};
+use ioc_history::{
+    Desk, EngineName, EventCounts, KeyPass, Keys, Place, Receipt, SharedJournal, pass,
+};
 use ioc_names::RecordNo;
 use ioc_record::RecordKind;
 use ioc_set::LockSet;
 use ioc_set_store::EventBuffers;
 use ioc_values::IocError;
 use std::alloc::Global;
-use std::marker::{Brand, PhantomData};
+use std::marker::Brand;
 use std::sync::Wait;
 
 // Adds a link change to the journal, and assigns the keys of the records to the passes of the two
@@ -79,7 +82,7 @@ fn keep_change<P: Keys, K: RecordKind, B: EngineName<K>, D, R: Wait>(
         answers: KeptAnswers::new(Vec::new(alloc)),
         reply: Reply::Plain,
     };
-    book.append_two::<P, R>(rt, place, one, other, desk, entry, 0)
+    book.append_two::<P, R>(rt, place, one, other, desk, entry, EventCounts::none())
         .receipt
 }
 
@@ -122,6 +125,7 @@ impl<K: RecordKind + Drop, B: SetsName<K, D>, D: Device> JournaledSet<K, B, D> {
         holding_lasts::<K>();
         parted_sets_are_held::<K, D>();
         let chosen = link.get();
+        let started = self.set.tally().started;
         let place = book.reserve(rt, alloc, desk)?;
         let rest = match self
             .set
@@ -141,15 +145,18 @@ impl<K: RecordKind + Drop, B: SetsName<K, D>, D: Device> JournaledSet<K, B, D> {
             unreachable!();
         };
         let mut other = pass::copy(book.cell(), &mut pass);
+        let mut share = take_share(rt, &mut self.share);
+        let rest_share = divide_share(rt, book, &mut share, started, &rest);
         let receipt = keep_change::<Brand, K, B, D, R>(
             rt, alloc, book, place, desk, &mut pass, &mut other, &self.set, &rest, number, field,
             chosen, moment,
         );
         self.pass = Some(pass);
+        self.share = Some(share);
         let rest = JournaledSet {
             set: rest,
             pass: Some(other),
-            of: PhantomData,
+            share: Some(rest_share),
         };
         Ok((rest, receipt))
     }
@@ -225,6 +232,7 @@ impl<K: RecordKind + Drop, B: SetsName<K, D>, D: Device> JournaledSet<K, B, D> {
         let chosen = link.get();
         self.set.devices_are_owned();
         other.set.devices_are_owned();
+        let started = self.set.tally().started;
         let place = book.reserve(rt, alloc, desk)?;
         let rest = match self.set.lead_into(
             &mut other.set,
@@ -251,6 +259,10 @@ impl<K: RecordKind + Drop, B: SetsName<K, D>, D: Device> JournaledSet<K, B, D> {
         let Some(mut beside) = other.pass.take() else {
             unreachable!();
         };
+        let mut share = take_share(rt, &mut self.share);
+        let rest_share = divide_share(rt, book, &mut share, started, &rest);
+        let others = take_share(rt, &mut other.share);
+        share.merge(others);
         let receipt = keep_change::<Brand, K, B, D, R>(
             rt,
             alloc,
@@ -267,10 +279,11 @@ impl<K: RecordKind + Drop, B: SetsName<K, D>, D: Device> JournaledSet<K, B, D> {
             moment,
         );
         self.pass = Some(pass);
+        self.share = Some(share);
         let rest = JournaledSet {
             set: rest,
             pass: Some(beside),
-            of: PhantomData,
+            share: Some(rest_share),
         };
         Ok((rest, receipt))
     }
@@ -316,7 +329,7 @@ impl<K: RecordKind + Drop, B: SetsName<K, D>, D: Device> JournaledSet<K, B, D> {
         let Some(mut pass) = self.pass.take() else {
             unreachable!();
         };
-        let appended = book.append(rt, place, &mut pass, desk, entry, 0);
+        let appended = book.append(rt, place, &mut pass, desk, entry, EventCounts::none());
         self.pass = Some(pass);
         Ok((Reply::Refused(IocError::PutDisabled), appended.receipt))
     }

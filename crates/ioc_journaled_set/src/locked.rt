@@ -7,7 +7,6 @@ use ioc_record::RecordKind;
 use ioc_set::LockSet;
 use ioc_topology::Locked;
 use std::alloc::Global;
-use std::marker::PhantomData;
 
 impl<K: RecordKind + Drop, B: SetsName<K, D>, D: Device> Locked for JournaledSet<K, B, D> {
     ghost use Rattle.ioc_journaled_set.specs.Holding.{IsSoundlyHeld, numbers_of};
@@ -20,7 +19,7 @@ impl<K: RecordKind + Drop, B: SetsName<K, D>, D: Device> Locked for JournaledSet
         JournaledSet {
             set: LockSet::empty(alloc),
             pass: None,
-            of: PhantomData,
+            share: None,
         }
     }
 

@@ -2,7 +2,6 @@
 ghost use Rattle.std.specs.Prelude.{◌≡◌, ◌≤◌, true, length, IfOk, IfErr, OnOk, OnErr};
 ghost use Rattle.ioc_store.specs.Given.{answers_of};
 ghost use Rattle.ioc_events.specs.SetReply.{told_by};
-ghost use Rattle.ioc_history.specs.Counting.{once_in};
 ghost use Rattle.ioc_history.specs.Places.{IsNoPlace};
 ghost use Rattle.ioc_set_store.specs.SetStore.{world_of};
 ghost use Rattle.ioc_set.specs.Doing.{Does, is_done_on_sets};
@@ -17,7 +16,6 @@ use ioc_record::RecordKind;
 use ioc_set::LockSet;
 use ioc_set_store::EventBuffers;
 use ioc_set_store::event_buffers::kept_answers;
-use ioc_store::OutboxItem;
 use ioc_values::IocError;
 use std::alloc::{AllocError, Global};
 use std::mem;
@@ -43,19 +41,6 @@ pub struct Served<K: RecordKind, B: EngineName<K>> {
     pub receipt: Receipt<K, B>,
     /// A ticket for each once request that the event has sent.
     pub tickets: Tickets<RequestTickets<K, B>>,
-}
-
-/// Returns the number of once requests among these items.
-pub(crate) fn count_once(items: &[OutboxItem]) -> u64
-    ensures { result ≡ length (once_in items.now) }
-{
-    let mut count = 0;
-    for item in items {
-        if let OutboxItem::Once(_) = item {
-            count += 1;
-        }
-    }
-    count
 }
 
 // Performs an event on a set. If allocation fails, nothing has changed.

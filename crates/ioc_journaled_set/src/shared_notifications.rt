@@ -7,7 +7,7 @@ ghost use Rattle.crossbeam_utils.specs.Seq.{cell_view};
 ghost use Rattle.ioc_notify.specs.Living.{is_live};
 ghost use Rattle.ioc_notify.specs.Counts.{IsTable, holders_in};
 ghost use Rattle.ioc_history.specs.declared.entry.Note.{Note};
-ghost use Rattle.ioc_history.specs.Counting.{BothMaySend, once_in};
+ghost use Rattle.ioc_history.specs.Counting.{BothMaySend, BothMayCount, IsBacked, IsGivenBack, once_in};
 ghost use Rattle.ioc_journaled_set.specs.Sent.{AreTicketsFor};
 ghost use Rattle.ioc_history.specs.Line.{holder};
 ghost use Rattle.ioc_history.specs.Account.{IsHolder, AreRecords, BothMayFollow, Call, AddedByBoth, number_given, puts_key};
@@ -16,10 +16,9 @@ ghost use Rattle.ioc_journaled_set.specs.Puts.{puts_view, MayTake, NoneMayTake, 
 ghost use Rattle.ioc_journaled_set.specs.PutPlaces.{without};
 
 use crate::put_places::PutPlaces;
-use crate::running::count_once;
 use ioc_events::{Entry, Event};
 use ioc_history::legal_laws::{lists_leave_sound, live_lasts, one_may_begin};
-use ioc_history::{Appended, Desk, EngineName, KeyPass, Place, SharedJournal};
+use ioc_history::{Appended, Desk, EngineName, EventCounts, KeyPass, Place, SharedJournal};
 use ioc_notify::table_laws::{lines_tell_holders, tables_are_short};
 use ioc_notify::{Live, NotificationCounts, NotifyId};
 use ioc_record::RecordKind;
@@ -239,6 +238,7 @@ pub(crate) fn keep_beside<K: RecordKind, B: EngineName<K>, D, R: Wait>(
     desk: &mut Desk<K, B>,
     buffers: &mut EventBuffers<K, D>,
     entry: Entry,
+    counts: EventCounts<K, B>,
     before: &[Live],
     set: &LockSet<K, D>,
 ) -> Appended<K, B>
@@ -247,13 +247,18 @@ pub(crate) fn keep_beside<K: RecordKind, B: EngineName<K>, D, R: Wait>(
     requires follows { BothMayFollow K.rules B.base (cell_view pass.old).seen (cell_view pass.old).owns all.old.seen puts_key entry }
     requires begins { IfSome (number_given entry.event) (λ number. CanBegin all.old number) }
     requires sent { BothMaySend K.rules B.base (cell_view pass.old).seen (cell_view pass.old).owns all.old.seen puts_key entry
-        (length (once_in (world_of buffers.old.store).outbox)) }
+        counts.sent }
+    requires outbox { counts.sent ≡ length (once_in (world_of buffers.old.store).outbox) }
+    requires counts { BothMayCount K.rules B.base (cell_view pass.old).seen (cell_view pass.old).owns all.old.seen puts_key entry
+        counts.share counts.before counts.after }
+    requires backed { IsBacked counts.share counts.before }
     requires moves { (log longer : List Note) → AddedByBoth K.rules B.base (cell_view pass.old).seen (cell_view pass.old).owns all.old.seen puts_key entry log longer →
         AreMoved K.rules B.base log longer before.now set.now.live }
     requires few { length set.now.live ≤ 256 }
     ensures call { Call K.rules B.base desk.old entry desk.new }
     ensures receipt { result.receipt ≡ desk.new.seen }
     ensures tickets { AreTicketsFor K.rules B.base desk.new.seen (world_of buffers.old.store).outbox result.tickets }
+    ensures share { IsGivenBack counts.share counts.after result.share }
     ensures pass { (pass.new.table_id ≡ B.table) × (cell_view pass.new ≡ holder desk.new.seen (cell_view pass.old).owns) }
     ensures seen { all.new.seen ≡ desk.new.seen }
     ensures taken { (all.new.taken ≡ all.old.taken) × (all.new.last ≡ all.old.last) }
@@ -271,8 +276,7 @@ pub(crate) fn keep_beside<K: RecordKind, B: EngineName<K>, D, R: Wait>(
     lists_leave_sound::<K>();
     all.table.is_table();
     place_begun(&mut all.places, &entry.event, &all.table);
-    let sent = count_once(buffers.items());
-    let appended = book.append_two::<Brand, R>(rt, place, pass, &mut all.pass, desk, entry, sent);
+    let appended = book.append_two::<Brand, R>(rt, place, pass, &mut all.pass, desk, entry, counts);
     recount(&mut all.table, before, set.live_puts());
     all.table.is_table();
     buffers.tell_ended(&all.table);

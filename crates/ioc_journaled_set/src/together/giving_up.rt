@@ -19,7 +19,7 @@ use crate::together::merging::merge_all;
 use ioc_device::Device;
 use ioc_events::{Entry, Event, KeptAnswers, Reply};
 use ioc_history::legal_laws::{holding_lasts, live_lasts};
-use ioc_history::{Desk, EngineName, KeyPass, Receipt, SharedJournal};
+use ioc_history::{Desk, EngineName, EventCounts, KeyPass, Receipt, SharedJournal};
 use ioc_notify::NotifyId;
 use ioc_record::RecordKind;
 use ioc_set::LockSet;
@@ -85,7 +85,7 @@ pub fn give_up<K: RecordKind + Drop, B: EngineName<K>, D: Device, R: Wait>(
         answers: KeptAnswers::new(Vec::new(alloc)),
         reply: Reply::Plain,
     };
-    let appended = book.append(rt, place, keeper, desk, entry, 0);
+    let appended = book.append(rt, place, keeper, desk, entry, EventCounts::none());
     deal_all(book.cell(), keeper, sets, passes);
     Ok(appended.receipt)
 }

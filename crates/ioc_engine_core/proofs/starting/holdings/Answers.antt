@@ -1,4 +1,4 @@
-use Rattle.std.proofs.Common.{◌≡◌, ℕ, ◌<◌, ◌^◌, List, Option, map, refl, sym, subst, length, arith, rules}
+use Rattle.std.proofs.Common.{◌≡◌, ℕ, ◌<◌, ◌^◌, List, Option, map, refl, sym, ap, ◌∙◌, subst, length, arith, rules}
 use Rattle.ioc_set_records.specs.Contents.{Contents, nothing}
 use Rattle.std.proofs.lemmas.List.{length-map}
 use Rattle.ioc_set_records.specs.declared.loaded.Loaded.{Loaded}
@@ -9,6 +9,8 @@ use Rattle.ioc_journaled_set.specs.SameDevice.{IsSameDevice, IsDeviceOf}
 use Rattle.ioc_engine_core.specs.Loading.{loaded_world, device_in, IsAtRest, AreSetsFrom}
 use Rattle.ioc_journaled_set.proofs.Devices.{unchanged}
 use Rattle.ioc_engine_core.proofs.DealtParts.{database_is_shut, database_is_free, database_is_small}
+use Rattle.std.specs.FinMap.{len}
+use Rattle.ioc_engine_core.proofs.Numbered.{many-numbered}
 use Rattle.ioc_engine_core.proofs.starting.holdings.Goals as goal
 
 pub deal-requires-clause-below : goal.deal-requires-clause-below
@@ -33,6 +35,10 @@ hold_all-requires-clause-parts g c =
       one_part = λ part le lt. c.dealt_sets_are_parts.ensures all parts sets c.requires.parts dealt part nothing lt;
     })
 
+pub hold_all-requires-clause-each : goal.hold_all-requires-clause-each
+hold_all-requires-clause-each g c =
+    ap (λ (s : List (Contents g.row.K.Denot g.row.D.Denot)). length s) c.as_mut_slice.ensures.value ∙ c.in_ok-sets.ensures.one_each ∙ sym c.requires.parts.one_each
+
 pub returns-clause-sound : goal.returns-clause-sound
 returns-clause-sound g c =
     let k = g.K.RecordKind.rules in
@@ -51,3 +57,10 @@ returns-clause-known g c = λ n has.
     let long = length-map all (λ (l : Loaded g.row.K.Denot g.row.D.Denot). l.fields) in
     let count : c.in_ok-directory.directory ≡ length all = search rules in
     omega (arith, lt, long, count)
+
+pub returns-clause-records : goal.returns-clause-records
+returns-clause-records g c =
+    let all = c.args.all.items in
+    let fields = map (λ (l : Loaded g.row.K.Denot g.row.D.Denot). l.fields) all in
+    let count : c.in_ok-directory.directory ≡ length all = search rules in
+    ap (λ (w : World g.row.K.Denot). len w.records) c.requires.base ∙ many-numbered fields ∙ length-map all (λ (l : Loaded g.row.K.Denot g.row.D.Denot). l.fields) ∙ sym count

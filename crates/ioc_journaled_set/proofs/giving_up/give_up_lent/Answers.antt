@@ -2,7 +2,7 @@ use Rattle.std.proofs.Common.{◌≡◌, sym, ◌∙◌}
 use Rattle.crossbeam_utils.specs.Seq.{cell_view}
 use Rattle.ioc_journaled_set.specs.Sets.{AreItsSets}
 use Rattle.ioc_journaled_set.specs.SameDevice.{IsDeviceOf}
-use Rattle.ioc_journaled_set.proofs.GivingUp.{held_by, lent_then, gave_all, missing_all, refused_all}
+use Rattle.ioc_journaled_set.proofs.GivingUp.{held_by, lent_then, still_counted, gave_all, missing_all, refused_all}
 use Rattle.ioc_journaled_set.proofs.giving_up.give_up_lent.Goals as goal
 
 pub give_up_all-given-requires-clause-held : goal.give_up_all-given-requires-clause-held
@@ -13,6 +13,13 @@ take_back_all-requires-clause-lent g c =
     let e = c.give_up_all-given.ensures in
     lent_then g.K.RecordKind.rules g.B.EngineName.base (IsDeviceOf g.D.Device.gives g.B.SetsName.devices) g.B.CellName.table (c.give_up_all-given.new.keeper ≡ c.args.keeper.now) (c.give_up_all-given.new.desk ≡ c.args.desk.now) (AreItsSets c.args.number c.args.total c.args.sets.now → ⊥) c.give_up_all-given.result c.args.moment c.args.number c.args.desk.now c.give_up_all-given.new.desk c.args.sets.now c.give_up_all-given.new.sets c.args.passes.now c.give_up_all-given.new.passes
     (cell_view c.args.keeper.now) (cell_view c.give_up_all-given.new.keeper) e.gave_up e.missing e.err c.give_up_all-given.auto.sets c.requires.lent
+
+pub take_back_all-requires-clause-counted : goal.take_back_all-requires-clause-counted
+take_back_all-requires-clause-counted g c =
+    let e = c.give_up_all-given.ensures in
+    still_counted g.K.RecordKind.rules c.args.moment c.args.number c.args.sets.now c.give_up_all-given.new.sets c.args.shares.now c.give_up_all-given.auto.sets c.requires.counted
+    g.B.EngineName.base g.B.CellName.table (c.give_up_all-given.new.keeper ≡ c.args.keeper.now) (c.give_up_all-given.new.desk ≡ c.args.desk.now) (AreItsSets c.args.number c.args.total c.args.sets.now → ⊥) c.give_up_all-given.result
+    c.args.desk.now c.give_up_all-given.new.desk c.args.passes.now c.give_up_all-given.new.passes (cell_view c.args.keeper.now) (cell_view c.give_up_all-given.new.keeper) e.gave_up e.missing e.err
 
 pub returns-clause-gave_up : goal.returns-clause-gave_up
 returns-clause-gave_up g c =

@@ -1,9 +1,10 @@
-use Rattle.std.proofs.Common.{◌≡◌, ◌≢◌, ℕ, ◌<◌, Option, Some, sym, ap, ◌∙◌, length, get_or, get_or-set_other, get_or-set_same, below_more, arith, rules}
+use Rattle.std.proofs.Common.{◌≡◌, ◌≢◌, ℕ, ◌<◌, Option, Some, sym, ap, ◌∙◌, subst, length, get_or, get_or-set_other, get_or-set_same, below_more, arith, rules}
 use Rattle.std.proofs.lemmas.List.{get_or_default}
 use Rattle.std.specs.Prelude.{slice_set}
 use Rattle.crossbeam_utils.specs.Seq.{cell_view}
+use Rattle.ioc_ledger.specs.Shared.{ShareView}
 use Rattle.ioc_set.specs.SetState.{SetState}
-use Rattle.ioc_journaled_set.specs.Holding.{HeldView, held_view, seen_by}
+use Rattle.ioc_journaled_set.specs.Holding.{HeldView, held_view, seen_by, IsCounted}
 use Rattle.ioc_journaled_set.specs.SameDevice.{IsDeviceOf}
 use Rattle.ioc_journaled_set.proofs.GivingUp.{owns_at, has_devices, never_empty}
 use Rattle.ioc_history.specs.Account.{Pass}
@@ -45,6 +46,15 @@ new-requires-clause-devices g c =
     has_devices g.K.RecordKind.rules g.B.EngineName.base (IsDeviceOf g.D.Device.gives g.B.SetsName.devices) g.B.CellName.table (get_or c.args.sets.now i set) c.replace-set.result (get_or c.args.passes.now i slot) (c.requires.lent i set slot within)
     (c.replace-set.ensures.value ∙ c.loop-i.invariant.sets i set (omega arith))
 
+pub new-requires-clause-counted : goal.new-requires-clause-counted
+new-requires-clause-counted g c =
+    let i = c.loop-i.i in
+    let set = c.index-sets-i.result in
+    let slot = c.index-shares-i.result in
+    let within : i < length c.args.sets.now = search rules in
+    subst (λ (o : Option ShareView). IsCounted o c.replace-set.result) (sym (c.take-in-loop-i.ensures.value ∙ c.loop-i.invariant.shares i slot (omega arith)))
+    (subst (λ (h : SetState g.row.K.Denot g.row.D.Denot). IsCounted (get_or c.args.shares.now i slot) h) (sym (c.replace-set.ensures.value ∙ c.loop-i.invariant.sets i set (omega arith))) (c.requires.counted i set slot within))
+
 pub loop-i-preserved : goal.loop-i-preserved
 loop-i-preserved g c =
     let i = c.loop-i.i in
@@ -68,5 +78,6 @@ loop-i-preserved g c =
           ∙ ap (λ (s : Option Pass). held_view (get_or sets i e) (seen_by s)) (sym slot_is ∙ get_or_default passes i slot f beside))
           j lt d e f;
       sets = λ j e le. let apart : j ≢ i = omega arith in get_or-set_other c.loop-i.sets i j c.replace-set.new.dest e apart ∙ inv.sets j e (omega arith);
+      shares = λ j f le. let apart : j ≢ i = omega arith in get_or-set_other c.loop-i.shares i j c.take-in-loop-i.new.self f apart ∙ inv.shares j f (omega arith);
       passes = λ j f le. let apart : j ≢ i = omega arith in get_or-set_other c.loop-i.passes i j c.take.new.self f apart ∙ inv.passes j f (omega arith);
     }

@@ -4,7 +4,7 @@ use Rattle.ioc_device.specs.declared.Answer.{Answer}
 use Rattle.ioc_events.specs.declared.event.Event.TheVariants.{Link}
 use Rattle.ioc_events.specs.declared.reply.Reply.TheVariants.{Plain}
 use Rattle.ioc_history.specs.Account.{BothMayFollow, Call, AddedByBoth}
-use Rattle.ioc_journaled_set.proofs.Sending.{none_sent_by_both}
+use Rattle.ioc_journaled_set.proofs.Sending.{both_send_none, both_count_none}
 use Rattle.ioc_journaled_set.proofs.link_changes.keep_change.Goals as goal
 
 pub append_two-requires-clause-other : goal.append_two-requires-clause-other
@@ -19,7 +19,11 @@ append_two-requires-clause-follows g c =
 
 pub append_two-requires-clause-sent : goal.append_two-requires-clause-sent
 append_two-requires-clause-sent g c =
-    none_sent_by_both g.K.RecordKind.rules c.questions_count_nothing.ensures g.B.EngineName.base _ refl (cell_view c.args.one.now).seen (cell_view c.args.one.now).owns (cell_view c.args.other.now).seen (cell_view c.args.other.now).owns
+    both_send_none g.K.RecordKind.rules c.questions_count_nothing.ensures g.B.EngineName.base _ refl (cell_view c.args.one.now).seen (cell_view c.args.one.now).owns (cell_view c.args.other.now).seen (cell_view c.args.other.now).owns _ c.none.ensures.sent
+
+pub append_two-requires-clause-counts : goal.append_two-requires-clause-counts
+append_two-requires-clause-counts g c =
+    both_count_none g.K.RecordKind.rules c.questions_count_nothing.ensures g.B.EngineName.base _ refl (cell_view c.args.one.now).seen (cell_view c.args.one.now).owns (cell_view c.args.other.now).seen (cell_view c.args.other.now).owns _ _ _ c.none.ensures.share
 
 pub returns-clause-call : goal.returns-clause-call
 returns-clause-call g c =

@@ -7,8 +7,7 @@ use Rattle.ioc_notify.specs.Counts.{holders_in}
 use Rattle.ioc_history.specs.declared.entry.Note.{Note}
 use Rattle.ioc_history.specs.declared.cell.View.{View}
 use Rattle.ioc_history.specs.Key.{Key}
-use Rattle.ioc_store.specs.declared.outbox.OutboxItem.{OutboxItem}
-use Rattle.ioc_history.specs.Counting.{once_in, BothMaySend}
+use Rattle.ioc_history.specs.Counting.{BothMaySend, BothMayCount}
 use Rattle.ioc_history.specs.Line.{holder, noted}
 use Rattle.ioc_history.specs.Legal.{map_of, notifications_key}
 use Rattle.ioc_history.specs.Account.{journalled, calls, number_given, numbers_given, BothMayFollow, MayBegin, AddedByBoth, puts_key}
@@ -40,8 +39,19 @@ append_two-appended-requires-clause-sent g c =
     let one = cell_view c.args.pass.now in
     let seen = ap (λ (v : PutsView). v.seen) (sym c.all.view_is) in
     let owns = ap (λ (v : View). v.owns) (sym c.all.invariant.holds) in
-    subst (λ (ks : List Key). BothMaySend k base one.seen one.owns (cell_view c.all.inside.pass).seen ks c.args.entry c.count_once-sent.result) owns
-    (subst (λ (s : List Note). BothMaySend k base one.seen one.owns s puts_key c.args.entry c.count_once-sent.result) seen (subst (λ (n : ℕ). BothMaySend k base one.seen one.owns c.args.all.now.seen puts_key c.args.entry n) (sym (c.count_once-sent.ensures ∙ ap (λ (xs : List OutboxItem). length (once_in xs)) c.items.ensures)) c.requires.sent))
+    subst (λ (ks : List Key). BothMaySend k base one.seen one.owns (cell_view c.all.inside.pass).seen ks c.args.entry c.args.counts.sent) owns
+    (subst (λ (s : List Note). BothMaySend k base one.seen one.owns s puts_key c.args.entry c.args.counts.sent) seen c.requires.sent)
+
+pub append_two-appended-requires-clause-counts : goal.append_two-appended-requires-clause-counts
+append_two-appended-requires-clause-counts g c =
+    let k = g.K.RecordKind.rules in
+    let base = g.B.EngineName.base in
+    let one = cell_view c.args.pass.now in
+    let seen = ap (λ (v : PutsView). v.seen) (sym c.all.view_is) in
+    let owns = ap (λ (v : View). v.owns) (sym c.all.invariant.holds) in
+    let counts = c.args.counts in
+    subst (λ (ks : List Key). BothMayCount k base one.seen one.owns (cell_view c.all.inside.pass).seen ks c.args.entry counts.share counts.before counts.after) owns
+    (subst (λ (s : List Note). BothMayCount k base one.seen one.owns s puts_key c.args.entry counts.share counts.before counts.after) seen c.requires.counts)
 
 pub place_begun-requires-clause-room : goal.place_begun-requires-clause-room
 place_begun-requires-clause-room g c =

@@ -14,8 +14,9 @@ use Rattle.ioc_history.proofs.Calls.{below_other, no_longer, counted}
 use Rattle.ioc_history.proofs.Adding.{account_then, below_then, called}
 use Rattle.ioc_history.proofs.Fitting.{last_fits}
 use Rattle.ioc_history.proofs.Written.{as_many, one_more_entry}
-use Rattle.ioc_history.specs.Counting.{one_if_request, IsFew, AreTicketsOf}
+use Rattle.ioc_history.specs.Counting.{one_if_request, IsFew, AreTicketsOf, counts_of}
 use Rattle.ioc_history.proofs.TicketsThen.{tickets-then, begun-then}
+use Rattle.ioc_history.proofs.CountsThen.{adds, counts-then}
 use Rattle.ioc_history.proofs.Bases.{still_leads}
 use Rattle.ioc_history.proofs.journal.Journal.append.Goals as goal
 
@@ -80,7 +81,10 @@ invariant_of-self g c =
           (let sends = c.requires.sent log n next own i.sound e.goes_on.0 i.account.legal in
           let one = sym c.is_request-is_request.ensures ∙ ap (λ (j : JournalEntry). one_if_request j.entry.event) is_made in
           subst (λ (l : List Note). AreTicketsOf k g.B.EngineName.base l c.add-tickets.new.self.counts c.add-tickets.new.self.sent) (sym seen)
-          (tickets-then k g.B.EngineName.base log (noted made (owns ++ own)) c.args.sent _ sends one c.self.inside.tickets c.add-tickets.new.self i.tickets_are c.add-tickets.ensures.tickets));
+          (tickets-then k g.B.EngineName.base log (noted made (owns ++ own)) c.args.counts.sent _ sends one c.self.inside.tickets c.add-tickets.new.self i.tickets_are c.add-tickets.ensures.tickets));
+      counted = subst (λ (l : List Note). c.record_event-share.new.book ≡ counts_of k g.B.EngineName.base l) (sym seen)
+          (counts-then k g.B.EngineName.base log (noted made (owns ++ own)) c.args.counts.share c.args.counts.before c.args.counts.after _ _
+          (c.requires.counts log n next own i.sound e.goes_on.0 i.account.legal) i.counted c.record_event-share.ensures.book);
     }
 
 pub invariant_of-desk : goal.invariant_of-desk
@@ -181,4 +185,14 @@ returns-clause-tickets g c few =
     let seen = ap (λ (v : View). v.seen) e.keeper.1 ∙ noted_so in
     let sends = c.requires.sent log n next own i.sound e.goes_on.0 i.account.legal in
     let one = sym c.is_request-is_request.ensures ∙ ap (λ (j : JournalEntry). one_if_request j.entry.event) is_made in
-    begun-then k g.B.EngineName.base log (noted made (owns ++ own)) c.args.sent _ sends one c.self.inside.tickets c.add-tickets.result i.tickets_are c.add-tickets.ensures.begun (subst (λ (l : List Note). IsFew k g.B.EngineName.base l) seen few)
+    begun-then k g.B.EngineName.base log (noted made (owns ++ own)) c.args.counts.sent _ sends one c.self.inside.tickets c.add-tickets.result i.tickets_are c.add-tickets.ensures.begun (subst (λ (l : List Note). IsFew k g.B.EngineName.base l) seen few)
+
+pub record_event-share-requires-clause-adds : goal.record_event-share-requires-clause-adds
+record_event-share-requires-clause-adds g c =
+    let i = c.self.invariant in
+    let e = c.append-pass.ensures in
+    let n = c.desk.inside.number in
+    let next = c.desk.inside.next in
+    let own = (cell_view c.desk.inside.pass).owns in
+    let log = (cell_view c.self.inside.pass).seen in
+    adds g.K.RecordKind.rules _ _ c.args.counts.share c.args.counts.before c.args.counts.after (c.requires.counts log n next own i.sound e.goes_on.0 i.account.legal)

@@ -46,6 +46,7 @@ invariant_of-self g c =
       given = i.given;
       new_desk = i.new_desk;
       tickets_are = i.tickets_are;
+      counted = i.counted;
     }
 
 pub returns-clause-dropped : goal.returns-clause-dropped

@@ -8,7 +8,7 @@ use Rattle.ioc_history.specs.Account.{desk_key, calls, calls_by, Below, IsAccoun
 use Rattle.ioc_history.specs.Desks.{LeadsFrom}
 use Rattle.ioc_history.specs.Places.{JournalOf}
 use Rattle.ioc_history.proofs.Calls.{none_below}
-use Rattle.ioc_history.specs.Counting.{AreTicketsOf}
+use Rattle.ioc_history.specs.Counting.{AreTicketsOf, counts_of}
 use Rattle.ioc_history.proofs.journal.Journal.open_desk.Goals as goal
 
 pub claim_key-pass-requires-clause-fresh : goal.claim_key-pass-requires-clause-fresh
@@ -36,6 +36,7 @@ invariant_of-self g c =
           (λ (was : Has k (cell_view c.self.inside.pass).born). let lt = i.given k was kind in omega arith) (subst (Has k) born has);
       new_desk = λ m le. subst (λ l. Below m 0 (calls l)) (sym seen) (i.new_desk m (omega arith));
       tickets_are = subst (λ (l : List Note). AreTicketsOf g.K.RecordKind.rules g.B.EngineName.base l c.self.inside.tickets.counts c.self.inside.tickets.sent) (sym seen) i.tickets_are;
+      counted = subst (λ (l : List Note). c.self.inside.counted ≡ counts_of g.K.RecordKind.rules g.B.EngineName.base l) (sym seen) i.counted;
     }
 
 pub returns-clause-desk : goal.returns-clause-desk

@@ -1,10 +1,10 @@
-use Rattle.std.proofs.Common.{List, refl, sym, ap, ◌∙◌, subst, arith}
+use Rattle.std.proofs.Common.{◌≡◌, List, refl, sym, ap, ◌∙◌, subst, arith}
 use Rattle.crossbeam_utils.specs.Seq.{cell_view}
 use Rattle.ioc_history.specs.declared.cell.View.{View}
 use Rattle.ioc_history.specs.Line.{keeper}
 use Rattle.ioc_history.specs.Account.{calls, Below, IsAccount}
 use Rattle.ioc_history.specs.declared.entry.Note.{Note}
-use Rattle.ioc_history.specs.Counting.{AreTicketsOf}
+use Rattle.ioc_history.specs.Counting.{AreTicketsOf, counts_of}
 use Rattle.ioc_history.proofs.TicketsThen.{none-yet}
 use Rattle.ioc_history.proofs.journal.Journal.without_calls.Goals as goal
 
@@ -15,7 +15,7 @@ invariant_of-result g c =
     record {
       same = c.requires.table;
       keeps = is ∙ ap (λ l. keeper l (cell_view c.args.master).born) (sym seen);
-      items_are = c.requires.none ∙ ap calls (sym seen);
+      items_are = c.requires.none.0 ∙ ap calls (sym seen);
       within = omega arith;
       few = omega arith;
       leads_from = refl;
@@ -24,4 +24,5 @@ invariant_of-result g c =
       given = λ key has kind. absurd (c.requires.given key has kind);
       new_desk = λ m le. subst (λ l. Below m 0 (calls l)) (sym seen) tt;
       tickets_are = subst (λ (l : List Note). AreTicketsOf g.K.RecordKind.rules g.B.EngineName.base l c.args.tickets.counts c.args.tickets.sent) (sym seen) (none-yet g.K.RecordKind.rules g.B.EngineName.base c.args.tickets c.requires.tickets);
+      counted = subst (λ (l : List Note). c.args.counted ≡ counts_of g.K.RecordKind.rules g.B.EngineName.base l) (sym seen) c.requires.none.1;
     }

@@ -24,10 +24,13 @@ use Rattle.ioc_journaled_set.specs.Puts.{PutsView, puts_view, CanBegin, AreMoved
 use Rattle.ioc_journaled_set.specs.SameDevice.{IsDeviceOf}
 use Rattle.ioc_journaled_set.proofs.Keys.{key_there}
 use Rattle.ioc_journaled_set.proofs.Devices.{worked_there, keeps_on}
-use Rattle.ioc_journaled_set.proofs.Serving.{one_there, owner_on, entry_is, only}
+use Rattle.ioc_journaled_set.proofs.Serving.{one_there, owner_on, entry_is, only, as_many}
 use Rattle.ioc_journaled_set.proofs.Places.{place_alike}
 use Rattle.ioc_events.specs.declared.event.Event.TheVariants.{Notify}
-use Rattle.ioc_journaled_set.proofs.Beside.{both_follow, both_send, held_beside, moved_beside, ended_beside}
+use Rattle.ioc_history.specs.Counting.{BothMaySend}
+use Rattle.ioc_journaled_set.proofs.Counting.{some_len}
+use Rattle.ioc_journaled_set.proofs.Shares.{backed, counted_then, is_there}
+use Rattle.ioc_journaled_set.proofs.Beside.{both_follow, both_send, both_count, held_beside, moved_beside, ended_beside}
 use Rattle.ioc_journaled_set.proofs.Counted.{up_to_date_on, keyed_before}
 use Rattle.ioc_journaled_set.proofs.Taken.{fewer_live}
 use Rattle.ioc_journaled_set.proofs.Ended.{have_ended}
@@ -37,7 +40,7 @@ pub unreachable-requires : goal.unreachable-requires
 unreachable-requires g c =
     let k = g.K.RecordKind.rules in
     let none : c.self.inside.pass ≡ None = sym c.take.ensures.value ∙ c.in_default.is in
-    let held = subst (λ (o : Option Pass). IsHeld k g.B.EngineName.base (IsDeviceOf g.D.Device.gives g.B.SetsName.devices) g.B.CellName.table o c.self.inside.set) none c.self.invariant in
+    let held = subst (λ (o : Option Pass). IsHeld k g.B.EngineName.base (IsDeviceOf g.D.Device.gives g.B.SetsName.devices) g.B.CellName.table o c.self.inside.set) none c.self.invariant.0 in
     held.owner c.args.target (key_there c.self.inside.set.records c.args.target (subst (λ (v : HeldView g.row.K.Denot g.row.D.Denot). Contains (numbers_of v) c.args.target) (sym c.self.view_is) c.requires.there))
 
 pub keep_beside-appended-requires-clause-follows : goal.keep_beside-appended-requires-clause-follows
@@ -46,7 +49,7 @@ keep_beside-appended-requires-clause-follows g c =
     let base = g.B.EngineName.base in
     let event = Notify c.args.target c.args.notification c.args.field c.args.given in
     let is : c.self.inside.pass ≡ Some c.in-Some.pass = sym c.take.ensures.value ∙ c.in-Some.is in
-    let held = subst (λ (o : Option Pass). IsHeld k base (IsDeviceOf g.D.Device.gives g.B.SetsName.devices) g.B.CellName.table o c.self.inside.set) is c.self.invariant in
+    let held = subst (λ (o : Option Pass). IsHeld k base (IsDeviceOf g.D.Device.gives g.B.SetsName.devices) g.B.CellName.table o c.self.inside.set) is c.self.invariant.0 in
     let own = key_there c.self.inside.set.records c.args.target (subst (λ (v : HeldView g.row.K.Denot g.row.D.Denot). Contains (numbers_of v) c.args.target) (sym c.self.view_is) c.requires.there) in
     let there : (n : ℕ) → Contains (names event) n → Has (now_of c.self.inside.set) n = λ n has. subst (λ (m : ℕ). Has (now_of c.self.inside.set) m) (one_there c.args.target n has) own in
     let does = c.in_ok-ran.ensures.does in
@@ -67,7 +70,7 @@ keep_beside-appended-requires-clause-sent g c =
     let base = g.B.EngineName.base in
     let event = Notify c.args.target c.args.notification c.args.field c.args.given in
     let is : c.self.inside.pass ≡ Some c.in-Some.pass = sym c.take.ensures.value ∙ c.in-Some.is in
-    let held = subst (λ (o : Option Pass). IsHeld k base (IsDeviceOf g.D.Device.gives g.B.SetsName.devices) g.B.CellName.table o c.self.inside.set) is c.self.invariant in
+    let held = subst (λ (o : Option Pass). IsHeld k base (IsDeviceOf g.D.Device.gives g.B.SetsName.devices) g.B.CellName.table o c.self.inside.set) is c.self.invariant.0 in
     let own = key_there c.self.inside.set.records c.args.target (subst (λ (v : HeldView g.row.K.Denot g.row.D.Denot). Contains (numbers_of v) c.args.target) (sym c.self.view_is) c.requires.there) in
     let there : (n : ℕ) → Contains (names event) n → Has (now_of c.self.inside.set) n = λ n has. subst (λ (m : ℕ). Has (now_of c.self.inside.set) m) (one_there c.args.target n has) own in
     let does = c.in_ok-ran.ensures.does in
@@ -75,12 +78,42 @@ keep_beside-appended-requires-clause-sent g c =
     let entry = entry_is k g.D.Device.gives c.self.inside.set c.run_counted.new.set c.args.moment event c.in_ok-ran.ran.reply come_to does there (answers_of come_to.calls) refl ∙ sym c.in_ok-ran.ensures.entry in
     let also = c.deref_mut-all.result.now.seen in
     let can = subst (λ (v : PutsView). CanBegin v c.args.notification) (sym c.deref_mut-all.ensures.value) c.lock_taken-guard.ensures.can in
-    both_send k g.D.Device.gives c.self.inside.set c.run_counted.new.set c.args.moment event c.in_ok-ran.ran.reply come_to does there
+    subst (λ (n : ℕ). BothMaySend k base (cell_view c.in-Some.pass).seen (cell_view c.in-Some.pass).owns also puts_key c.in_ok-ran.ran.entry n) (sym c.counts_since-counts.ensures.sent)
+    (both_send k g.D.Device.gives c.self.inside.set c.run_counted.new.set c.args.moment event c.in_ok-ran.ran.reply come_to does there
+    c.holding_lasts.ensures c.events_are_held.ensures.event c.holders_move.ensures.moves c.parts_share_what_is_held.ensures.alike
+    base (cell_view c.in-Some.pass).seen also (cell_view c.in-Some.pass).owns held.owner.covers held.holds
+    (λ log sound go legal h. tt)
+    (λ log sound go legal h. place_alike k c.one_more_has_a_place.ensures c.live_lasts.ensures c.lists_leave_sound.ensures.after c.lines_tell_holders.ensures.live c.lines_tell_holders.ensures.held base (now_of c.self.inside.set) also log c.deref_mut-all.result.now.live c.args.notification c.args.moment
+    c.is_counted.ensures.table c.is_counted.ensures.counted sound go legal h c.is_sound.ensures.counted (fewer_live c.deref_mut-all.result.now c.args.notification can) can.free) c.parts_count_alike.ensures _ entry)
+
+pub keep_beside-appended-requires-clause-counts : goal.keep_beside-appended-requires-clause-counts
+keep_beside-appended-requires-clause-counts g c =
+    let k = g.K.RecordKind.rules in
+    let base = g.B.EngineName.base in
+    let event = Notify c.args.target c.args.notification c.args.field c.args.given in
+    let is : c.self.inside.pass ≡ Some c.in-Some.pass = sym c.take.ensures.value ∙ c.in-Some.is in
+    let held = subst (λ (o : Option Pass). IsHeld k base (IsDeviceOf g.D.Device.gives g.B.SetsName.devices) g.B.CellName.table o c.self.inside.set) is c.self.invariant.0 in
+    let own = key_there c.self.inside.set.records c.args.target (subst (λ (v : HeldView g.row.K.Denot g.row.D.Denot). Contains (numbers_of v) c.args.target) (sym c.self.view_is) c.requires.there) in
+    let there : (n : ℕ) → Contains (names event) n → Has (now_of c.self.inside.set) n = λ n has. subst (λ (m : ℕ). Has (now_of c.self.inside.set) m) (one_there c.args.target n has) own in
+    let does = c.in_ok-ran.ensures.does in
+    let come_to = world_of c.run_counted.new.buffers.store in
+    let entry = entry_is k g.D.Device.gives c.self.inside.set c.run_counted.new.set c.args.moment event c.in_ok-ran.ran.reply come_to does there (answers_of come_to.calls) refl ∙ sym c.in_ok-ran.ensures.entry in
+    let also = c.deref_mut-all.result.now.seen in
+    let can = subst (λ (v : PutsView). CanBegin v c.args.notification) (sym c.deref_mut-all.ensures.value) c.lock_taken-guard.ensures.can in
+    both_count k g.D.Device.gives c.self.inside.set c.run_counted.new.set c.args.moment event c.in_ok-ran.ran.reply come_to does there
     c.holding_lasts.ensures c.events_are_held.ensures.event c.holders_move.ensures.moves c.parts_share_what_is_held.ensures.alike
     base (cell_view c.in-Some.pass).seen also (cell_view c.in-Some.pass).owns held.owner.covers held.holds
     (λ log sound go legal h. tt)
     (λ log sound go legal h. place_alike k c.one_more_has_a_place.ensures c.live_lasts.ensures c.lists_leave_sound.ensures.after c.lines_tell_holders.ensures.live c.lines_tell_holders.ensures.held base (now_of c.self.inside.set) also log c.deref_mut-all.result.now.live c.args.notification c.args.moment
     c.is_counted.ensures.table c.is_counted.ensures.counted sound go legal h c.is_sound.ensures.counted (fewer_live c.deref_mut-all.result.now c.args.notification can) can.free) c.parts_count_alike.ensures _ entry
+    c.counts_since-counts.result.share c.counts_since-counts.result.before c.counts_since-counts.result.after (λ none. is_there c.counts_since-counts.ensures.share none)
+    (c.counts_since-counts.ensures.counts.0 ∙ c.tally-tally.ensures) c.counts_since-counts.ensures.counts.1
+
+pub keep_beside-appended-requires-clause-backed : goal.keep_beside-appended-requires-clause-backed
+keep_beside-appended-requires-clause-backed g c =
+    let there = key_there c.self.inside.set.records c.args.target (subst (λ (v : HeldView g.row.K.Denot g.row.D.Denot). Contains (numbers_of v) c.args.target) (sym c.self.view_is) c.requires.there) in
+    backed c.self.inside.share c.counts_since-counts.result.share c.self.inside.set c.counts_since-counts.result.before (c.counts_since-counts.ensures.share ∙ sym (sym c.take-2.ensures.value ∙ c.in-Some-take.is)) c.self.invariant.1
+    (c.counts_since-counts.ensures.counts.0 ∙ c.tally-tally.ensures) (some_len c.self.inside.set.records c.args.target there)
 
 pub keep_beside-appended-requires-clause-begins : goal.keep_beside-appended-requires-clause-begins
 keep_beside-appended-requires-clause-begins g c =
@@ -93,7 +126,7 @@ keep_beside-appended-requires-clause-moves g c =
     let base = g.B.EngineName.base in
     let event = Notify c.args.target c.args.notification c.args.field c.args.given in
     let is : c.self.inside.pass ≡ Some c.in-Some.pass = sym c.take.ensures.value ∙ c.in-Some.is in
-    let held = subst (λ (o : Option Pass). IsHeld k base (IsDeviceOf g.D.Device.gives g.B.SetsName.devices) g.B.CellName.table o c.self.inside.set) is c.self.invariant in
+    let held = subst (λ (o : Option Pass). IsHeld k base (IsDeviceOf g.D.Device.gives g.B.SetsName.devices) g.B.CellName.table o c.self.inside.set) is c.self.invariant.0 in
     let own = key_there c.self.inside.set.records c.args.target (subst (λ (v : HeldView g.row.K.Denot g.row.D.Denot). Contains (numbers_of v) c.args.target) (sym c.self.view_is) c.requires.there) in
     let there : (n : ℕ) → Contains (names event) n → Has (now_of c.self.inside.set) n = λ n has. subst (λ (m : ℕ). Has (now_of c.self.inside.set) m) (one_there c.args.target n has) own in
     let does = c.in_ok-ran.ensures.does in
@@ -116,7 +149,7 @@ invariant_of-self-2 g c =
     let base = g.B.EngineName.base in
     let event = Notify c.args.target c.args.notification c.args.field c.args.given in
     let is : c.self.inside.pass ≡ Some c.in-Some.pass = sym c.take.ensures.value ∙ c.in-Some.is in
-    let held = subst (λ (o : Option Pass). IsHeld k base (IsDeviceOf g.D.Device.gives g.B.SetsName.devices) g.B.CellName.table o c.self.inside.set) is c.self.invariant in
+    let held = subst (λ (o : Option Pass). IsHeld k base (IsDeviceOf g.D.Device.gives g.B.SetsName.devices) g.B.CellName.table o c.self.inside.set) is c.self.invariant.0 in
     let own = key_there c.self.inside.set.records c.args.target (subst (λ (v : HeldView g.row.K.Denot g.row.D.Denot). Contains (numbers_of v) c.args.target) (sym c.self.view_is) c.requires.there) in
     let there : (n : ℕ) → Contains (names event) n → Has (now_of c.self.inside.set) n = λ n has. subst (λ (m : ℕ). Has (now_of c.self.inside.set) m) (one_there c.args.target n has) own in
     let does = c.in_ok-ran.ensures.does in
@@ -126,18 +159,22 @@ invariant_of-self-2 g c =
     let can = subst (λ (v : PutsView). CanBegin v c.args.notification) (sym c.deref_mut-all.ensures.value) c.lock_taken-guard.ensures.can in
     let pass = c.keep_beside-appended.ensures.pass in
     let added = c.keep_beside-appended.ensures.added in
-    let came = only k g.D.Device.gives c.self.inside.set c.run_counted.new.set c.args.moment event c.in_ok-ran.ran.reply come_to does there c.rules_are_steps.ensures.allowed c.events_keep_records.ensures held.holds.shut in
-    record {
-      owner = owner_on g.B.CellName.table _ _ (cell_view c.in-Some.pass) (cell_view c.keep_beside-appended.new.pass) _ (now_of c.self.inside.set) (now_of c.run_counted.new.set) held.owner (pass.0 ∙ sym held.owner.same) pass.1 came;
-      devices = keeps_on g.D.Device.gives g.B.SetsName.devices c.self.inside.set c.run_counted.new.set held.devices (worked_there does.work) came;
-      holds = subst (λ (x : View). Holds k (map_of k base x.seen) (now_of c.run_counted.new.set)) (sym pass.1)
-          (held_beside k g.D.Device.gives c.self.inside.set c.run_counted.new.set c.args.moment event c.in_ok-ran.ran.reply come_to does there
-          c.holding_lasts.ensures c.events_are_held.ensures.event c.holders_move.ensures.moves c.parts_share_what_is_held.ensures.alike
-          base (cell_view c.in-Some.pass).seen also (cell_view c.in-Some.pass).owns held.owner.covers held.holds
-          (λ log sound go legal h. tt)
-          (λ log sound go legal h. place_alike k c.one_more_has_a_place.ensures c.live_lasts.ensures c.lists_leave_sound.ensures.after c.lines_tell_holders.ensures.live c.lines_tell_holders.ensures.held base (now_of c.self.inside.set) also log c.deref_mut-all.result.now.live c.args.notification c.args.moment
-          c.is_counted.ensures.table c.is_counted.ensures.counted sound go legal h c.is_sound.ensures.counted (fewer_live c.deref_mut-all.result.now c.args.notification can) can.free) _ entry added.0 _ added.1);
-    }
+    let came = only k g.D.Device.gives c.self.inside.set c.run_counted.new.set c.args.moment event c.in_ok-ran.ran.reply come_to does there c.rules_are_steps.ensures.allowed c.events_keep_records.ensures held.holds.shut in (
+      record {
+        owner = owner_on g.B.CellName.table _ _ (cell_view c.in-Some.pass) (cell_view c.keep_beside-appended.new.pass) _ (now_of c.self.inside.set) (now_of c.run_counted.new.set) held.owner (pass.0 ∙ sym held.owner.same) pass.1 came;
+        devices = keeps_on g.D.Device.gives g.B.SetsName.devices c.self.inside.set c.run_counted.new.set held.devices (worked_there does.work) came;
+        holds = subst (λ (x : View). Holds k (map_of k base x.seen) (now_of c.run_counted.new.set)) (sym pass.1)
+            (held_beside k g.D.Device.gives c.self.inside.set c.run_counted.new.set c.args.moment event c.in_ok-ran.ran.reply come_to does there
+            c.holding_lasts.ensures c.events_are_held.ensures.event c.holders_move.ensures.moves c.parts_share_what_is_held.ensures.alike
+            base (cell_view c.in-Some.pass).seen also (cell_view c.in-Some.pass).owns held.owner.covers held.holds
+            (λ log sound go legal h. tt)
+            (λ log sound go legal h. place_alike k c.one_more_has_a_place.ensures c.live_lasts.ensures c.lists_leave_sound.ensures.after c.lines_tell_holders.ensures.live c.lines_tell_holders.ensures.held base (now_of c.self.inside.set) also log c.deref_mut-all.result.now.live c.args.notification c.args.moment
+            c.is_counted.ensures.table c.is_counted.ensures.counted sound go legal h c.is_sound.ensures.counted (fewer_live c.deref_mut-all.result.now c.args.notification can) can.free) _ entry added.0 _ added.1);
+      },
+      counted_then c.self.inside.share c.counts_since-counts.result.share c.keep_beside-appended.result.share c.self.inside.set c.run_counted.new.set c.counts_since-counts.result.after (c.counts_since-counts.ensures.share ∙ sym (sym c.take-2.ensures.value ∙ c.in-Some-take.is)) c.self.invariant.1
+          c.keep_beside-appended.ensures.share c.counts_since-counts.ensures.counts.1
+          (as_many k g.D.Device.gives c.self.inside.set c.run_counted.new.set c.args.moment event c.in_ok-ran.ran.reply come_to does there c.rules_are_steps.ensures.allowed c.events_keep_records.ensures held.holds.shut),
+    )
 
 pub returns-clause-begins : goal.returns-clause-begins
 returns-clause-begins g c =
@@ -145,7 +182,7 @@ returns-clause-begins g c =
     let base = g.B.EngineName.base in
     let event = Notify c.args.target c.args.notification c.args.field c.args.given in
     let is : c.self.inside.pass ≡ Some c.in-Some.pass = sym c.take.ensures.value ∙ c.in-Some.is in
-    let held = subst (λ (o : Option Pass). IsHeld k base (IsDeviceOf g.D.Device.gives g.B.SetsName.devices) g.B.CellName.table o c.self.inside.set) is c.self.invariant in
+    let held = subst (λ (o : Option Pass). IsHeld k base (IsDeviceOf g.D.Device.gives g.B.SetsName.devices) g.B.CellName.table o c.self.inside.set) is c.self.invariant.0 in
     let own = key_there c.self.inside.set.records c.args.target (subst (λ (v : HeldView g.row.K.Denot g.row.D.Denot). Contains (numbers_of v) c.args.target) (sym c.self.view_is) c.requires.there) in
     let there : (n : ℕ) → Contains (names event) n → Has (now_of c.self.inside.set) n = λ n has. subst (λ (m : ℕ). Has (now_of c.self.inside.set) m) (one_there c.args.target n has) own in
     let does = c.in_ok-ran.ensures.does in
@@ -178,7 +215,7 @@ returns-clause-ended g c =
     let base = g.B.EngineName.base in
     let event = Notify c.args.target c.args.notification c.args.field c.args.given in
     let is : c.self.inside.pass ≡ Some c.in-Some.pass = sym c.take.ensures.value ∙ c.in-Some.is in
-    let held = subst (λ (o : Option Pass). IsHeld k base (IsDeviceOf g.D.Device.gives g.B.SetsName.devices) g.B.CellName.table o c.self.inside.set) is c.self.invariant in
+    let held = subst (λ (o : Option Pass). IsHeld k base (IsDeviceOf g.D.Device.gives g.B.SetsName.devices) g.B.CellName.table o c.self.inside.set) is c.self.invariant.0 in
     let own = key_there c.self.inside.set.records c.args.target (subst (λ (v : HeldView g.row.K.Denot g.row.D.Denot). Contains (numbers_of v) c.args.target) (sym c.self.view_is) c.requires.there) in
     let there : (n : ℕ) → Contains (names event) n → Has (now_of c.self.inside.set) n = λ n has. subst (λ (m : ℕ). Has (now_of c.self.inside.set) m) (one_there c.args.target n has) own in
     let does = c.in_ok-ran.ensures.does in

@@ -14,27 +14,27 @@ use Rattle.ioc_journaled_set.specs.Holding.{HeldView, held_view, numbers_of, IsH
 use Rattle.ioc_journaled_set.specs.SameDevice.{IsDeviceOf}
 use Rattle.ioc_journaled_set.proofs.Keys.{key_there}
 use Rattle.ioc_journaled_set.proofs.Serving.{owner_on, get_may_follow, held_after_get}
-use Rattle.ioc_journaled_set.proofs.Sending.{none_sent}
+use Rattle.ioc_journaled_set.proofs.Sending.{sends_none, counts_none, asks_none}
 use Rattle.ioc_journaled_set.proofs.journaled_set.JournaledSet.get.Goals as goal
 
 pub unreachable-requires : goal.unreachable-requires
 unreachable-requires g c =
     let k = g.K.RecordKind.rules in
     let none : c.self.inside.pass ≡ None = sym c.take.ensures.value ∙ c.in_default.is in
-    let held = subst (λ (o : Option Pass). IsHeld k g.B.EngineName.base (IsDeviceOf g.D.Device.gives g.B.SetsName.devices) g.B.CellName.table o c.self.inside.set) none c.self.invariant in
+    let held = subst (λ (o : Option Pass). IsHeld k g.B.EngineName.base (IsDeviceOf g.D.Device.gives g.B.SetsName.devices) g.B.CellName.table o c.self.inside.set) none c.self.invariant.0 in
     held.owner c.args.number (key_there c.self.inside.set.records c.args.number (subst (λ (v : HeldView g.row.K.Denot g.row.D.Denot). Contains (numbers_of v) c.args.number) (sym c.self.view_is) c.requires.there))
 
 pub append-appended-requires-clause-set : goal.append-appended-requires-clause-set
 append-appended-requires-clause-set g c =
     let is : c.self.inside.pass ≡ Some c.in-Some.pass = sym c.take.ensures.value ∙ c.in-Some.is in
-    let held = subst (λ (o : Option Pass). IsHeld g.K.RecordKind.rules g.B.EngineName.base (IsDeviceOf g.D.Device.gives g.B.SetsName.devices) g.B.CellName.table o c.self.inside.set) is c.self.invariant in
+    let held = subst (λ (o : Option Pass). IsHeld g.K.RecordKind.rules g.B.EngineName.base (IsDeviceOf g.D.Device.gives g.B.SetsName.devices) g.B.CellName.table o c.self.inside.set) is c.self.invariant.0 in
     (held.owner.holder, λ key has desk. let record_key = held.owner.records key has in omega (arith, record_key, desk))
 
 pub append-appended-requires-clause-follows : goal.append-appended-requires-clause-follows
 append-appended-requires-clause-follows g c =
     let k = g.K.RecordKind.rules in
     let is : c.self.inside.pass ≡ Some c.in-Some.pass = sym c.take.ensures.value ∙ c.in-Some.is in
-    let held = subst (λ (o : Option Pass). IsHeld k g.B.EngineName.base (IsDeviceOf g.D.Device.gives g.B.SetsName.devices) g.B.CellName.table o c.self.inside.set) is c.self.invariant in
+    let held = subst (λ (o : Option Pass). IsHeld k g.B.EngineName.base (IsDeviceOf g.D.Device.gives g.B.SetsName.devices) g.B.CellName.table o c.self.inside.set) is c.self.invariant.0 in
     let there : Has (now_of c.self.inside.set) c.args.number =
     key_there c.self.inside.set.records c.args.number (subst (λ (v : HeldView g.row.K.Denot g.row.D.Denot). Contains (numbers_of v) c.args.number) (sym c.self.view_is) c.requires.there) in
     let none = c.new-2.ensures ∙ c.new.ensures.items in
@@ -42,32 +42,41 @@ append-appended-requires-clause-follows g c =
     (cell_view c.in-Some.pass).seen (cell_view c.in-Some.pass).owns held.owner.covers held.holds _ (λ i. record { moment = c.args.moment; event = Get c.args.number c.args.field; answers = sym none i; reply = c.get-reply.result })
 
 pub append-appended-requires-clause-sent : goal.append-appended-requires-clause-sent
-append-appended-requires-clause-sent g c = none_sent g.K.RecordKind.rules c.questions_count_nothing.ensures g.B.EngineName.base _ refl (cell_view c.in-Some.pass).seen (cell_view c.in-Some.pass).owns
+append-appended-requires-clause-sent g c =
+    sends_none g.K.RecordKind.rules g.B.EngineName.base (cell_view c.in-Some.pass).seen (cell_view c.in-Some.pass).owns _
+    (asks_none g.K.RecordKind.rules c.questions_count_nothing.ensures g.B.EngineName.base _ refl (cell_view c.in-Some.pass).seen (cell_view c.in-Some.pass).owns) _ c.none.ensures.sent
+
+pub append-appended-requires-clause-counts : goal.append-appended-requires-clause-counts
+append-appended-requires-clause-counts g c =
+    counts_none g.K.RecordKind.rules g.B.EngineName.base (cell_view c.in-Some.pass).seen (cell_view c.in-Some.pass).owns _
+    (asks_none g.K.RecordKind.rules c.questions_count_nothing.ensures g.B.EngineName.base _ refl (cell_view c.in-Some.pass).seen (cell_view c.in-Some.pass).owns) _ _ _ c.none.ensures.share
 
 pub invariant_of-self : goal.invariant_of-self
 invariant_of-self g c =
     let k = g.K.RecordKind.rules in
     let is : c.self.inside.pass ≡ Some c.in-Some.pass = sym c.take.ensures.value ∙ c.in-Some.is in
-    let held = subst (λ (o : Option Pass). IsHeld k g.B.EngineName.base (IsDeviceOf g.D.Device.gives g.B.SetsName.devices) g.B.CellName.table o c.self.inside.set) is c.self.invariant in
+    let held = subst (λ (o : Option Pass). IsHeld k g.B.EngineName.base (IsDeviceOf g.D.Device.gives g.B.SetsName.devices) g.B.CellName.table o c.self.inside.set) is c.self.invariant.0 in
     let there : Has (now_of c.self.inside.set) c.args.number =
     key_there c.self.inside.set.records c.args.number (subst (λ (v : HeldView g.row.K.Denot g.row.D.Denot). Contains (numbers_of v) c.args.number) (sym c.self.view_is) c.requires.there) in
     let none = c.new-2.ensures ∙ c.new.ensures.items in
     let set = c.append-appended.ensures.set in
-    let added = c.append-appended.ensures.added in
-    record {
-      owner = owner_on g.B.CellName.table _ _ (cell_view c.in-Some.pass) (cell_view c.append-appended.new.set) _ (now_of c.self.inside.set) (now_of c.self.inside.set) held.owner set.0 set.1 (λ n has. has);
-      holds =
-          subst (λ (x : View). Holds k (map_of k g.B.EngineName.base x.seen) (now_of c.self.inside.set)) (sym set.1)
-          (held_after_get k c.holding_lasts.ensures c.events_are_held.ensures.asks g.B.EngineName.base (now_of c.self.inside.set) c.args.moment c.args.number c.args.field c.get-reply.result c.get-reply.ensures there
-          (cell_view c.in-Some.pass).seen (cell_view c.in-Some.pass).owns held.owner.covers held.holds _ (λ i. record { moment = c.args.moment; event = Get c.args.number c.args.field; answers = sym none i; reply = c.get-reply.result }) added.0 _ added.1);
-      devices = held.devices;
-    }
+    let added = c.append-appended.ensures.added in (
+      record {
+        owner = owner_on g.B.CellName.table _ _ (cell_view c.in-Some.pass) (cell_view c.append-appended.new.set) _ (now_of c.self.inside.set) (now_of c.self.inside.set) held.owner set.0 set.1 (λ n has. has);
+        holds =
+            subst (λ (x : View). Holds k (map_of k g.B.EngineName.base x.seen) (now_of c.self.inside.set)) (sym set.1)
+            (held_after_get k c.holding_lasts.ensures c.events_are_held.ensures.asks g.B.EngineName.base (now_of c.self.inside.set) c.args.moment c.args.number c.args.field c.get-reply.result c.get-reply.ensures there
+            (cell_view c.in-Some.pass).seen (cell_view c.in-Some.pass).owns held.owner.covers held.holds _ (λ i. record { moment = c.args.moment; event = Get c.args.number c.args.field; answers = sym none i; reply = c.get-reply.result }) added.0 _ added.1);
+        devices = held.devices;
+      },
+      c.self.invariant.1,
+    )
 
 pub returns-clause-tells : goal.returns-clause-tells
 returns-clause-tells g c =
     let k = g.K.RecordKind.rules in
     let is : c.self.inside.pass ≡ Some c.in-Some.pass = sym c.take.ensures.value ∙ c.in-Some.is in
-    let held = subst (λ (o : Option Pass). IsHeld k g.B.EngineName.base (IsDeviceOf g.D.Device.gives g.B.SetsName.devices) g.B.CellName.table o c.self.inside.set) is c.self.invariant in
+    let held = subst (λ (o : Option Pass). IsHeld k g.B.EngineName.base (IsDeviceOf g.D.Device.gives g.B.SetsName.devices) g.B.CellName.table o c.self.inside.set) is c.self.invariant.0 in
     let there : Has (now_of c.self.inside.set) c.args.number =
     key_there c.self.inside.set.records c.args.number (subst (λ (v : HeldView g.row.K.Denot g.row.D.Denot). Contains (numbers_of v) c.args.number) (sym c.self.view_is) c.requires.there) in
     let none = c.new-2.ensures ∙ c.new.ensures.items in

@@ -15,18 +15,20 @@ invariant_of-self-2 g c =
     let base = g.B.EngineName.base in
     let set = c.self.inside.set in
     let is : c.self.inside.pass ≡ Some c.in-Some.pass = sym c.take.ensures.value ∙ c.in-Some.is in
-    let held = subst (λ (o : Option Pass). IsHeld k base (IsDeviceOf g.D.Device.gives g.B.SetsName.devices) g.B.CellName.table o set) is c.self.invariant in
-    let e = c.tell_all.ensures in
-    record {
-      owner = owner_on g.B.CellName.table _ _ (cell_view c.in-Some.pass) (cell_view c.tell_all.new.set) c.args.journal.now.filled (now_of set) (now_of set) held.owner e.set.0 e.set.1 (λ n has. has);
-      holds = holds_known k c.holding_lasts.ensures base (now_of set) (cell_view c.in-Some.pass) (cell_view c.tell_all.new.set) c.args.journal.now.filled held.owner.covers held.holds e.goes_on e.legal.1 e.set.1;
-      devices = held.devices;
-    }
+    let held = subst (λ (o : Option Pass). IsHeld k base (IsDeviceOf g.D.Device.gives g.B.SetsName.devices) g.B.CellName.table o set) is c.self.invariant.0 in
+    let e = c.tell_all.ensures in (
+      record {
+        owner = owner_on g.B.CellName.table _ _ (cell_view c.in-Some.pass) (cell_view c.tell_all.new.set) c.args.journal.now.filled (now_of set) (now_of set) held.owner e.set.0 e.set.1 (λ n has. has);
+        holds = holds_known k c.holding_lasts.ensures base (now_of set) (cell_view c.in-Some.pass) (cell_view c.tell_all.new.set) c.args.journal.now.filled held.owner.covers held.holds e.goes_on e.legal.1 e.set.1;
+        devices = held.devices;
+      },
+      c.self.invariant.1,
+    )
 
 pub invariant_of-self : goal.invariant_of-self
 invariant_of-self g c =
     let none : c.self.inside.pass ≡ None = sym c.take.ensures.value ∙ c.in_default.is in
-    subst (λ (o : Option Pass). IsHeld g.K.RecordKind.rules g.B.EngineName.base (IsDeviceOf g.D.Device.gives g.B.SetsName.devices) g.B.CellName.table o c.self.inside.set) (none ∙ sym c.take.ensures.after) c.self.invariant
+    (subst (λ (o : Option Pass). IsHeld g.K.RecordKind.rules g.B.EngineName.base (IsDeviceOf g.D.Device.gives g.B.SetsName.devices) g.B.CellName.table o c.self.inside.set) (none ∙ sym c.take.ensures.after) c.self.invariant.0, c.self.invariant.1)
 
 pub returns-clause-told : goal.returns-clause-told
 returns-clause-told g c =
@@ -34,7 +36,7 @@ returns-clause-told g c =
     let base = g.B.EngineName.base in
     let set = c.self.inside.set in
     let is : c.self.inside.pass ≡ Some c.in-Some.pass = sym c.take.ensures.value ∙ c.in-Some.is in
-    let held = subst (λ (o : Option Pass). IsHeld k base (IsDeviceOf g.D.Device.gives g.B.SetsName.devices) g.B.CellName.table o set) is c.self.invariant in
+    let held = subst (λ (o : Option Pass). IsHeld k base (IsDeviceOf g.D.Device.gives g.B.SetsName.devices) g.B.CellName.table o set) is c.self.invariant.0 in
     let e = c.tell_all.ensures in
     let holds = holds_known k c.holding_lasts.ensures base (now_of set) (cell_view c.in-Some.pass) (holder c.args.journal.now.filled (cell_view c.in-Some.pass).owns) c.args.journal.now.filled held.owner.covers held.holds e.goes_on e.legal.1 refl in
     λ n some. holds.records n some
@@ -45,7 +47,7 @@ returns-clause-waiting g c =
     let base = g.B.EngineName.base in
     let set = c.self.inside.set in
     let is : c.self.inside.pass ≡ Some c.in-Some.pass = sym c.take.ensures.value ∙ c.in-Some.is in
-    let held = subst (λ (o : Option Pass). IsHeld k base (IsDeviceOf g.D.Device.gives g.B.SetsName.devices) g.B.CellName.table o set) is c.self.invariant in
+    let held = subst (λ (o : Option Pass). IsHeld k base (IsDeviceOf g.D.Device.gives g.B.SetsName.devices) g.B.CellName.table o set) is c.self.invariant.0 in
     let e = c.tell_all.ensures in
     let holds = holds_known k c.holding_lasts.ensures base (now_of set) (cell_view c.in-Some.pass) (holder c.args.journal.now.filled (cell_view c.in-Some.pass).owns) c.args.journal.now.filled held.owner.covers held.holds e.goes_on e.legal.1 refl in
     λ n some. holds.waiting n some

@@ -1,11 +1,10 @@
-use Rattle.std.proofs.Common.{◌≡◌, ℕ, List, length, Option, Some, None, sym, ap, ◌∙◌, subst, arith}
+use Rattle.std.proofs.Common.{◌≡◌, ℕ, Option, Some, None, sym, ap, ◌∙◌, subst, arith}
 use Rattle.std.specs.Prelude.{Contains}
 use Rattle.crossbeam_utils.specs.Seq.{cell_view}
 use Rattle.ioc_store.specs.World.{Has}
 use Rattle.ioc_events.specs.declared.event.Entry.{Entry}
 use Rattle.ioc_events.specs.Step.{names}
-use Rattle.ioc_history.specs.Counting.{once_in, MaySend}
-use Rattle.ioc_store.specs.declared.outbox.OutboxItem.{OutboxItem}
+use Rattle.ioc_history.specs.Counting.{MaySend}
 use Rattle.ioc_history.specs.Covering.{Holds}
 use Rattle.ioc_history.specs.Legal.{map_of}
 use Rattle.ioc_history.specs.declared.cell.View.{View}
@@ -19,21 +18,23 @@ use Rattle.ioc_journaled_set.specs.SameDevice.{IsDeviceOf}
 use Rattle.ioc_journaled_set.proofs.Keys.{key_there}
 use Rattle.ioc_journaled_set.proofs.Devices.{worked_there, keeps_on}
 use Rattle.ioc_journaled_set.proofs.Ended.{none_have_ended}
-use Rattle.ioc_journaled_set.proofs.Serving.{names_one, begins_no_put, owner_on, entry_is, none_held, none_ended, may_follow, may_send, held_then, only}
+use Rattle.ioc_journaled_set.proofs.Serving.{names_one, begins_no_put, owner_on, entry_is, none_held, none_ended, may_follow, may_send, may_count, held_then, only, as_many}
+use Rattle.ioc_journaled_set.proofs.Counting.{some_len}
+use Rattle.ioc_journaled_set.proofs.Shares.{backed, counted_then, is_there}
 use Rattle.ioc_journaled_set.proofs.journaled_set.JournaledSet.serve_alone.Goals as goal
 
 pub unreachable-requires : goal.unreachable-requires
 unreachable-requires g c =
     let k = g.K.RecordKind.rules in
     let none : c.self.inside.pass ≡ None = sym c.take.ensures.value ∙ c.in_default.is in
-    let held = subst (λ (o : Option Pass). IsHeld k g.B.EngineName.base (IsDeviceOf g.D.Device.gives g.B.SetsName.devices) g.B.CellName.table o c.self.inside.set) none c.self.invariant in
+    let held = subst (λ (o : Option Pass). IsHeld k g.B.EngineName.base (IsDeviceOf g.D.Device.gives g.B.SetsName.devices) g.B.CellName.table o c.self.inside.set) none c.self.invariant.0 in
     let one = names_one c.args.event.now c.requires.ordinary in
     held.owner one.0 (key_there c.self.inside.set.records one.0 (subst (λ (v : HeldView g.row.K.Denot g.row.D.Denot). Contains (numbers_of v) one.0) (sym c.self.view_is) (c.requires.there one.0 one.1)))
 
 pub append-appended-requires-clause-set : goal.append-appended-requires-clause-set
 append-appended-requires-clause-set g c =
     let is : c.self.inside.pass ≡ Some c.in-Some.pass = sym c.take.ensures.value ∙ c.in-Some.is in
-    let held = subst (λ (o : Option Pass). IsHeld g.K.RecordKind.rules g.B.EngineName.base (IsDeviceOf g.D.Device.gives g.B.SetsName.devices) g.B.CellName.table o c.self.inside.set) is c.self.invariant in
+    let held = subst (λ (o : Option Pass). IsHeld g.K.RecordKind.rules g.B.EngineName.base (IsDeviceOf g.D.Device.gives g.B.SetsName.devices) g.B.CellName.table o c.self.inside.set) is c.self.invariant.0 in
     (held.owner.holder, λ key has desk. let record_key = held.owner.records key has in omega (arith, record_key, desk))
 
 pub append-appended-requires-clause-follows : goal.append-appended-requires-clause-follows
@@ -41,7 +42,7 @@ append-appended-requires-clause-follows g c =
     let k = g.K.RecordKind.rules in
     let none = subst (λ (v : HeldView g.row.K.Denot g.row.D.Denot). NoneIsLive v.set) (sym c.self.view_is) c.requires.none in
     let is : c.self.inside.pass ≡ Some c.in-Some.pass = sym c.take.ensures.value ∙ c.in-Some.is in
-    let held = subst (λ (o : Option Pass). IsHeld k g.B.EngineName.base (IsDeviceOf g.D.Device.gives g.B.SetsName.devices) g.B.CellName.table o c.self.inside.set) is c.self.invariant in
+    let held = subst (λ (o : Option Pass). IsHeld k g.B.EngineName.base (IsDeviceOf g.D.Device.gives g.B.SetsName.devices) g.B.CellName.table o c.self.inside.set) is c.self.invariant.0 in
     let there : (n : ℕ) → Contains (names c.args.event.now) n → Has (now_of c.self.inside.set) n = λ n has.
     key_there c.self.inside.set.records n (subst (λ (v : HeldView g.row.K.Denot g.row.D.Denot). Contains (numbers_of v) n) (sym c.self.view_is) (c.requires.there n has)) in
     let does = c.in-Ok.ensures.ok in
@@ -58,7 +59,7 @@ append-appended-requires-clause-sent g c =
     let k = g.K.RecordKind.rules in
     let none = subst (λ (v : HeldView g.row.K.Denot g.row.D.Denot). NoneIsLive v.set) (sym c.self.view_is) c.requires.none in
     let is : c.self.inside.pass ≡ Some c.in-Some.pass = sym c.take.ensures.value ∙ c.in-Some.is in
-    let held = subst (λ (o : Option Pass). IsHeld k g.B.EngineName.base (IsDeviceOf g.D.Device.gives g.B.SetsName.devices) g.B.CellName.table o c.self.inside.set) is c.self.invariant in
+    let held = subst (λ (o : Option Pass). IsHeld k g.B.EngineName.base (IsDeviceOf g.D.Device.gives g.B.SetsName.devices) g.B.CellName.table o c.self.inside.set) is c.self.invariant.0 in
     let there : (n : ℕ) → Contains (names c.args.event.now) n → Has (now_of c.self.inside.set) n = λ n has.
     key_there c.self.inside.set.records n (subst (λ (v : HeldView g.row.K.Denot g.row.D.Denot). Contains (numbers_of v) n) (sym c.self.view_is) (c.requires.there n has)) in
     let does = c.in-Ok.ensures.ok in
@@ -66,10 +67,36 @@ append-appended-requires-clause-sent g c =
     let same = none_held k g.D.Device.gives c.self.inside.set c.run_with_answers.new.set c.args.moment c.args.event.now c.in-Ok.done.0 (world_of c.run_with_answers.new.buffers.store) does there
     c.events_count_holders.ensures.event c.rules_are_steps.ensures.allowed c.is_sound.ensures.counted none
     (c.sets_stay_without_puts.ensures.stay c.self.inside.set c.run_with_answers.new.set c.args.moment c.args.event.now c.in-Ok.done.0 (world_of c.run_with_answers.new.buffers.store) does c.requires.ordinary c.is_sound.ensures none) in
-    subst (λ (n : ℕ). MaySend k g.B.EngineName.base (cell_view c.in-Some.pass).seen (cell_view c.in-Some.pass).owns (record { moment = c.args.moment; event = c.args.event.now; answers = c.in-Ok.done.1; reply = c.in-Ok.done.0 }) n) (sym (c.count_once-sent.ensures ∙ ap (λ (xs : List OutboxItem). length (once_in xs)) c.items.ensures))
+    subst (λ (n : ℕ). MaySend k g.B.EngineName.base (cell_view c.in-Some.pass).seen (cell_view c.in-Some.pass).owns (record { moment = c.args.moment; event = c.args.event.now; answers = c.in-Ok.done.1; reply = c.in-Ok.done.0 }) n) (sym c.counts_since-counts.ensures.sent)
     (may_send k g.D.Device.gives c.self.inside.set c.run_with_answers.new.set c.args.moment c.args.event.now c.in-Ok.done.0 (world_of c.run_with_answers.new.buffers.store) does there
     c.holding_lasts.ensures c.events_are_held.ensures.event c.holders_move.ensures.moves c.parts_share_what_is_held.ensures.alike c.requires.ordinary same
     g.B.EngineName.base (cell_view c.in-Some.pass).seen (cell_view c.in-Some.pass).owns held.owner.covers held.holds c.parts_count_alike.ensures _ entry)
+
+pub append-appended-requires-clause-counts : goal.append-appended-requires-clause-counts
+append-appended-requires-clause-counts g c =
+    let k = g.K.RecordKind.rules in
+    let none = subst (λ (v : HeldView g.row.K.Denot g.row.D.Denot). NoneIsLive v.set) (sym c.self.view_is) c.requires.none in
+    let is : c.self.inside.pass ≡ Some c.in-Some.pass = sym c.take.ensures.value ∙ c.in-Some.is in
+    let held = subst (λ (o : Option Pass). IsHeld k g.B.EngineName.base (IsDeviceOf g.D.Device.gives g.B.SetsName.devices) g.B.CellName.table o c.self.inside.set) is c.self.invariant.0 in
+    let there : (n : ℕ) → Contains (names c.args.event.now) n → Has (now_of c.self.inside.set) n = λ n has.
+    key_there c.self.inside.set.records n (subst (λ (v : HeldView g.row.K.Denot g.row.D.Denot). Contains (numbers_of v) n) (sym c.self.view_is) (c.requires.there n has)) in
+    let does = c.in-Ok.ensures.ok in
+    let entry = entry_is k g.D.Device.gives c.self.inside.set c.run_with_answers.new.set c.args.moment c.args.event.now c.in-Ok.done.0 (world_of c.run_with_answers.new.buffers.store) does there c.in-Ok.done.1 c.in-Ok.ensures.answers in
+    let same = none_held k g.D.Device.gives c.self.inside.set c.run_with_answers.new.set c.args.moment c.args.event.now c.in-Ok.done.0 (world_of c.run_with_answers.new.buffers.store) does there
+    c.events_count_holders.ensures.event c.rules_are_steps.ensures.allowed c.is_sound.ensures.counted none
+    (c.sets_stay_without_puts.ensures.stay c.self.inside.set c.run_with_answers.new.set c.args.moment c.args.event.now c.in-Ok.done.0 (world_of c.run_with_answers.new.buffers.store) does c.requires.ordinary c.is_sound.ensures none) in
+    may_count k g.D.Device.gives c.self.inside.set c.run_with_answers.new.set c.args.moment c.args.event.now c.in-Ok.done.0 (world_of c.run_with_answers.new.buffers.store) does there
+    c.holding_lasts.ensures c.events_are_held.ensures.event c.holders_move.ensures.moves c.parts_share_what_is_held.ensures.alike c.requires.ordinary same
+    g.B.EngineName.base (cell_view c.in-Some.pass).seen (cell_view c.in-Some.pass).owns held.owner.covers held.holds c.parts_count_alike.ensures _ entry
+    c.counts_since-counts.result.share c.counts_since-counts.result.before c.counts_since-counts.result.after (λ none. is_there c.counts_since-counts.ensures.share none)
+    (c.counts_since-counts.ensures.counts.0 ∙ c.tally-before.ensures) c.counts_since-counts.ensures.counts.1
+
+pub append-appended-requires-clause-backed : goal.append-appended-requires-clause-backed
+append-appended-requires-clause-backed g c =
+    let one = names_one c.args.event.now c.requires.ordinary in
+    let there = key_there c.self.inside.set.records one.0 (subst (λ (v : HeldView g.row.K.Denot g.row.D.Denot). Contains (numbers_of v) one.0) (sym c.self.view_is) (c.requires.there one.0 one.1)) in
+    backed c.self.inside.share c.counts_since-counts.result.share c.self.inside.set c.counts_since-counts.result.before (c.counts_since-counts.ensures.share ∙ sym (sym c.take-2.ensures.value ∙ c.in-Some-take.is)) c.self.invariant.1
+    (c.counts_since-counts.ensures.counts.0 ∙ c.tally-before.ensures) (some_len c.self.inside.set.records one.0 there)
 
 pub append-appended-requires-clause-begins : goal.append-appended-requires-clause-begins
 append-appended-requires-clause-begins g c = begins_none (cell_view c.in-Some.pass).seen (cell_view c.in-Some.pass).owns c.args.event.now (begins_no_put c.args.event.now c.requires.ordinary)
@@ -79,7 +106,7 @@ invariant_of-self-2 g c =
     let k = g.K.RecordKind.rules in
     let none = subst (λ (v : HeldView g.row.K.Denot g.row.D.Denot). NoneIsLive v.set) (sym c.self.view_is) c.requires.none in
     let is : c.self.inside.pass ≡ Some c.in-Some.pass = sym c.take.ensures.value ∙ c.in-Some.is in
-    let held = subst (λ (o : Option Pass). IsHeld k g.B.EngineName.base (IsDeviceOf g.D.Device.gives g.B.SetsName.devices) g.B.CellName.table o c.self.inside.set) is c.self.invariant in
+    let held = subst (λ (o : Option Pass). IsHeld k g.B.EngineName.base (IsDeviceOf g.D.Device.gives g.B.SetsName.devices) g.B.CellName.table o c.self.inside.set) is c.self.invariant.0 in
     let there : (n : ℕ) → Contains (names c.args.event.now) n → Has (now_of c.self.inside.set) n = λ n has.
     key_there c.self.inside.set.records n (subst (λ (v : HeldView g.row.K.Denot g.row.D.Denot). Contains (numbers_of v) n) (sym c.self.view_is) (c.requires.there n has)) in
     let does = c.in-Ok.ensures.ok in
@@ -90,22 +117,26 @@ invariant_of-self-2 g c =
     c.events_count_holders.ensures.event c.rules_are_steps.ensures.allowed c.is_sound.ensures.counted none
     (c.sets_stay_without_puts.ensures.stay c.self.inside.set c.run_with_answers.new.set c.args.moment c.args.event.now c.in-Ok.done.0 (world_of c.run_with_answers.new.buffers.store) does c.requires.ordinary c.is_sound.ensures none) in
     let came = only k g.D.Device.gives c.self.inside.set c.run_with_answers.new.set c.args.moment c.args.event.now c.in-Ok.done.0 (world_of c.run_with_answers.new.buffers.store) does there
-    c.rules_are_steps.ensures.allowed c.events_keep_records.ensures held.holds.shut in
-    record {
-      owner = owner_on g.B.CellName.table _ _ (cell_view c.in-Some.pass) (cell_view c.append-appended.new.set) _ (now_of c.self.inside.set) (now_of c.run_with_answers.new.set) held.owner set.0 set.1 came;
-      devices = keeps_on g.D.Device.gives g.B.SetsName.devices c.self.inside.set c.run_with_answers.new.set held.devices (worked_there does.work) came;
-      holds =
-          subst (λ (x : View). Holds k (map_of k g.B.EngineName.base x.seen) (now_of c.run_with_answers.new.set)) (sym set.1)
-          (held_then k g.D.Device.gives c.self.inside.set c.run_with_answers.new.set c.args.moment c.args.event.now c.in-Ok.done.0 (world_of c.run_with_answers.new.buffers.store) does there
-          c.holding_lasts.ensures c.events_are_held.ensures.event c.holders_move.ensures.moves c.parts_share_what_is_held.ensures.alike c.requires.ordinary same
-          g.B.EngineName.base (cell_view c.in-Some.pass).seen (cell_view c.in-Some.pass).owns held.owner.covers held.holds _ entry added.0 _ added.1);
-    }
+    c.rules_are_steps.ensures.allowed c.events_keep_records.ensures held.holds.shut in (
+      record {
+        owner = owner_on g.B.CellName.table _ _ (cell_view c.in-Some.pass) (cell_view c.append-appended.new.set) _ (now_of c.self.inside.set) (now_of c.run_with_answers.new.set) held.owner set.0 set.1 came;
+        devices = keeps_on g.D.Device.gives g.B.SetsName.devices c.self.inside.set c.run_with_answers.new.set held.devices (worked_there does.work) came;
+        holds =
+            subst (λ (x : View). Holds k (map_of k g.B.EngineName.base x.seen) (now_of c.run_with_answers.new.set)) (sym set.1)
+            (held_then k g.D.Device.gives c.self.inside.set c.run_with_answers.new.set c.args.moment c.args.event.now c.in-Ok.done.0 (world_of c.run_with_answers.new.buffers.store) does there
+            c.holding_lasts.ensures c.events_are_held.ensures.event c.holders_move.ensures.moves c.parts_share_what_is_held.ensures.alike c.requires.ordinary same
+            g.B.EngineName.base (cell_view c.in-Some.pass).seen (cell_view c.in-Some.pass).owns held.owner.covers held.holds _ entry added.0 _ added.1);
+      },
+      counted_then c.self.inside.share c.counts_since-counts.result.share c.append-appended.result.share c.self.inside.set c.run_with_answers.new.set c.counts_since-counts.result.after (c.counts_since-counts.ensures.share ∙ sym (sym c.take-2.ensures.value ∙ c.in-Some-take.is)) c.self.invariant.1
+          c.append-appended.ensures.share c.counts_since-counts.ensures.counts.1
+          (as_many k g.D.Device.gives c.self.inside.set c.run_with_answers.new.set c.args.moment c.args.event.now c.in-Ok.done.0 (world_of c.run_with_answers.new.buffers.store) does there c.rules_are_steps.ensures.allowed c.events_keep_records.ensures held.holds.shut),
+    )
 
 pub returns-clause-serves : goal.returns-clause-serves
 returns-clause-serves g c =
     let k = g.K.RecordKind.rules in
     let is : c.self.inside.pass ≡ Some c.in-Some.pass = sym c.take.ensures.value ∙ c.in-Some.is in
-    let held = subst (λ (o : Option Pass). IsHeld k g.B.EngineName.base (IsDeviceOf g.D.Device.gives g.B.SetsName.devices) g.B.CellName.table o c.self.inside.set) is c.self.invariant in
+    let held = subst (λ (o : Option Pass). IsHeld k g.B.EngineName.base (IsDeviceOf g.D.Device.gives g.B.SetsName.devices) g.B.CellName.table o c.self.inside.set) is c.self.invariant.0 in
     let there : (n : ℕ) → Contains (names c.args.event.now) n → Has (now_of c.self.inside.set) n = λ n has.
     key_there c.self.inside.set.records n (subst (λ (v : HeldView g.row.K.Denot g.row.D.Denot). Contains (numbers_of v) n) (sym c.self.view_is) (c.requires.there n has)) in
     let does = c.in-Ok.ensures.ok in
@@ -120,7 +151,7 @@ returns-clause-ended g c =
     let k = g.K.RecordKind.rules in
     let none = subst (λ (v : HeldView g.row.K.Denot g.row.D.Denot). NoneIsLive v.set) (sym c.self.view_is) c.requires.none in
     let is : c.self.inside.pass ≡ Some c.in-Some.pass = sym c.take.ensures.value ∙ c.in-Some.is in
-    let held = subst (λ (o : Option Pass). IsHeld k g.B.EngineName.base (IsDeviceOf g.D.Device.gives g.B.SetsName.devices) g.B.CellName.table o c.self.inside.set) is c.self.invariant in
+    let held = subst (λ (o : Option Pass). IsHeld k g.B.EngineName.base (IsDeviceOf g.D.Device.gives g.B.SetsName.devices) g.B.CellName.table o c.self.inside.set) is c.self.invariant.0 in
     let there : (n : ℕ) → Contains (names c.args.event.now) n → Has (now_of c.self.inside.set) n = λ n has.
     key_there c.self.inside.set.records n (subst (λ (v : HeldView g.row.K.Denot g.row.D.Denot). Contains (numbers_of v) n) (sym c.self.view_is) (c.requires.there n has)) in
     let does = c.in-Ok.ensures.ok in

@@ -5,7 +5,8 @@ use Rattle.crossbeam_utils.specs.Seq.{cell_view}
 use Rattle.ioc_history.specs.declared.entry.Note.{Note}
 use Rattle.ioc_history.specs.declared.cell.View.{View}
 use Rattle.ioc_history.specs.Key.{Key}
-use Rattle.ioc_history.specs.Counting.{MaySend}
+use Rattle.ioc_journaled_set.specs.Sent.{MayCountNothing}
+use Rattle.ioc_journaled_set.proofs.Sending.{sends_none, counts_none}
 use Rattle.ioc_history.specs.Line.{holder, noted}
 use Rattle.ioc_history.specs.Account.{journalled, calls, numbers_given, MayFollow, Added, puts_key}
 use Rattle.ioc_history.proofs.Numbers.{begins_none, numbers_below, numbers_same}
@@ -31,8 +32,20 @@ append-requires-clause-sent g c =
     let pass = cell_view c.self.inside.pass in
     let seen = ap (λ (v : PutsView). v.seen) (sym c.self.view_is) in
     let owns = ap (λ (v : View). v.owns) (sym c.self.invariant.holds) in
-    subst (λ (ks : List Key). MaySend k base pass.seen ks c.args.entry 0) owns
-    (subst (λ (s : List Note). MaySend k base s puts_key c.args.entry 0) seen c.requires.none_sent)
+    let nothing = subst (λ (ks : List Key). MayCountNothing k base pass.seen ks c.args.entry) owns
+    (subst (λ (s : List Note). MayCountNothing k base s puts_key c.args.entry) seen c.requires.none_counted) in
+    sends_none k base pass.seen (cell_view c.self.inside.pass).owns c.args.entry nothing _ c.none.ensures.sent
+
+pub append-requires-clause-counts : goal.append-requires-clause-counts
+append-requires-clause-counts g c =
+    let k = g.K.RecordKind.rules in
+    let base = g.B.EngineName.base in
+    let pass = cell_view c.self.inside.pass in
+    let seen = ap (λ (v : PutsView). v.seen) (sym c.self.view_is) in
+    let owns = ap (λ (v : View). v.owns) (sym c.self.invariant.holds) in
+    let nothing = subst (λ (ks : List Key). MayCountNothing k base pass.seen ks c.args.entry) owns
+    (subst (λ (s : List Note). MayCountNothing k base s puts_key c.args.entry) seen c.requires.none_counted) in
+    counts_none k base pass.seen (cell_view c.self.inside.pass).owns c.args.entry nothing _ _ _ c.none.ensures.share
 
 pub append-requires-clause-begins : goal.append-requires-clause-begins
 append-requires-clause-begins g c = begins_none (cell_view c.self.inside.pass).seen (cell_view c.self.inside.pass).owns c.args.entry.event c.requires.begins_none

@@ -9,12 +9,13 @@ use Rattle.ioc_history.specs.declared.cell.View.{View}
 use Rattle.ioc_history.specs.Key.{Has as Has_key}
 use Rattle.ioc_history.specs.Line.{holder}
 use Rattle.ioc_history.specs.Legal.{notifications_key}
-use Rattle.ioc_history.specs.Counting.{MaySend}
+use Rattle.ioc_journaled_set.specs.Sent.{MayCountNothing}
+use Rattle.ioc_journaled_set.proofs.Sending.{sends_none, counts_none}
 use Rattle.ioc_history.specs.Covering.{Cover}
 use Rattle.ioc_history.specs.Account.{MayFollow, Call, Added, puts_key}
 use Rattle.ioc_set.specs.SetState.{now_of, nothing_held}
 use Rattle.ioc_journaled_set.specs.Passes.{IsDealt}
-use Rattle.ioc_journaled_set.proofs.Following.{may_follow, may_send, puts_owned, covered_then, share_none_then, held_then, nobody_then, none_ended_then, others_then, none_began_then}
+use Rattle.ioc_journaled_set.proofs.Following.{may_follow, counts_nothing, puts_owned, covered_then, share_none_then, held_then, nobody_then, none_ended_then, others_then, none_began_then}
 use Rattle.ioc_journaled_set.proofs.together.giving_up.give_up.Goals as goal
 
 pub merge_all-requires-clause-passes : goal.merge_all-requires-clause-passes
@@ -28,9 +29,17 @@ append-appended-requires-clause-follows g c =
 
 pub append-appended-requires-clause-sent : goal.append-appended-requires-clause-sent
 append-appended-requires-clause-sent g c =
-    subst (λ (a : List Answer). MaySend g.K.RecordKind.rules g.B.EngineName.base (cell_view c.merge_all.new.keeper).seen (cell_view c.merge_all.new.keeper).owns (record { moment = c.args.moment; event = Cancel c.args.number; answers = a; reply = Plain }) 0) (sym (c.new-2.ensures ∙ c.new.ensures.items))
-    (may_send g.K.RecordKind.rules g.B.EngineName.base c.holding_lasts.ensures c.live_lasts.ensures c.cancelled_sets_are_held.ensures g.B.CellName.table c.args.number c.args.moment c.args.sets.now c.args.passes.now (cell_view c.args.keeper.now) (cell_view c.merge_all.new.keeper)
-    c.requires.keeper.1 c.requires.held c.requires.have c.all_sound.ensures c.requires.beside c.merge_all.ensures.merged)
+    let nothing = subst (λ (a : List Answer). MayCountNothing g.K.RecordKind.rules g.B.EngineName.base (cell_view c.merge_all.new.keeper).seen (cell_view c.merge_all.new.keeper).owns (record { moment = c.args.moment; event = Cancel c.args.number; answers = a; reply = Plain })) (sym (c.new-2.ensures ∙ c.new.ensures.items))
+    (counts_nothing g.K.RecordKind.rules g.B.EngineName.base c.holding_lasts.ensures c.live_lasts.ensures c.cancelled_sets_are_held.ensures g.B.CellName.table c.args.number c.args.moment c.args.sets.now c.args.passes.now (cell_view c.args.keeper.now) (cell_view c.merge_all.new.keeper)
+    c.requires.keeper.1 c.requires.held c.requires.have c.all_sound.ensures c.requires.beside c.merge_all.ensures.merged) in
+    sends_none g.K.RecordKind.rules g.B.EngineName.base (cell_view c.merge_all.new.keeper).seen (cell_view c.merge_all.new.keeper).owns _ nothing _ c.none.ensures.sent
+
+pub append-appended-requires-clause-counts : goal.append-appended-requires-clause-counts
+append-appended-requires-clause-counts g c =
+    let nothing = subst (λ (a : List Answer). MayCountNothing g.K.RecordKind.rules g.B.EngineName.base (cell_view c.merge_all.new.keeper).seen (cell_view c.merge_all.new.keeper).owns (record { moment = c.args.moment; event = Cancel c.args.number; answers = a; reply = Plain })) (sym (c.new-2.ensures ∙ c.new.ensures.items))
+    (counts_nothing g.K.RecordKind.rules g.B.EngineName.base c.holding_lasts.ensures c.live_lasts.ensures c.cancelled_sets_are_held.ensures g.B.CellName.table c.args.number c.args.moment c.args.sets.now c.args.passes.now (cell_view c.args.keeper.now) (cell_view c.merge_all.new.keeper)
+    c.requires.keeper.1 c.requires.held c.requires.have c.all_sound.ensures c.requires.beside c.merge_all.ensures.merged) in
+    counts_none g.K.RecordKind.rules g.B.EngineName.base (cell_view c.merge_all.new.keeper).seen (cell_view c.merge_all.new.keeper).owns _ nothing _ _ _ c.none.ensures.share
 
 pub deal_all-requires-clause-there : goal.deal_all-requires-clause-there
 deal_all-requires-clause-there g c = subst (λ (x : View). Has_key notifications_key x.owns) (sym c.append-appended.ensures.set.1)

@@ -1,6 +1,6 @@
 use Rattle.std.proofs.Common.{◌≡◌, ◌≤◌, take, length}
 use Rattle.ioc_history.specs.Counting.{once_in}
-use Rattle.ioc_journaled_set.proofs.running.count_once.Given as goal
+use Rattle.ioc_journaled_set.proofs.counts.count_once.Given as goal
 
 abbrev pub invariant-loop-item : goal.invariant-loop-item
 invariant-loop-item l = record {

@@ -3,8 +3,8 @@ use Rattle.std.proofs.lemmas.List.{take_more}
 use Rattle.ioc_store.specs.declared.outbox.OutboxItem.{OutboxItem}
 use Rattle.ioc_history.specs.Counting.{once_in}
 use Rattle.ioc_journaled_set.proofs.Sending.{one_more_once, none_more_once}
-use Rattle.ioc_journaled_set.proofs.running.count_once.Goals.{in-Once, in_default}
-use Rattle.ioc_journaled_set.proofs.running.count_once.Goals as goal
+use Rattle.ioc_journaled_set.proofs.counts.count_once.Goals.{in-Once, in_default}
+use Rattle.ioc_journaled_set.proofs.counts.count_once.Goals as goal
 
 pub loop-item-preserved : goal.loop-item-preserved
 loop-item-preserved c =

@@ -1,0 +1,61 @@
+//! What an event counts: requests by their outcomes, answers of devices, and once requests.
+ghost use Rattle.std.specs.Prelude.{◌≡◌, None, IfSome};
+ghost use Rattle.ioc_history.specs.Counting.{IsBacked, IsCountedOn, IsGivenBack, IsRecorded};
+
+use crate::engine_name::EngineName;
+use ioc_ledger::{CountNames, Tally, TallyBook, TallyShare};
+use std::marker::PhantomData;
+
+/// Names the ledgers of an engine's counts.
+pub struct EngineCounts<K, B: EngineName<K>> {
+    of: PhantomData<B>,
+    kind: PhantomData<K>,
+}
+
+impl<K, B: EngineName<K>> CountNames for EngineCounts<K, B> {
+    ghost counts = { B.counts };
+}
+
+/// What an event counts.
+#[derive(Drop)]
+pub struct EventCounts<K, B: EngineName<K>> {
+    /// The number of once requests that it sends.
+    pub sent: u64,
+    /// The share of the set on which the event was done, or `None` if the event counts nothing.
+    pub share: Option<TallyShare<EngineCounts<K, B>>>,
+    /// The counts of the set before the event.
+    pub before: Tally,
+    /// The counts of the set after the event.
+    pub after: Tally,
+}
+
+impl<K, B: EngineName<K>> EventCounts<K, B> {
+    /// The counts of an event that counts nothing and sends no once request.
+    pub fn none() -> Self
+        ensures share { result.share ≡ None }
+        ensures sent { result.sent ≡ 0 }
+    {
+        EventCounts {
+            sent: 0,
+            share: None,
+            before: Tally::default(),
+            after: Tally::default(),
+        }
+    }
+}
+
+// Records what an event counts in the book, and returns the share of its set.
+#[inline(always)]
+pub(crate) fn record_event<K, B: EngineName<K>>(
+    book: &mut TallyBook<EngineCounts<K, B>>,
+    counts: EventCounts<K, B>,
+) -> Option<TallyShare<EngineCounts<K, B>>>
+    requires backed { IsBacked counts.share counts.before }
+    requires adds { IfSome counts.share (λ _. IsCountedOn counts.before counts.after) }
+    ensures share { IsGivenBack counts.share counts.after result }
+    ensures book { IsRecorded counts.share counts.before counts.after book.old book.new }
+{
+    let mut share = counts.share?;
+    book.record(&mut share, &counts.before, &counts.after);
+    Some(share)
+}

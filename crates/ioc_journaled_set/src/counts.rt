@@ -1,0 +1,95 @@
+//! The share that a set has of the engine's counts.
+ghost use Rattle.std.specs.Prelude.{◌≡◌, ◌<◌, ◌≤◌, ◌-◌, length, None, Some};
+ghost use Rattle.std.specs.FinMap.{len};
+ghost use Rattle.ioc_history.specs.Counting.{once_in};
+ghost use Rattle.ioc_ledger.specs.Shared.{share_view, less_awaited};
+ghost use Rattle.ioc_set.specs.Linking.{awaited_alone};
+ghost use Rattle.ioc_set_store.specs.SetStore.{world_of};
+
+use ioc_history::{EngineCounts, EngineName, EventCounts, SharedJournal};
+use ioc_ledger::{Tally, TallyShare};
+use ioc_record::RecordKind;
+use ioc_set::LockSet;
+use ioc_set_store::EventBuffers;
+use ioc_store::OutboxItem;
+use std::sync::Wait;
+
+// Returns the number of once requests among these items.
+fn count_once(items: &[OutboxItem]) -> u64
+    ensures { result ≡ length (once_in items.now) }
+{
+    let mut count = 0;
+    for item in items {
+        if let OutboxItem::Once(_) = item {
+            count += 1;
+        }
+    }
+    count
+}
+
+/// Waits, and never returns.
+#[inline(never)]
+pub(crate) fn wait_forever<R: Wait>(rt: &R)
+    ensures { ⊥ }
+{
+    for _ in rt.forever() {}
+    unreachable!()
+}
+
+/// Takes the share of a set with records. It is there until the engine has ended, and nothing is
+/// done on a set after that: waits forever if it is taken already.
+pub(crate) fn take_share<K: RecordKind, B: EngineName<K>, R: Wait>(
+    rt: &R,
+    share: &mut Option<TallyShare<EngineCounts<K, B>>>,
+) -> TallyShare<EngineCounts<K, B>>
+    ensures share { share.old ≡ Some result }
+    ensures taken { share.new ≡ None }
+{
+    let Some(own) = share.take() else {
+        wait_forever(rt);
+        unreachable!();
+    };
+    own
+}
+
+/// Returns what an event on a set has counted: the set's share, with its counts before and after the
+/// event, and the number of once requests that the event has sent.
+#[inline(always)]
+pub(crate) fn counts_since<K: RecordKind, B: EngineName<K>, D>(
+    share: TallyShare<EngineCounts<K, B>>,
+    before: Tally,
+    set: &LockSet<K, D>,
+    buffers: &EventBuffers<K, D>,
+) -> EventCounts<K, B>
+    ensures share { result.share ≡ Some share }
+    ensures counts { (result.before ≡ before) × (result.after ≡ set.now.tally) }
+    ensures sent { result.sent ≡ length (once_in (world_of buffers.now.store).outbox) }
+{
+    EventCounts {
+        sent: count_once(buffers.items()),
+        share: Some(share),
+        before,
+        after: set.tally(),
+    }
+}
+
+/// Divides the share of a set that was divided, and had `started` calls that are answered later: the
+/// rest gets a part for each of its records, and the answers that these await.
+pub(crate) fn divide_share<K: RecordKind, B: EngineName<K>, D, R: Wait>(
+    rt: &R,
+    book: &SharedJournal<K, B>,
+    share: &mut TallyShare<EngineCounts<K, B>>,
+    started: u64,
+    rest: &LockSet<K, D>,
+) -> TallyShare<EngineCounts<K, B>>
+    requires parts { len rest.now.records < share.old.parts }
+    requires started { started ≡ share.old.counts.started }
+    requires enough { rest.now.tally.started ≤ started }
+    requires awaited { 0 < rest.now.tally.started → 0 < len rest.now.records }
+    ensures share { share.new ≡ share_view (share.old.parts - len rest.now.records) (less_awaited share.old.counts rest.now.tally.started) }
+    ensures rest { result ≡ share_view (len rest.now.records) (awaited_alone rest.now.tally.started) }
+{
+    let mut other = share.split_off(rest.len() as u64);
+    book.divide_started(rt, share, &mut other, started, rest.tally().started);
+    other
+}
