@@ -25,15 +25,15 @@ use Rattle.ioc_store.specs.ScanLaws.{moved-either, rescanned-either, rewired-eit
 use Rattle.ioc_store.specs.Notifying.{passed_on, notified}
 use Rattle.ioc_store.specs.NotifyLaws.{passed-either, notified-either}
 use Rattle.ioc_store.specs.Freeing.{at_cancelled-either}
-use Rattle.ioc_process.specs.Alongside.{Guards, request-goes, at_last-goes}
-use Rattle.ioc_process.specs.Processing.{Done, request, went_on_at_last}
+use Rattle.ioc_process.specs.Alongside.{Guards, request-goes, takes_completion-goes}
+use Rattle.ioc_process.specs.Processing.{Done, request, resumed_with}
 use Rattle.ioc_process.specs.Rules.{Requested, Resumes}
-use Rattle.ioc_process.specs.RulesAlone.{request-is, at_last-is}
+use Rattle.ioc_process.specs.RulesAlone.{request-is, takes_completion-is}
 use Rattle.ioc_events.specs.declared.event.Event.{Event}
 use Rattle.ioc_events.specs.declared.reply.Reply.{Reply}
 use Rattle.ioc_events.specs.Starting.{taken_and_stored}
 use Rattle.ioc_events.specs.Step.{stepped}
-use Rattle.ioc_events.specs.StepRules.{Does, Step, by_itself, then_others, Starts, to_be_processed, at_once_told, StartsAll, no_more, next_starts, no_such_record, no_such_field, shows_field, processes_record, refuses_value, stores_alone, stores_while_active, stores_and_processes, not_awaited, completes_at_last, leads_to_no_record, no_link_field, keeps_its_link, takes_link, refuses_notified_value, no_place, waits_its_turn, starts_now, not_live, cancels, tells_if_live}
+use Rattle.ioc_events.specs.StepRules.{Does, Step, by_itself, then_others, Starts, to_be_processed, at_once_told, StartsAll, no_more, next_starts, no_such_record, no_such_field, shows_field, processes_record, refuses_value, stores_alone, stores_while_active, stores_and_processes, not_awaited, completes_record, leads_to_no_record, no_link_field, keeps_its_link, takes_link, refuses_notified_value, no_place, waits_its_turn, starts_now, not_live, cancels, tells_if_live}
 use Rattle.ioc_history.specs.declared.entry.Note.{Note}
 use Rattle.ioc_history.specs.Legal.{entry_of, done}
 use Rattle.ioc_engine.specs.Types.{type_at, HaveSameTypes, EventsKeepTypes, ListsKeepTypes, HeldKeepTypes}
@@ -148,15 +148,15 @@ module _ {R : Type 0} (k : RecordRules R) (lawful : IsLawful k) where
     same-request : (answers : Answers) (s : ℕ) → HaveSameTypes k w0 (request k answers w0 s).world
     same-request answers s = (request-goes k lawful _ _ _ kept answers start s tt).inv.1
 
-    same-at_last : (answers : Answers) (s : ℕ) (x : Finished) → HaveSameTypes k w0 (went_on_at_last k answers w0 s x).world
-    same-at_last answers s x = (at_last-goes k lawful _ _ _ kept answers start s tt x).inv.1
+    same-takes_completion : (answers : Answers) (s : ℕ) (x : Finished) → HaveSameTypes k w0 (resumed_with k answers w0 s x).world
+    same-takes_completion answers s x = (takes_completion-goes k lawful _ _ _ kept answers start s tt x).inv.1
 
   -- The types after a request and after a completion, by the rules.
   same-requested : (answers : Answers) {w w' : World R} {s : ℕ} {requests : Requests} → Requested k answers w s w' requests → HaveSameTypes k w w'
   same-requested answers {w} {w'} {s} r = subst (HaveSameTypes k w) (ap (λ (d : Done R). d.world) (request-is k lawful answers r)) (same-request w answers s)
 
   same-resumed : (answers : Answers) {w w' : World R} {s : ℕ} {x : Finished} {requests : Requests} → Resumes k answers w s x w' requests → HaveSameTypes k w w'
-  same-resumed answers {w} {w'} {s} {x} r = subst (HaveSameTypes k w) (ap (λ (d : Done R). d.world) (at_last-is k lawful answers r)) (same-at_last w answers s x)
+  same-resumed answers {w} {w'} {s} {x} r = subst (HaveSameTypes k w) (ap (λ (d : Done R). d.world) (takes_completion-is k lawful answers r)) (same-takes_completion w answers s x)
 
   -- A put stores some value, which keeps the type.
   type-put_tested : (r r' : R) (field : FieldNo) (given : Input) (test : Result Unit IocError) → put_once_tested k r field given test ≡ Ok r' → k.record_type r' ≡ k.record_type r
@@ -206,7 +206,7 @@ module _ {R : Type 0} (k : RecordRules R) (lawful : IsLawful k) where
   same-does answers (stores_and_processes {w} {w'} {w''} {s} {field} {given} {r} _ is stored _ _ q _) =
       same-on (same-on (same-stored w w' s field given r is stored) (same-changed w' s (with_put_mark true))) (same-requested answers q)
   same-does answers (not_awaited {w} _ _) = same-all w
-  same-does answers (completes_at_last _ _ r) = same-resumed answers r
+  same-does answers (completes_record _ _ r) = same-resumed answers r
   same-does answers (leads_to_no_record {w} _ _) = same-all w
   same-does answers (no_link_field {w} _ _ _) = same-all w
   same-does answers (keeps_its_link {w} _ _ _ _) = same-all w

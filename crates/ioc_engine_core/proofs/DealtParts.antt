@@ -19,7 +19,7 @@ use Rattle.ioc_history.specs.Covering.{Holds}
 use Rattle.ioc_set_store.specs.Resting.{resting}
 use Rattle.ioc_ledger.specs.Requests.{no_counts}
 use Rattle.ioc_journaled_set.specs.Holding.{KeepsDevices}
-use Rattle.ioc_set.specs.Linking.{anew, AreCalm, IsCalm, NoneAwaits}
+use Rattle.ioc_set.specs.Linking.{with_empty_history, AreCalm, IsCalm, NoneAwaits}
 use Rattle.ioc_set_records.specs.declared.loaded.Loaded.{Loaded}
 use Rattle.ioc_set_records.specs.Dealing.{HasPart}
 use Rattle.ioc_set_records.specs.Linked.{AreParts, links_in}
@@ -132,7 +132,7 @@ module _ {R D : Type 0} (k : RecordRules R) (missing : targets k k.missing ≡ [
   its_device true q d is own = is
   its_device false q d is own = cc
 
-  pub set_keeps_devices : KeepsDevices had (anew c.records c.devices [] [] no_counts)
+  pub set_keeps_devices : KeepsDevices had (with_empty_history c.records c.devices [] [] no_counts)
   set_keeps_devices q some =
       subst (λ (o : Option D). had q o) (sym (its_device (slice_index parts q == part) q (get c.devices q) (has.devices q) (is_same (slice_index parts q) part (here q some).0))) (rest.devices q)
 

@@ -9,7 +9,7 @@ ghost use Rattle.ioc_history.specs.Line.{keeper};
 ghost use Rattle.ioc_history.specs.Covering.{Holds};
 ghost use Rattle.ioc_set_records.specs.Joined.{links_of, IsPart};
 ghost use Rattle.ioc_set_store.specs.Resting.{resting};
-ghost use Rattle.ioc_set.specs.Linking.{anew, AreCalm, NoneAwaits};
+ghost use Rattle.ioc_set.specs.Linking.{with_empty_history, AreCalm, NoneAwaits};
 ghost use Rattle.ioc_history.specs.Account.{AreRecords};
 ghost use Rattle.ioc_journaled_set.specs.Holding.{KeepsDevices, held_view};
 ghost use Rattle.ioc_journaled_set.specs.SameDevice.{IsDeviceOf};
@@ -45,10 +45,10 @@ fn hold_as<P: Keys, K: RecordKind, B: SetsName<K, D>, D: Device>(
     requires calm { AreCalm K.rules members.records }
     requires idle { NoneAwaits K.rules members.records }
     requires holds { Holds K.rules B.base (resting members.records [] []) }
-    requires devices { KeepsDevices (IsDeviceOf D.gives B.devices) (anew members.records members.devices [] [] no_counts) }
+    requires devices { KeepsDevices (IsDeviceOf D.gives B.devices) (with_empty_history members.records members.devices [] [] no_counts) }
     ensures table { master.new.table_id ≡ B.table }
     ensures master { cell_view master.new ≡ keeper [] (record_keys (map.keys members.records) ++ (cell_view master.old).born) }
-    ensures held { result ≡ held_view (anew members.records members.devices [] [] no_counts) [] }
+    ensures held { result ≡ held_view (with_empty_history members.records members.devices [] [] no_counts) [] }
 {
     let pass = pass::claim::<P>(cell, master);
     let set = LockSet::of(alloc, members);
@@ -73,10 +73,10 @@ pub fn hold<K: RecordKind, B: SetsName<K, D>, D: Device>(
     requires calm { AreCalm K.rules members.records }
     requires idle { NoneAwaits K.rules members.records }
     requires holds { Holds K.rules B.base (resting members.records [] []) }
-    requires devices { KeepsDevices (IsDeviceOf D.gives B.devices) (anew members.records members.devices [] [] no_counts) }
+    requires devices { KeepsDevices (IsDeviceOf D.gives B.devices) (with_empty_history members.records members.devices [] [] no_counts) }
     ensures table { master.new.table_id ≡ B.table }
     ensures master { cell_view master.new ≡ keeper [] (record_keys (map.keys members.records) ++ (cell_view master.old).born) }
-    ensures held { result ≡ held_view (anew members.records members.devices [] [] no_counts) [] }
+    ensures held { result ≡ held_view (with_empty_history members.records members.devices [] [] no_counts) [] }
 {
     hold_as::<Brand, K, B, D>(alloc, cell, master, share, members)
 }
@@ -100,7 +100,7 @@ fn hold_part<K: RecordKind, B: SetsName<K, D>, D: Device>(
     ensures table { master.new.table_id ≡ B.table }
     ensures master { cell_view master.new ≡ keeper [] (cell_view master.new).born }
     ensures born { AreOfPartsBelow parts.now (part + 1) (cell_view master.new).born }
-    ensures held { result ≡ held_view (anew members.records members.devices [] [] no_counts) [] }
+    ensures held { result ≡ held_view (with_empty_history members.records members.devices [] [] no_counts) [] }
 {
     hold(alloc, cell, master, share, members)
 }

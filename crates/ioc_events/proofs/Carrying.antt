@@ -12,9 +12,9 @@ use Rattle.ioc_store.specs.declared.call.Call.{Call}
 use Rattle.ioc_store.specs.World.{World, Has, IsClosed, Keeps, common_at, changed, called, taken_on, let_go}
 use Rattle.ioc_store.specs.Given.{Answers}
 use Rattle.ioc_store.specs.Notifying.{taken_over, holding, passed_on, notified_as, notified}
-use Rattle.ioc_process.specs.Alongside.{Guards, request-goes, at_last-goes}
+use Rattle.ioc_process.specs.Alongside.{Guards, request-goes, takes_completion-goes}
 use Rattle.ioc_process.specs.Keeping.{KeptFrom, Linked, kept, start}
-use Rattle.ioc_process.specs.Processing.{request, went_on_at_last}
+use Rattle.ioc_process.specs.Processing.{request, resumed_with}
 use Rattle.ioc_events.specs.Holding.{how_many, holders}
 use Rattle.ioc_events.proofs.Counting.{lives, one_if, Counts, counts-same, counts-gained, lives-gained, counts-lost, lives-lost, how_many-append}
 use Rattle.ioc_events.proofs.Holders.{ends, stands, holders-few, holds-some, one-more, one-fewer, Alike, alike-put, alike-sent, alike-lost, alike-same, changed-holds}
@@ -161,5 +161,5 @@ module _ {R : Type 0} (k : RecordRules R) (lawful : IsLawful k) (w0 : World R) (
   pub request-carried : (answers : Answers) (s : ℕ) → Has w0 s → Counts (holders k w0) w0.live → Carried (request k answers w0 s).world
   request-carried answers s there counts = (request-goes k lawful _ _ _ carries answers (begins counts) s there).inv.1
 
-  pub at_last-carried : (answers : Answers) (s : ℕ) → Has w0 s → (x : Finished) → Counts (holders k w0) w0.live → Carried (went_on_at_last k answers w0 s x).world
-  at_last-carried answers s there x counts = (at_last-goes k lawful _ _ _ carries answers (begins counts) s there x).inv.1
+  pub takes_completion-carried : (answers : Answers) (s : ℕ) → Has w0 s → (x : Finished) → Counts (holders k w0) w0.live → Carried (resumed_with k answers w0 s x).world
+  takes_completion-carried answers s there x counts = (takes_completion-goes k lawful _ _ _ carries answers (begins counts) s there x).inv.1

@@ -125,13 +125,13 @@ lost-holders m (l ∷ ls) one some =
     ] refl one some
 
 -- A live one is at its last part if and only if its count is at most one.
-pub at_last : (m : ℕ) (ls : List Live) → 1 ≤ lives m ls → is_at_its_last m ls ≡ not (nat_lt 1 (holders_of m ls))
-at_last m [] some = absurd (omega arith)
-at_last m (l ∷ ls) some =
+pub takes_completion : (m : ℕ) (ls : List Live) → 1 ≤ lives m ls → is_at_its_last m ls ≡ not (nat_lt 1 (holders_of m ls))
+takes_completion m [] some = absurd (omega arith)
+takes_completion m (l ∷ ls) some =
     elim (eqb l.number m) as (λ b. 1 ≤ cond b (1 + lives m ls) (lives m ls)
     → (b || list_any (λ x. nat_eq x.number m) ls) && not (nat_lt 1 (cond b l.holders (holders_of m ls))) ≡ not (nat_lt 1 (cond b l.holders (holders_of m ls)))) [
       | true ↦ λ _. refl
-      | false ↦ λ rest. at_last m ls rest
+      | false ↦ λ rest. takes_completion m ls rest
     ] some
 
 pub forgotten-lives : (m : ℕ) (ls : List Live) → lives m ls ≤ 1 → lives m (forgotten m ls) ≡ 0
@@ -240,7 +240,7 @@ module _ (held held' : ℕ → ℕ) (m : ℕ) (ls : List Live) (counts : Counts 
       let held_here = counts.counted m in
       let less_here = lost-holders m ls once (omega arith) in
       let last : is_at_its_last m ls ≡ not (nat_lt 0 (held' m)) =
-      at_last m ls (omega arith) ∙ ap (λ (x : ℕ). not (nat_lt 1 x)) held_here ∙ ap not (one-less (held' m) (held m) here) in
+      takes_completion m ls (omega arith) ∙ ap (λ (x : ℕ). not (nat_lt 1 x)) held_here ∙ ap not (one-less (held' m) (held m) here) in
       record {
         counted = of_each (λ n. holders_of n (lost m ls) ≡ held' n) m (omega arith) (λ n apart. (lost-other m n apart ls).1 ∙ counts.counted n ∙ same n apart);
         live = of_each (λ n. lives n (lost m ls) ≡ one_if (nat_lt 0 (held' n))) m

@@ -20,8 +20,8 @@ use Rattle.ioc_store.specs.Given.{Answers}
 use Rattle.ioc_store.specs.Notifying.{notified}
 use Rattle.ioc_process.specs.Processing.{Done}
 use Rattle.ioc_process.specs.Rules.{Requested, Resumes}
-use Rattle.ioc_process.specs.RulesAlone.{request-is, at_last-is}
-use Rattle.ioc_process.specs.Keeping.{closed_on, keeps-changed, request-keeps, at_last-keeps, notified-keeps}
+use Rattle.ioc_process.specs.RulesAlone.{request-is, takes_completion-is}
+use Rattle.ioc_process.specs.Keeping.{closed_on, keeps-changed, request-keeps, takes_completion-keeps, notified-keeps}
 use Rattle.ioc_events.specs.Holding.{how_many, holders}
 use Rattle.ioc_events.specs.Starting.{is_ready, taken_and_stored, IsNext}
 use Rattle.ioc_events.specs.StepRules.{Starts, to_be_processed, at_once_told, StartsAll, no_more, next_starts}
@@ -29,7 +29,7 @@ use Rattle.ioc_events.proofs.StartRules.{waits-there}
 use Rattle.ioc_events.proofs.QuietEvents.{ready-has, taken-keeps, unqueued-keeps}
 use Rattle.ioc_events.proofs.Counting.{lives, one_if, of_each, itself, another, Counts, counts-same}
 use Rattle.ioc_events.proofs.Holders.{ends, stands, Alike, alike-on, alike-put, alike-marked, alike-rescanned, changed-holds, one-more}
-use Rattle.ioc_events.proofs.Carrying.{Carried, tell-carried, request-carried, at_last-carried}
+use Rattle.ioc_events.proofs.Carrying.{Carried, tell-carried, request-carried, takes_completion-carried}
 
 -- Lemmas about those that wait.
 
@@ -128,8 +128,8 @@ module _ {R : Type 0} (k : RecordRules R) (lawful : IsLawful k) where
 
   pub completion-leads : (answers : Answers) {w w' : World R} {s : ℕ} {x : Finished} {requests : Requests} → Has w s → Resumes k answers w s x w' requests → Sound w → Leads w w'
   completion-leads answers {w} {w'} {s} {x} there r sound =
-      subst (Leads w) (ap (λ (d : Done R). d.world) (at_last-is k lawful answers r))
-      (leads-carried w _ sound (at_last-keeps k lawful w sound.closed answers s there x) (at_last-carried k lawful w sound.closed sound.few sound.once answers s there x sound.counts))
+      subst (Leads w) (ap (λ (d : Done R). d.world) (takes_completion-is k lawful answers r))
+      (leads-carried w _ sound (takes_completion-keeps k lawful w sound.closed answers s there x) (takes_completion-carried k lawful w sound.closed sound.few sound.once answers s there x sound.counts))
 
   pub marked-leads : (w : World R) (s : ℕ) (f : Common → Common) → Has w s
       → ((c : Common) → ((f c).disable_link ≡ c.disable_link) × ((f c).forward_link ≡ c.forward_link)) → ((c : Common) → (f c).notification ≡ c.notification) → Sound w → Leads w (changed k w s f)

@@ -32,7 +32,7 @@ use Rattle.ioc_events.specs.declared.reply.Reply.TheVariants.{Plain, Outcome as 
 use Rattle.ioc_events.specs.Step.{is_there, all_there}
 use Rattle.ioc_events.specs.Starting.{must_wait}
 use Rattle.ioc_events.specs.Holding.{one_if_has, holders}
-use Rattle.ioc_events.specs.StepRules.{Does, Step, by_itself, then_others, no_such_record, no_such_field, shows_field, processes_record, refuses_value, stores_alone, stores_while_active, stores_and_processes, not_awaited, completes_at_last, leads_to_no_record, no_link_field, keeps_its_link, takes_link, refuses_notified_value, no_place, waits_its_turn, starts_now, not_live, cancels, tells_if_live}
+use Rattle.ioc_events.specs.StepRules.{Does, Step, by_itself, then_others, no_such_record, no_such_field, shows_field, processes_record, refuses_value, stores_alone, stores_while_active, stores_and_processes, not_awaited, completes_record, leads_to_no_record, no_link_field, keeps_its_link, takes_link, refuses_notified_value, no_place, waits_its_turn, starts_now, not_live, cancels, tells_if_live}
 use Rattle.ioc_events.proofs.Stepping.{put_notification}
 use Rattle.ioc_events.proofs.QuietEvents.{stored-keeps, admitted-keeps, queued-keeps, cancelled-keeps, link-closed}
 use Rattle.ioc_events.proofs.Counting.{lives, one_if, of_each, itself, another, Counts, counts-same, counts-begun, counts-forgotten, begun-lives, forgotten-lives, forgotten-other, live-lives, how_many-append, few-one, some_more}
@@ -285,7 +285,7 @@ module _ {R : Type 0} (k : RecordRules R) (lawful : IsLawful k) where
       let marked = marked-leads k lawful w' s (with_put_mark true) here (λ c. (refl, refl)) (λ c. refl) first.sound in
       leads (Put s field given) (Outcome-reply outcome) sound (leads-on k lawful first (leads-on k lawful marked (request-leads k lawful answers (marked-has k lawful w' s (with_put_mark true) here) q marked.sound))) zero_ zero_
   does-leads answers (not_awaited {w} {s} {number} {x} _ _) sound = stays w (Complete s number x) _ sound zero_ zero_
-  does-leads answers (completes_at_last {w} {w'} {s} {number} {x} there _ r) sound = leads (Complete s number x) Plain sound (completion-leads k lawful answers there r sound) zero_ zero_
+  does-leads answers (completes_record {w} {w'} {s} {number} {x} there _ r) sound = leads (Complete s number x) Plain sound (completion-leads k lawful answers there r sound) zero_ zero_
   does-leads answers (leads_to_no_record {w} {s} {field} {link} _ _) sound = stays w (Link s field link) _ sound zero_ zero_
   does-leads answers (no_link_field {w} {s} {field} {link} _ _ _) sound = stays w (Link s field link) _ sound zero_ zero_
   does-leads answers (keeps_its_link {w} {s} {field} {link} _ _ _ _) sound = stays w (Link s field link) _ sound zero_ zero_
@@ -328,7 +328,7 @@ module _ {R : Type 0} (k : RecordRules R) (lawful : IsLawful k) where
   does-cancel answers n (stores_while_active _ _ _ _ _) is sound none = cc
   does-cancel answers n (stores_and_processes _ _ _ _ _ _ _) is sound none = cc
   does-cancel answers n (not_awaited _ _) is sound none = cc
-  does-cancel answers n (completes_at_last _ _ _) is sound none = cc
+  does-cancel answers n (completes_record _ _ _) is sound none = cc
   does-cancel answers n (leads_to_no_record _ _) is sound none = cc
   does-cancel answers n (no_link_field _ _ _) is sound none = cc
   does-cancel answers n (keeps_its_link _ _ _ _) is sound none = cc

@@ -10,7 +10,7 @@ use Rattle.ioc_store.specs.World.{World, Has, IsClosed, Keeps, at, put}
 use Rattle.ioc_store.specs.Given.{Answers}
 use Rattle.ioc_store.specs.Scanning.{device_of, rewired}
 use Rattle.ioc_events.specs.Step.{is_link_change, lets_start}
-use Rattle.ioc_events.specs.StepRules.{Does, Step, by_itself, then_others, KeepsRecords, no_such_record, no_such_field, shows_field, processes_record, refuses_value, stores_alone, stores_while_active, stores_and_processes, not_awaited, completes_at_last, leads_to_no_record, no_link_field, keeps_its_link, takes_link, refuses_notified_value, no_place, waits_its_turn, starts_now, not_live, cancels, tells_if_live}
+use Rattle.ioc_events.specs.StepRules.{Does, Step, by_itself, then_others, KeepsRecords, no_such_record, no_such_field, shows_field, processes_record, refuses_value, stores_alone, stores_while_active, stores_and_processes, not_awaited, completes_record, leads_to_no_record, no_link_field, keeps_its_link, takes_link, refuses_notified_value, no_place, waits_its_turn, starts_now, not_live, cancels, tells_if_live}
 use Rattle.ioc_store.specs.Worlds.{has-put, has-put_back, len-put}
 use Rattle.ioc_process.specs.Keeping.{moved-keeps}
 use Rattle.ioc_store.specs.ScanLaws.{rewired-either}
@@ -44,7 +44,7 @@ module _ {R : Type 0} (k : RecordRules R) (lawful : IsLawful k) where
   does-link answers (stores_while_active _ _ _ _ _) is = cc
   does-link answers (stores_and_processes _ _ _ _ _ _ _) is = cc
   does-link answers (not_awaited {w} _ _) is = all-kept w
-  does-link answers (completes_at_last _ _ _) is = cc
+  does-link answers (completes_record _ _ _) is = cc
   does-link answers (leads_to_no_record {w} _ _) is = all-kept w
   does-link answers (no_link_field {w} _ _ _) is = all-kept w
   does-link answers (keeps_its_link {w} _ _ _ _) is = all-kept w

@@ -31,7 +31,7 @@ use Rattle.ioc_store.specs.Scanning.{device_of, rewired}
 use Rattle.ioc_store.specs.Freeing.{has-cancelled, at_cancelled-is, at_missing, at_cancelled-either}
 use Rattle.ioc_store.specs.StepFrames.{targets-set}
 use Rattle.ioc_process.specs.Processing.{ran}
-use Rattle.ioc_process.specs.Alongside.{OwnAlone, changed-goes, rescanned-goes, rewired-goes, ran-goes, at_last-goes}
+use Rattle.ioc_process.specs.Alongside.{OwnAlone, changed-goes, rescanned-goes, rewired-goes, ran-goes, takes_completion-goes}
 use Rattle.ioc_events.specs.declared.event.Event.{Event}
 use Rattle.ioc_events.specs.declared.event.Event.TheVariants.{Get, Process, Put, Complete, Link, Notify, Cancel, IsLive}
 use Rattle.ioc_events.specs.declared.reply.Reply.{Reply}
@@ -88,7 +88,7 @@ module _ {R : Type 0} (k : RecordRules R) (lawful : IsLawful k) (mine : ℕ → 
   completion-local : {a b : World R} → Both a b → (s : ℕ) (x : Finished) → U s → Agrees (after_completion k answers a s x) (after_completion k answers b s x)
   unfolding after_completion
   completion-local both s x u =
-      let done = at_last-goes k lawful U (Within k mine w v) Both (guards k mine w v lawful) answers both s u x in
+      let done = takes_completion-goes k lawful U (Within k mine w v) Both (guards k mine w v lawful) answers both s u x in
       record { inv = done.inv; reply = refl; requests = done.requests }
 
   -- A change of a mark of this record keeps the relation.

@@ -22,7 +22,7 @@ use Rattle.ioc_store.specs.World.{World, Has, at, common_at, put, changed, sent,
 use Rattle.ioc_store.specs.Given.{Answers}
 use Rattle.ioc_store.specs.Scanning.{device_of, moved, rewired}
 use Rattle.ioc_events.specs.Starting.{NoneReady, IsGivenUp}
-use Rattle.ioc_events.specs.StepRules.{Does, Step, by_itself, then_others, StartsAll, no_more, next_starts, no_such_record, no_such_field, shows_field, processes_record, refuses_value, stores_alone, stores_while_active, stores_and_processes, not_awaited, completes_at_last, leads_to_no_record, no_link_field, keeps_its_link, takes_link, refuses_notified_value, no_place, waits_its_turn, starts_now, not_live, cancels, tells_if_live}
+use Rattle.ioc_events.specs.StepRules.{Does, Step, by_itself, then_others, StartsAll, no_more, next_starts, no_such_record, no_such_field, shows_field, processes_record, refuses_value, stores_alone, stores_while_active, stores_and_processes, not_awaited, completes_record, leads_to_no_record, no_link_field, keeps_its_link, takes_link, refuses_notified_value, no_place, waits_its_turn, starts_now, not_live, cancels, tells_if_live}
 use Rattle.ioc_store.specs.Worlds.{at-put_same, at-put_other}
 use Rattle.ioc_store.specs.ScanLaws.{moved-either, rewired-either}
 use Rattle.ioc_events.proofs.StartRules.{one_item}
@@ -94,7 +94,7 @@ module _ {R : Type 0} (k : RecordRules R) (lawful : IsLawful k) where
   does-none answers (stores_while_active _ _ _ _ _) lets none = cc
   does-none answers (stores_and_processes _ _ _ _ _ _ _) lets none = cc
   does-none answers (not_awaited _ _) lets none = none
-  does-none answers (completes_at_last _ _ _) lets none = cc
+  does-none answers (completes_record _ _ _) lets none = cc
   does-none answers (leads_to_no_record _ _) lets none = none
   does-none answers (no_link_field _ _ _) lets none = none
   does-none answers (keeps_its_link _ _ _ _) lets none = none

@@ -25,15 +25,15 @@ use Rattle.ioc_process.specs.Rules.{Requested, Resumes, IsQuiet, IsSettled}
 use Rattle.ioc_process.specs.Processing.{Done}
 use Rattle.ioc_events.specs.declared.event.Event.{Event}
 use Rattle.ioc_events.specs.Step.{is_link_change, all_there}
-use Rattle.ioc_events.specs.StepRules.{Does, Step, by_itself, then_others, Starts, to_be_processed, at_once_told, StartsAll, no_more, next_starts, no_such_record, no_such_field, shows_field, processes_record, refuses_value, stores_alone, stores_while_active, stores_and_processes, not_awaited, completes_at_last, leads_to_no_record, no_link_field, keeps_its_link, takes_link, refuses_notified_value, no_place, waits_its_turn, starts_now, not_live, cancels, tells_if_live, Replay, at_the_end, and_then}
+use Rattle.ioc_events.specs.StepRules.{Does, Step, by_itself, then_others, Starts, to_be_processed, at_once_told, StartsAll, no_more, next_starts, no_such_record, no_such_field, shows_field, processes_record, refuses_value, stores_alone, stores_while_active, stores_and_processes, not_awaited, completes_record, leads_to_no_record, no_link_field, keeps_its_link, takes_link, refuses_notified_value, no_place, waits_its_turn, starts_now, not_live, cancels, tells_if_live, Replay, at_the_end, and_then}
 use Rattle.ioc_events.specs.declared.event.Entry.{Entry}
 use Rattle.ioc_events.proofs.LinkChanges.{linked-names, there_of}
 use Rattle.ioc_store.specs.Worlds.{at-put_same, at-put_other, has-put, has-put_back}
-use Rattle.ioc_process.specs.Keeping.{same_links, keeps_all, keeps_on, closed_on, keeps-put, keeps-changed, request-keeps, at_last-keeps, rescanned-keeps, notified-keeps}
+use Rattle.ioc_process.specs.Keeping.{same_links, keeps_all, keeps_on, closed_on, keeps-put, keeps-changed, request-keeps, takes_completion-keeps, rescanned-keeps, notified-keeps}
 use Rattle.ioc_store.specs.StepFrames.{OwnLinks, links-set, links-stored}
 use Rattle.ioc_process.specs.RulesLaws.{resumes-others, resumes-own}
 use Rattle.ioc_events.proofs.Stepping.{keeps-put_field, put_active, put_pending}
-use Rattle.ioc_process.specs.RulesAlone.{request-is, at_last-is}
+use Rattle.ioc_process.specs.RulesAlone.{request-is, takes_completion-is}
 use Rattle.ioc_process.specs.Quieting.{request-quiet, left-quiet, settled_by}
 use Rattle.ioc_store.specs.Given.{Answers, listed}
 use Rattle.ioc_store.specs.Scanning.{device_of, moved, rescanned}
@@ -123,7 +123,7 @@ module _ {R : Type 0} (k : RecordRules R) (lawful : IsLawful k) where
   -- A record whose device answered later no longer waits, and every other is as it was, or waits.
   completion-settled : (answers : Answers) {w w' : World R} {s : ℕ} {x : Finished} {requests : Requests} → Has w s → Resumes k answers w s x w' requests → IsSettled k w → IsSettled k w'
   completion-settled answers {w} {w'} {s} {x} there r settled =
-      let keeps : Keeps k w w' = subst (Keeps k w) (ap (λ (d : Done R). d.world) (at_last-is k lawful answers r)) (at_last-keeps k lawful w settled.closed answers s there x) in
+      let keeps : Keeps k w w' = subst (Keeps k w) (ap (λ (d : Done R). d.world) (takes_completion-is k lawful answers r)) (takes_completion-keeps k lawful w settled.closed answers s there x) in
       let own = resumes-own k lawful answers r in
       record {
         closed = closed_on k lawful keeps settled.closed;
@@ -261,7 +261,7 @@ module _ {R : Type 0} (k : RecordRules R) (lawful : IsLawful k) where
       request-settled answers (marked-has w' s here) q
       (mark-settled w' s (with_put_mark true) (λ c. (refl, refl)) (λ c. refl) (λ c. refl) here (stored-settled w w' s field given r there is stored settled))
   does-settled answers (not_awaited _ _) settled = settled
-  does-settled answers (completes_at_last there _ r) settled = completion-settled answers there r settled
+  does-settled answers (completes_record there _ r) settled = completion-settled answers there r settled
   does-settled answers (leads_to_no_record _ _) settled = settled
   does-settled answers (no_link_field _ _ _) settled = settled
   does-settled answers (keeps_its_link _ _ _ _) settled = settled
@@ -328,8 +328,8 @@ module _ {R : Type 0} (k : RecordRules R) (lawful : IsLawful k) where
       let first = keeps_on k put_first (keeps-changed k lawful w' s (put_first.has s there) (with_put_mark true) (λ c. (refl, refl))) in
       keeps_on k first (request-kept answers (first.has s there) q (closed_on k lawful first closed))
   does-keeps answers (not_awaited {w} _ _) other closed = keeps_all k w
-  does-keeps answers (completes_at_last {w} {w'} {s} {number} {x} there _ r) other closed =
-      subst (Keeps k w) (ap (λ (d : Done R). d.world) (at_last-is k lawful answers r)) (at_last-keeps k lawful w closed answers s there x)
+  does-keeps answers (completes_record {w} {w'} {s} {number} {x} there _ r) other closed =
+      subst (Keeps k w) (ap (λ (d : Done R). d.world) (takes_completion-is k lawful answers r)) (takes_completion-keeps k lawful w closed answers s there x)
   does-keeps answers (leads_to_no_record {w} _ _) other closed = cc
   does-keeps answers (no_link_field {w} _ _ _) other closed = cc
   does-keeps answers (keeps_its_link {w} _ _ _ _) other closed = cc

@@ -27,14 +27,14 @@ use Rattle.ioc_events.specs.Starting.{value_to_put, must_wait, started}
 use Rattle.ioc_events.proofs.StartRules.{starts-is, starts-allowed, starts_all-is, starts_all-allowed}
 use Rattle.ioc_store.specs.Scanning.{device_of, rescanned, rewired}
 use Rattle.ioc_process.specs.Rules.{Requested}
-use Rattle.ioc_process.specs.Processing.{Done, ran, went_on_at_last}
+use Rattle.ioc_process.specs.Processing.{Done, ran, resumed_with}
 use Rattle.ioc_events.specs.declared.event.Event.{Event}
 use Rattle.ioc_events.specs.declared.event.Event.TheVariants.{Get, Process, Put, Complete, Link, Notify, Cancel, IsLive}
 use Rattle.ioc_events.specs.Step.{Stepped, is_there, all_there, refused, relinked, told, awaits, after_put, after_completion, put_with, processes, begun_or_queued, notify_with, lets_start, done_there, done_alone, with_starts, stepped}
-use Rattle.ioc_events.specs.StepRules.{Does, Step, by_itself, then_others, no_such_record, no_such_field, shows_field, processes_record, refuses_value, stores_alone, stores_while_active, stores_and_processes, not_awaited, completes_at_last, leads_to_no_record, no_link_field, keeps_its_link, takes_link, refuses_notified_value, no_place, waits_its_turn, starts_now, not_live, cancels, tells_if_live, Replay, at_the_end, and_then}
+use Rattle.ioc_events.specs.StepRules.{Does, Step, by_itself, then_others, no_such_record, no_such_field, shows_field, processes_record, refuses_value, stores_alone, stores_while_active, stores_and_processes, not_awaited, completes_record, leads_to_no_record, no_link_field, keeps_its_link, takes_link, refuses_notified_value, no_place, waits_its_turn, starts_now, not_live, cancels, tells_if_live, Replay, at_the_end, and_then}
 use Rattle.ioc_events.specs.declared.event.Entry.{Entry}
-use Rattle.ioc_process.specs.RulesAlone.{request-is, at_last-is}
-use Rattle.ioc_process.specs.RulesAllowed.{ran-allowed, at_last-allowed}
+use Rattle.ioc_process.specs.RulesAlone.{request-is, takes_completion-is}
+use Rattle.ioc_process.specs.RulesAllowed.{ran-allowed, takes_completion-allowed}
 use Rattle.ioc_process.specs.Depth.{request-rule}
 use Rattle.ioc_events.proofs.Stepping.{step-missing, step-there, step-process, step-put, step-complete, step-notify, step-no_place, step-let_in, step-cancel}
 use Rattle.ioc_store.specs.Given.{Answers, listed}
@@ -79,7 +79,7 @@ module _ {R : Type 0} (k : RecordRules R) (lawful : IsLawful k) (answers : Answe
   unfolding done_there
   stale-is w s number x there is = step-there k answers w (Complete s number x) there ∙ rw is refl
 
-  completion-is : (w : World R) (s : ℕ) (x : Finished) (done : Done R) → went_on_at_last k answers w s x ≡ done → after_completion k answers w s x ≡ record { world = done.world; reply = Plain; requests = done.requests }
+  completion-is : (w : World R) (s : ℕ) (x : Finished) (done : Done R) → resumed_with k answers w s x ≡ done → after_completion k answers w s x ≡ record { world = done.world; reply = Plain; requests = done.requests }
   unfolding after_completion
   completion-is w s x done is = ap (λ (d : Done R). record { world = d.world; reply = Plain; requests = d.requests }) is
 
@@ -127,8 +127,8 @@ module _ {R : Type 0} (k : RecordRules R) (lawful : IsLawful k) (answers : Answe
       step-put k answers w s field given r there is ∙ ap (λ (v : World R). after_put k answers v s field) (sym stored) ∙ after-is w' s field true false proc idle
       ∙ told-is (changed k w' s (with_put_mark true)) w'' s outcome requests q first
   does-is (not_awaited {w} {s} {number} {x} there is) = stale-is w s number x there is
-  does-is (completes_at_last {w} {w'} {s} {number} {x} {requests} there is r) =
-      step-complete k answers w s number x there is ∙ completion-is w s x _ (at_last-is k lawful answers r)
+  does-is (completes_record {w} {w'} {s} {number} {x} {requests} there is r) =
+      step-complete k answers w s number x there is ∙ completion-is w s x _ (takes_completion-is k lawful answers r)
   does-is (leads_to_no_record {w} {s} {field} {link} there led) = relinked-is w s field link false _ _ there led refl refl
   does-is (no_link_field {w} {s} {field} {link} there led has) = relinked-is w s field link true false _ there led has refl
   does-is (keeps_its_link {w} {s} {field} {link} there led has stops) = relinked-is w s field link true true true there led has stops
@@ -192,7 +192,7 @@ module _ {R : Type 0} (k : RecordRules R) (lawful : IsLawful k) (answers : Answe
       elim (awaits (common_at k w s) number) as (λ b. awaits (common_at k w s) number ≡ b →
       let done = cond {A = Stepped R} b (after_completion k answers w s x) (refused w Stale) in
       Does k answers w (Complete s number x) done.world done.reply done.requests) [
-        | true ↦ λ is. completes_at_last there is (at_last-allowed k lawful answers w s x)
+        | true ↦ λ is. completes_record there is (takes_completion-allowed k lawful answers w s x)
         | false ↦ λ is. not_awaited there is
       ] refl
 

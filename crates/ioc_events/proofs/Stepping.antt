@@ -23,7 +23,7 @@ use Rattle.ioc_ledger.specs.declared.outcome.Outcome.TheVariants.{Processed, Rep
 use Rattle.ioc_dbcommon.specs.declared.common.Common.{Common}
 use Rattle.ioc_dbcommon.specs.Steps.{with_put_mark, with_reprocess_mark}
 use Rattle.ioc_store.specs.World.{World, Has, at, common_at, put, changed, SameLinks, Keeps, has_place, cancelled}
-use Rattle.ioc_process.specs.Processing.{Done, ran, processed, went_on_at_last}
+use Rattle.ioc_process.specs.Processing.{Done, ran, processed, resumed_with}
 use Rattle.ioc_process.specs.Runs.{Comes, Leaves}
 use Rattle.ioc_events.specs.declared.event.Event.{Event}
 use Rattle.ioc_events.specs.declared.event.Event.TheVariants.{Process, Put, Complete, Notify, Cancel}
@@ -71,7 +71,7 @@ module _ {R : Type 0} (k : RecordRules R) where
         ∙ ap (λ (b : Bool). cond {A = Stepped R} b down on) idle
 
     -- A completion has the plain reply.
-    pub makes-completion : (w after : World R) (s : ℕ) (x : Finished) (before counts : Tally) → Comes after before counts Processed (processed (went_on_at_last k answers w s x))
+    pub makes-completion : (w after : World R) (s : ℕ) (x : Finished) (before counts : Tally) → Comes after before counts Processed (processed (resumed_with k answers w s x))
         → Makes after Plain before counts (after_completion k answers w s x)
     unfolding after_completion
     makes-completion w after s x before counts comes = record { world = comes.world; reply = refl; tally = comes.tally }

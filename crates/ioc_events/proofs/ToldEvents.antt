@@ -23,7 +23,7 @@ use Rattle.ioc_events.specs.declared.event.Entry.{Entry}
 use Rattle.ioc_events.specs.declared.reply.Reply.{Reply}
 use Rattle.ioc_events.specs.Starting.{is_ready, taken_and_stored, NoneReady}
 use Rattle.ioc_events.specs.Holding.{HoldersAwait}
-use Rattle.ioc_events.specs.StepRules.{Does, Step, by_itself, then_others, Starts, to_be_processed, at_once_told, StartsAll, no_more, next_starts, no_such_record, no_such_field, shows_field, processes_record, refuses_value, stores_alone, stores_while_active, stores_and_processes, not_awaited, completes_at_last, leads_to_no_record, no_link_field, keeps_its_link, takes_link, refuses_notified_value, no_place, waits_its_turn, starts_now, not_live, cancels, tells_if_live, Replay, at_the_end, and_then}
+use Rattle.ioc_events.specs.StepRules.{Does, Step, by_itself, then_others, Starts, to_be_processed, at_once_told, StartsAll, no_more, next_starts, no_such_record, no_such_field, shows_field, processes_record, refuses_value, stores_alone, stores_while_active, stores_and_processes, not_awaited, completes_record, leads_to_no_record, no_link_field, keeps_its_link, takes_link, refuses_notified_value, no_place, waits_its_turn, starts_now, not_live, cancels, tells_if_live, Replay, at_the_end, and_then}
 use Rattle.ioc_events.proofs.Stepping.{put_active, put_notification}
 use Rattle.ioc_events.proofs.QuietEvents.{step-settled, begun-settled}
 use Rattle.ioc_events.proofs.NoneReady.{step-none}
@@ -82,7 +82,7 @@ module _ {R : Type 0} (k : RecordRules R) (lawful : IsLawful k) (n : ℕ) where
   does-told answers (stores_and_processes {w} {w'} {w''} {s} {field} {given} {r} _ is stored _ _ q _) told =
       requested-told k lawful n answers q (λ _. told-changed k lawful n w' s (with_put_mark true) (λ c. refl) (λ c. refl) (stored-told w w' s field given r is stored told))
   does-told answers (not_awaited _ _) told = told
-  does-told answers (completes_at_last _ _ r) told = resumes-told k lawful n answers r (λ _. told)
+  does-told answers (completes_record _ _ r) told = resumes-told k lawful n answers r (λ _. told)
   does-told answers (leads_to_no_record _ _) told = told
   does-told answers (no_link_field _ _ _) told = told
   does-told answers (keeps_its_link _ _ _ _) told = told

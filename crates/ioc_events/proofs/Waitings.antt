@@ -34,7 +34,7 @@ use Rattle.ioc_record.specs.Values.{text_of, put_field, stops_put}
 use Rattle.std.proofs.lemmas.List.Elements.{Contains-append_cases}
 use Rattle.ioc_events.specs.Starting.{value_to_put, must_wait}
 use Rattle.ioc_events.specs.Starting.{processes, taken_and_stored, started}
-use Rattle.ioc_process.specs.Alongside.{Guards, HolderGuards, pass-goes, tell-goes, request-goes, ran-goes, at_last-goes}
+use Rattle.ioc_process.specs.Alongside.{Guards, HolderGuards, pass-goes, tell-goes, request-goes, ran-goes, takes_completion-goes}
 use Rattle.ioc_store.specs.ScanLaws.{moved-either, rescanned-either, rewired-either}
 use Rattle.ioc_store.specs.NotifyLaws.{notified-either}
 
@@ -164,7 +164,7 @@ module _ {R : Type 0} (k : RecordRules R) (lawful : IsLawful k) where
 
   completion-waiting : (answers : Answers) (w : World R) (s : ℕ) (x : Finished) → (after_completion k answers w s x).world.waiting ≡ w.waiting
   unfolding after_completion
-  completion-waiting answers w s x = (at_last-goes k lawful _ _ _ (guards w.waiting) answers (refl, refl) s tt x).inv.1
+  completion-waiting answers w s x = (takes_completion-goes k lawful _ _ _ (guards w.waiting) answers (refl, refl) s tt x).inv.1
 
   pub rewired-waiting : (before : List ℕ) (w : World R) (n : ℕ) → (rewired k before w n).waiting ≡ w.waiting
   rewired-waiting before w n =

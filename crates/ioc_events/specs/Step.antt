@@ -30,7 +30,7 @@ use Rattle.ioc_store.specs.World.{World, at, common_at, put, changed, has_place,
 use Rattle.ioc_store.specs.declared.call.Call.{Call}
 use Rattle.ioc_store.specs.Given.{Answers, later_among}
 use Rattle.ioc_store.specs.Scanning.{device_of, rescanned, rewired}
-use Rattle.ioc_process.specs.Processing.{ran, went_on_at_last}
+use Rattle.ioc_process.specs.Processing.{ran, resumed_with}
 use Rattle.ioc_events.specs.Starting.{value_to_put, must_wait, started, all_started}
 pub use Rattle.ioc_events.specs.Starting.{processes}
 
@@ -115,7 +115,7 @@ module _ {R : Type 0} (k : RecordRules R) (answers : Answers) where
 
   -- The device of the record has answered later.
   unfoldable pub after_completion : World R → ℕ → Finished → Stepped R
-  after_completion w s x = let done = went_on_at_last k answers w s x in record { world = done.world; reply = Plain; requests = done.requests }
+  after_completion w s x = let done = resumed_with k answers w s x in record { world = done.world; reply = Plain; requests = done.requests }
 
   -- A link field has another link, and nothing is processed.
   unfoldable pub relinked : World R → ℕ → FieldNo → LinkField → Stepped R

@@ -108,7 +108,7 @@ module _ {R : Type 0} (k : RecordRules R) (answers : Answers) where
         → contains_key w.records s ≡ true
         → awaits (common_at k w s) number ≡ false
         → Does w (Complete s number x) w (Refused Stale) None
-    completes_at_last : {w w' : World R} {s number : ℕ} {x : Finished} {requests : Requests}
+    completes_record : {w w' : World R} {s number : ℕ} {x : Finished} {requests : Requests}
         → contains_key w.records s ≡ true
         → awaits (common_at k w s) number ≡ true
         → Resumes k answers w s x w' requests

@@ -9,7 +9,7 @@ use Rattle.ioc_store.specs.Given.{Answers, listed}
 use Rattle.ioc_events.specs.declared.event.Event.{Event}
 use Rattle.ioc_events.specs.declared.reply.Reply.{Reply}
 use Rattle.ioc_events.specs.declared.reply.Reply.TheVariants.{Notify as Notify-reply}
-use Rattle.ioc_events.specs.StepRules.{Does, Step, by_itself, then_others, no_such_record, no_such_field, shows_field, processes_record, refuses_value, stores_alone, stores_while_active, stores_and_processes, not_awaited, completes_at_last, leads_to_no_record, no_link_field, keeps_its_link, takes_link, refuses_notified_value, no_place, waits_its_turn, starts_now, not_live, cancels, tells_if_live}
+use Rattle.ioc_events.specs.StepRules.{Does, Step, by_itself, then_others, no_such_record, no_such_field, shows_field, processes_record, refuses_value, stores_alone, stores_while_active, stores_and_processes, not_awaited, completes_record, leads_to_no_record, no_link_field, keeps_its_link, takes_link, refuses_notified_value, no_place, waits_its_turn, starts_now, not_live, cancels, tells_if_live}
 use Rattle.ioc_history.specs.declared.entry.Note.{Note}
 use Rattle.ioc_history.specs.Account.{number_given}
 use Rattle.ioc_history.specs.Legal.{entry_of, done, map_of}
@@ -36,7 +36,7 @@ module _ {R : Type 0} (k : RecordRules R) where
     does-give (stores_while_active _ _ _ _ _) e = cc
     does-give (stores_and_processes _ _ _ _ _ _ _) e = cc
     does-give (not_awaited _ _) e = cc
-    does-give (completes_at_last _ _ _) e = cc
+    does-give (completes_record _ _ _) e = cc
     does-give (leads_to_no_record _ _) e = cc
     does-give (no_link_field _ _ _) e = cc
     does-give (keeps_its_link _ _ _ _) e = cc

@@ -15,7 +15,7 @@ use Rattle.ioc_events.specs.declared.reply.Reply.{Reply}
 use Rattle.ioc_events.specs.declared.reply.Reply.TheVariants.{Plain, Outcome as Outcome-reply, Shown, Notify as Notify-reply, Live as Live-reply, Refused}
 use Rattle.ioc_events.specs.Holding.{IsCounted}
 use Rattle.ioc_events.specs.Step.{stepped}
-use Rattle.ioc_events.specs.StepRules.{Replay, at_the_end, and_then, Does, Step, by_itself, then_others, no_such_record, no_such_field, shows_field, processes_record, refuses_value, stores_alone, stores_while_active, stores_and_processes, not_awaited, completes_at_last, leads_to_no_record, no_link_field, keeps_its_link, takes_link, refuses_notified_value, no_place, waits_its_turn, starts_now, not_live, cancels, tells_if_live}
+use Rattle.ioc_events.specs.StepRules.{Replay, at_the_end, and_then, Does, Step, by_itself, then_others, no_such_record, no_such_field, shows_field, processes_record, refuses_value, stores_alone, stores_while_active, stores_and_processes, not_awaited, completes_record, leads_to_no_record, no_link_field, keeps_its_link, takes_link, refuses_notified_value, no_place, waits_its_turn, starts_now, not_live, cancels, tells_if_live}
 use Rattle.ioc_history.specs.declared.entry.Note.{Note}
 use Rattle.ioc_history.specs.Legal.{entry_of, done, Fits}
 use Rattle.ioc_history.specs.EventLaws.{EventLaws}
@@ -54,7 +54,7 @@ module _ {R : Type 0} (k : RecordRules R) where
     does-place (stores_while_active _ _ _ _ _) e = cc
     does-place (stores_and_processes _ _ _ _ _ _ _) e = cc
     does-place (not_awaited _ _) e = cc
-    does-place (completes_at_last _ _ _) e = cc
+    does-place (completes_record _ _ _) e = cc
     does-place (leads_to_no_record _ _) e = cc
     does-place (no_link_field _ _ _) e = cc
     does-place (keeps_its_link _ _ _ _) e = cc

@@ -72,10 +72,10 @@ differ_more (Some n) xs h g = all_pairs_push (λ earlier later. earlier ≢ late
 
 -- If the caller that begins a put with notification owns their key, the number is none of those of
 -- the list.
-begins_anew : (o : Option ℕ) (seen log : List Note) (owned : List Key) → Continues seen owned log → PutsAreKeyed log
+number_is_unused : (o : Option ℕ) (seen log : List Note) (owned : List Key) → Continues seen owned log → PutsAreKeyed log
     → IfSome o (λ number. Has notifications_key owned × (Contains (numbers_given (calls seen)) number → ⊥)) → IfSome o (λ number. Contains (numbers_given (calls log)) number → ⊥)
-begins_anew None seen log owned go keyed h = tt
-begins_anew (Some n) seen log owned go keyed h = subst (λ (l : List ℕ). Contains l n → ⊥) (sym (numbers_on seen log owned go h.0 keyed)) h.1
+number_is_unused None seen log owned go keyed h = tt
+number_is_unused (Some n) seen log owned go keyed h = subst (λ (l : List ℕ). Contains l n → ⊥) (sym (numbers_on seen log owned go h.0 keyed)) h.1
 
 keyed_by : (o : Option ℕ) (seen : List Note) (owned keys : List Key) → ((key : Key) → Has key owned → Has key keys)
     → IfSome o (λ number. Has notifications_key owned × (Contains (numbers_given (calls seen)) number → ⊥)) → IfSome o (λ _. Has notifications_key keys)
@@ -85,7 +85,7 @@ keyed_by (Some n) seen owned keys within h = within notifications_key h.0
 pub numbers_differ : (seen log : List Note) (owned : List Key) (n : Note) → Continues seen owned log → PutsAreKeyed log → Differ (numbers_given (calls log)) → MayBegin seen owned n.entry.entry.event → Differ (numbers_given (calls (log ++ n ∷ [])))
 numbers_differ seen log owned n go keyed differ begins =
     subst Differ (sym (ap numbers_given (calls-append log (n ∷ [])) ∙ numbers-append (calls log) (n.entry ∷ [])))
-    (differ_more (number_given n.entry.entry.event) (numbers_given (calls log)) differ (begins_anew (number_given n.entry.entry.event) seen log owned go keyed begins))
+    (differ_more (number_given n.entry.entry.event) (numbers_given (calls log)) differ (number_is_unused (number_given n.entry.entry.event) seen log owned go keyed begins))
 
 pub puts_stay_keyed : (seen log : List Note) (owned : List Key) (n : Note) → ((key : Key) → Has key owned → Has key n.keys) → PutsAreKeyed log → MayBegin seen owned n.entry.entry.event → PutsAreKeyed (log ++ n ∷ [])
 puts_stay_keyed seen log owned n within keyed begins = puts_append log (n ∷ []) keyed (keyed_by (number_given n.entry.entry.event) seen owned n.keys within begins, tt)

@@ -94,7 +94,7 @@ module _ {R D : Type 0} (k : RecordRules R) (before other after other_then rest 
     left_behind : (q : ℕ) → IsSome (get rest.records q) → IsSome (get led.stay.devices q) → ⊥
     left_behind q at_rest has = elim (led.joins.devices q) [
       | inl p ↦
-          let there = subst (λ (o : Option D). IsSome o) (p.0 ∙ sym (ap (λ (h : SetState R D). get h.devices q) led.then_anew)) has in
+          let there = subst (λ (o : Option D). IsSome o) (p.0 ∙ sym (ap (λ (h : SetState R D). get h.devices q) led.then_empty)) has in
           not_both (get freed) (get led.stay.records) (get rest.records) led.falls.shared q (⊎_elim (λ a. a) (λ b. absurd (none_some (get other.records q) (apart q (fell q at_rest)) b)) (led_back q (owned_then q there))) at_rest
       | inr p ↦ none_some (get led.stay.devices q) p.0 has
     ]
@@ -124,7 +124,7 @@ module _ {R D : Type 0} (k : RecordRules R) (before other after other_then rest 
     ]
 
     pub after_keeps : KeepsDevices had after
-    after_keeps q has = subst (λ (h : SetState R D). had q (get h.devices q)) (sym led.then_anew) (both_have q (led_back q has))
+    after_keeps q has = subst (λ (h : SetState R D). had q (get h.devices q)) (sym led.then_empty) (both_have q (led_back q has))
 
   module _ (lasts : Lasts k) (sets_lead : SetsLead D k)
       (to : (t : ℕ) × (named_by (use_of link) ≡ t ∷ []) × IsSome (get other.records t)) (rest_sound : IsSound-set k rest)

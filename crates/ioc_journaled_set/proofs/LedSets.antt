@@ -131,7 +131,7 @@ module _ {R D : Type 0} (k : RecordRules R) where
 
 pub sets-lead : {R : Type 0} (D : Type 0) (k : RecordRules R) → LinkMoves k → HeldAlike k → SetsLead D k
 sets-lead {R} D k moves alike base log before other after other_then rest come_to desk call moment s field link keys sound legal holds other_holds covers other_covers apart takes to led rest_sound =
-    let same : after.waiting ≡ led.both.waiting = ap (λ (x : SetState R D). x.waiting) led.then_anew in
+    let same : after.waiting ≡ led.both.waiting = ap (λ (x : SetState R D). x.waiting) led.then_empty in
     let more = moves base (now_of before) (now_of other) (now_of led.stay) (now_of rest) (begun_at moment (now_of led.both)) log desk call moment s field no_link link keys sound legal holds other_holds covers other_covers
     (λ q has there. none_some (get other.records q) (apart q has) there) takes
     (λ t named. other-there k led.stay other led.both other_then moment s field link led.joins t

@@ -121,7 +121,7 @@ module _ {R D : Type 0} (k : RecordRules R) (before other after other_then rest 
       ∙ ap (λ (n : ℕ). n + len other.records) (set_count led.stay.records s _ led.falls.own)
 
   tally_after : after.tally ≡ added led.stay.tally other.tally
-  tally_after = ap (λ (h : SetState R D). h.tally) led.then_anew ∙ ap (λ (h : SetState R D). h.tally) led.joins.all
+  tally_after = ap (λ (h : SetState R D). h.tally) led.then_empty ∙ ap (λ (h : SetState R D). h.tally) led.joins.all
 
   -- The merged share of what stays and of the other set.
   pub share_joins : (stays others merged : ShareView) → stays ≡ share_view (len led.stay.records) led.stay.tally → others ≡ share_view (len other.records) other.tally

@@ -39,7 +39,7 @@ use Rattle.ioc_dbcommon.specs.declared.body.InputKind.{InputKind}
 use Rattle.ioc_dbcommon.specs.declared.body.Got.TheVariants.{Nothing as Got-nothing, Value as Got-value, Fault as Got-fault}
 use Rattle.ioc_store.specs.Links.{link_at, use_of_field, chosen_links, is_proc, requests_first, requests_after, handed_on}
 use Rattle.ioc_ledger.specs.Requests.{Requests, None, Request, followed_by}
-use Rattle.ioc_process.specs.Processing.{Done, Ran, Read, Came, Reading, Written, PutOut, as_request, ran_after, processed, asked, next_call, judged, begun_idle, ran, went_on_at_last, caused, followed, inherits, value_came, stored_at, wrote, after_writing, write_link, followed_each, finished, finished_if, after_output, acknowledged, write_device, put_out, prepared, read_record, faulted, read_link, completed, completed_if, device_gave, received, read_device, can_ask, input, body, turned_away, requested, nested, request, read_at}
+use Rattle.ioc_process.specs.Processing.{Done, Ran, Read, Came, Reading, Written, PutOut, as_request, ran_after, processed, asked, next_call, judged, begun_idle, ran, resumed_with, caused, followed, inherits, value_came, stored_at, wrote, after_writing, write_link, followed_each, finished, finished_if, after_output, acknowledged, write_device, put_out, prepared, read_record, faulted, read_link, completed, completed_if, device_gave, received, read_device, can_ask, input, body, turned_away, requested, nested, request, read_at}
 use Rattle.ioc_store.specs.Rests.{rested, disable_came}
 use Rattle.ioc_store.specs.StepFrames.{OwnLinks, blocked-frame, stored_with}
 use Rattle.ioc_store.specs.Named.{link_named}
@@ -602,16 +602,16 @@ module _ {R : Type 0} (k : RecordRules R) (lawful : IsLawful k) (May : ℕ → T
     ran-goes inv s may = requested-goes _ _ (λ w v. request-goes) answers inv s may
 
     -- Resuming a record whose device answered later keeps the relation.
-    pub at_last-goes : {w v : World R} → Inv w v → (s : ℕ) → May s → (x : Finished) → Goes Inv (went_on_at_last k answers w s x) (went_on_at_last k answers v s x)
-    unfolding went_on_at_last
-    at_last-goes {w} {v} inv s may x =
+    pub takes_completion-goes : {w v : World R} → Inv w v → (s : ℕ) → May s → (x : Finished) → Goes Inv (resumed_with k answers w s x) (resumed_with k answers v s x)
+    unfolding resumed_with
+    takes_completion-goes {w} {v} inv s may x =
         let back = changed-goes inv s may resumed (λ c. (refl, refl, refl)) in
         let mine = changed k w s resumed in
         let theirs = changed k v s resumed in
         let taken : Inv (put mine s (k.finished (at k mine s) x)) (put theirs s (k.finished (at k theirs s) x)) =
         subst (λ (r : R). Inv (put mine s (k.finished (at k mine s) x)) (put theirs s (k.finished r x))) (g.same back s may) (g.put back s may _ (g.finished (g.good back s may) x) (ap (λ (c : Common). c.notification) (lawful.finished_common (at k mine s) x))) in
         let theirs_taken = put theirs s (k.finished (at k theirs s) x) in
-        subst (λ (output : Output). Goes Inv (went_on_at_last k answers w s x) (after_output k (request k answers) s (put_out k answers (request k answers) theirs_taken s output)))
+        subst (λ (output : Output). Goes Inv (resumed_with k answers w s x) (after_output k (request k answers) s (put_out k answers (request k answers) theirs_taken s output)))
         (ap (λ (r : R). k.last_output r x) (g.same back s may))
         (after_output-goes _ _ (λ w v. request-goes) _ _
         (put_out-goes _ _ (λ w v. request-goes) answers taken s may (k.last_output (at k mine s) x) (λ t y is. g.link (g.good back s may) t.number (lawful.last_output_named (at k mine s) x t y is))) s may)

@@ -20,13 +20,13 @@ use Rattle.ioc_record.specs.Laws.{IsLawful}
 use Rattle.ioc_ledger.specs.Requests.{more}
 use Rattle.ioc_store.specs.declared.outbox.OutboxItem.{OutboxItem}
 use Rattle.ioc_store.specs.World.{World, Has, at, put, changed, SameLinks, Keeps, IsClosed, called, sent, lost, taken_on, let_go}
-use Rattle.ioc_process.specs.Processing.{inherits, value_came, wrote, faulted, device_gave, received, read_device, acknowledged, write_device, next_call, can_ask, request, ran, went_on_at_last}
+use Rattle.ioc_process.specs.Processing.{inherits, value_came, wrote, faulted, device_gave, received, read_device, acknowledged, write_device, next_call, can_ask, request, ran, resumed_with}
 use Rattle.ioc_store.specs.Rests.{disable_came}
 use Rattle.ioc_store.specs.StepFrames.{OwnLinks, targets_same, links-set, links-taken, links-finished, links-stored}
 use Rattle.ioc_store.specs.Worlds.{at-put_same, at-put_other, has-put, has-put_back, len-put}
 use Rattle.ioc_store.specs.Links.{handed_on}
 use Rattle.ioc_process.specs.Depth.{written_has}
-use Rattle.ioc_process.specs.Alongside.{Guards, inherits-goes, value_came-goes, wrote-goes, request-goes, ran-goes, at_last-goes}
+use Rattle.ioc_process.specs.Alongside.{Guards, inherits-goes, value_came-goes, wrote-goes, request-goes, ran-goes, takes_completion-goes}
 use Rattle.ioc_store.specs.Given.{Answers}
 use Rattle.ioc_store.specs.Scanning.{moved, rescanned}
 use Rattle.ioc_store.specs.ScanLaws.{moved-either, rescanned-either}
@@ -212,5 +212,5 @@ module _ {R : Type 0} (k : RecordRules R) (lawful : IsLawful k) where
     pub ran-keeps : (answers : Answers) (s : ℕ) → Has w0 s → Keeps k w0 (ran k answers w0 s).world
     ran-keeps answers s may = (ran-goes k lawful _ _ _ kept answers start s may).inv.1
 
-    pub at_last-keeps : (answers : Answers) (s : ℕ) → Has w0 s → (x : Finished) → Keeps k w0 (went_on_at_last k answers w0 s x).world
-    at_last-keeps answers s may x = (at_last-goes k lawful _ _ _ kept answers start s may x).inv.1
+    pub takes_completion-keeps : (answers : Answers) (s : ℕ) → Has w0 s → (x : Finished) → Keeps k w0 (resumed_with k answers w0 s x).world
+    takes_completion-keeps answers s may x = (takes_completion-goes k lawful _ _ _ kept answers start s may x).inv.1

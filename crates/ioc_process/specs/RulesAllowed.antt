@@ -32,9 +32,9 @@ use Rattle.ioc_store.specs.World.{World, at, common_at, put, changed, idle, call
 use Rattle.ioc_store.specs.Links.{link_at, chosen_links, requests_first, requests_after, handed_on}
 use Rattle.ioc_ledger.specs.Requests.{None, Request, followed_by}
 use Rattle.ioc_ledger.specs.declared.outcome.Outcome.TheVariants.{Disabled, Reprocess}
-use Rattle.ioc_process.specs.Processing.{Done, Reading, PutOut, caused, followed, inherits, faulted, value_came, stored_at, wrote, after_writing, write_link, followed_each, finished, finished_if, after_output, acknowledged, write_device, put_out, prepared, read_record, read_link, completed, completed_if, device_gave, received, read_device, can_ask, input, body, turned_away, processed, requested, request, Ran, as_request, ran_after, asked, next_call, judged, begun_idle, ran, went_on_at_last, read_at}
+use Rattle.ioc_process.specs.Processing.{Done, Reading, PutOut, caused, followed, inherits, faulted, value_came, stored_at, wrote, after_writing, write_link, followed_each, finished, finished_if, after_output, acknowledged, write_device, put_out, prepared, read_record, read_link, completed, completed_if, device_gave, received, read_device, can_ask, input, body, turned_away, processed, requested, request, Ran, as_request, ran_after, asked, next_call, judged, begun_idle, ran, resumed_with, read_at}
 use Rattle.ioc_store.specs.Rests.{rested, disable_came}
-use Rattle.ioc_process.specs.Rules.{Inherits, from_itself, from_another, Takes, that_converts, that_does_not, Receives, a_value, a_bad_value, a_fault, not_yet, Puts, that_fits, that_does_not_fit, Acknowledges, written, written_badly, not_written_yet, Gives, next, asked_too_often, no_more_numbers, Requested, while_active, while_idle, Causes, meanwhile_active, unused, absent, no_such_device, as_it_stands, after_request, Writes, to_nothing, to_absent, to_no_device, in_vain, alone, and_requests, Follows, to_record, to_scanned, nowhere, FollowsEach, no_more, one_more, PutsOut, nothing, to_link, to_device, to_links, as_event, Gets, no_input, of_device, Finishes, forward, Proceeds, at_once, kept_waiting, Runs, Disables, by_value, not_given, not_read, Rests, for_good, once_more, while_disabled, Asks, for_later, straight_away, Reads, Resumes, at_last, of_link}
+use Rattle.ioc_process.specs.Rules.{Inherits, from_itself, from_another, Takes, that_converts, that_does_not, Receives, a_value, a_bad_value, a_fault, not_yet, Puts, that_fits, that_does_not_fit, Acknowledges, written, written_badly, not_written_yet, Gives, next, asked_too_often, no_more_numbers, Requested, while_active, while_idle, Causes, meanwhile_active, unused, absent, no_such_device, as_it_stands, after_request, Writes, to_nothing, to_absent, to_no_device, in_vain, alone, and_requests, Follows, to_record, to_scanned, nowhere, FollowsEach, no_more, one_more, PutsOut, nothing, to_link, to_device, to_links, as_event, Gets, no_input, of_device, Finishes, forward, Proceeds, at_once, kept_waiting, Runs, Disables, by_value, not_given, not_read, Rests, for_good, once_more, while_disabled, Asks, for_later, straight_away, Reads, Resumes, takes_completion, of_link}
 use Rattle.ioc_store.specs.Worlds.{idle-changed, idle-kept, one_of_two}
 use Rattle.ioc_process.specs.Depth.{passed-active, stays-changed, stays_on, stays-read_link, disable_came-stays, FewIdle, room_on, room-shown, shown-active, taken-stays, wrote-stays, stays-followed, outs-put_out, reads-input, request-rule, passed_on-idle}
 use Rattle.ioc_process.specs.RulesAlone.{followed_by-none}
@@ -389,13 +389,13 @@ module _ {R : Type 0} (k : RecordRules R) (lawful : IsLawful k) (answers : Answe
   goes-on w s (FollowLinks links) none = refl
   goes-on w s (PostEvent name) none = refl
 
-  pub at_last-allowed : (w : World R) (s : ℕ) (x : Finished) → Resumes k answers w s x (went_on_at_last k answers w s x).world (went_on_at_last k answers w s x).requests
-  unfolding went_on_at_last after_output
-  at_last-allowed w s x =
+  pub takes_completion-allowed : (w : World R) (s : ℕ) (x : Finished) → Resumes k answers w s x (resumed_with k answers w s x).world (resumed_with k answers w s x).requests
+  unfolding resumed_with after_output
+  takes_completion-allowed w s x =
       let back = changed k w s resumed in
       let taken = put back s (k.finished (at k back s) x) in
       let output = k.last_output (at k back s) x in
       let out = put_out k answers ask taken s output in
       let on = goes-on taken s output (λ v. lawful.last_output_asks_none (at k back s) x v) in
       let puts : PutsOut k answers taken s output out.world true out.requests = subst (λ (b : Bool). PutsOut k answers taken s output out.world b out.requests) on (puts_out-allowed taken s output) in
-      rw on (at_last refl puts (finish-allowed out.world s))
+      rw on (takes_completion refl puts (finish-allowed out.world s))

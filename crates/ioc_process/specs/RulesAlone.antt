@@ -24,9 +24,9 @@ use Rattle.ioc_values.specs.declared.value.Finished.{Finished}
 use Rattle.ioc_store.specs.Marks.{is_put_down, put_down, put_mark_passed, is_disabled}
 use Rattle.ioc_store.specs.World.{World, at, common_at, put, changed, called}
 use Rattle.ioc_ledger.specs.Requests.{Requests, None, Request, followed_by}
-use Rattle.ioc_process.specs.Processing.{Done, Came, Reading, Written, PutOut, caused, followed, inherits, faulted, value_came, stored_at, wrote, after_writing, write_link, followed_each, finished, after_output, acknowledged, write_device, put_out, prepared, read_record, read_link, completed, completed_if, device_gave, received, read_device, can_ask, input, body, turned_away, processed, requested, request, Ran, Read, as_request, ran_after, asked, judged, begun_idle, ran, as_input, went_on_at_last, read_at}
+use Rattle.ioc_process.specs.Processing.{Done, Came, Reading, Written, PutOut, caused, followed, inherits, faulted, value_came, stored_at, wrote, after_writing, write_link, followed_each, finished, after_output, acknowledged, write_device, put_out, prepared, read_record, read_link, completed, completed_if, device_gave, received, read_device, can_ask, input, body, turned_away, processed, requested, request, Ran, Read, as_request, ran_after, asked, judged, begun_idle, ran, as_input, resumed_with, read_at}
 use Rattle.ioc_store.specs.Rests.{rested, disable_came}
-use Rattle.ioc_process.specs.Rules.{Inherits, from_itself, from_another, Takes, that_converts, that_does_not, Receives, a_value, a_bad_value, a_fault, not_yet, Puts, that_fits, that_does_not_fit, Acknowledges, written, written_badly, not_written_yet, Gives, next, asked_too_often, no_more_numbers, Requested, while_active, while_idle, Causes, meanwhile_active, Reads, unused, absent, no_such_device, as_it_stands, after_request, Writes, to_nothing, to_absent, to_no_device, in_vain, alone, and_requests, Follows, to_record, to_scanned, nowhere, FollowsEach, no_more, one_more, PutsOut, nothing, to_link, to_device, to_links, as_event, Gets, no_input, of_device, Finishes, forward, Proceeds, at_once, kept_waiting, Runs, Disables, by_value, not_given, not_read, Rests, for_good, once_more, while_disabled, Asks, for_later, straight_away, Resumes, at_last, of_link}
+use Rattle.ioc_process.specs.Rules.{Inherits, from_itself, from_another, Takes, that_converts, that_does_not, Receives, a_value, a_bad_value, a_fault, not_yet, Puts, that_fits, that_does_not_fit, Acknowledges, written, written_badly, not_written_yet, Gives, next, asked_too_often, no_more_numbers, Requested, while_active, while_idle, Causes, meanwhile_active, Reads, unused, absent, no_such_device, as_it_stands, after_request, Writes, to_nothing, to_absent, to_no_device, in_vain, alone, and_requests, Follows, to_record, to_scanned, nowhere, FollowsEach, no_more, one_more, PutsOut, nothing, to_link, to_device, to_links, as_event, Gets, no_input, of_device, Finishes, forward, Proceeds, at_once, kept_waiting, Runs, Disables, by_value, not_given, not_read, Rests, for_good, once_more, while_disabled, Asks, for_later, straight_away, Resumes, takes_completion, of_link}
 use Rattle.ioc_process.specs.Depth.{request-rule}
 use Rattle.ioc_store.specs.Given.{Answers}
 use Rattle.ioc_store.specs.Notifying.{passed_on, notified}
@@ -310,7 +310,7 @@ module _ {R : Type 0} (k : RecordRules R) (lawful : IsLawful k) (answers : Answe
     body-is (Runs.waits {w} {w'} {s} {requests} g) = body-waits w w' s requests (input-is g)
 
   -- The rules allow no other result for a record whose device answered later.
-  pub at_last-is : {w : World R} {s : ℕ} {x : Finished} {w' : World R} {requests : Requests} → Resumes k answers w s x w' requests → went_on_at_last k answers w s x ≡ record { world = w'; requests = requests }
-  unfolding went_on_at_last
-  at_last-is (at_last {w} {back} {w'} {w''} {s} {x} {first} {rest} b p f) =
+  pub takes_completion-is : {w : World R} {s : ℕ} {x : Finished} {w' : World R} {requests : Requests} → Resumes k answers w s x w' requests → resumed_with k answers w s x ≡ record { world = w'; requests = requests }
+  unfolding resumed_with
+  takes_completion-is (takes_completion {w} {back} {w'} {w''} {s} {x} {first} {rest} b p f) =
       rw (← b) (ap (after_output k ask s) (put_out-is p) ∙ at_once-step s w' first (record { world = w''; requests = rest }) (finished-is f))

@@ -25,7 +25,7 @@ use Rattle.ioc_store.specs.Marks.{put_down, put_mark_passed, resumed, at_rest, w
 use Rattle.ioc_record.specs.RecordRules.{RecordRules}
 use Rattle.ioc_record.specs.Laws.{IsLawful}
 use Rattle.ioc_store.specs.World.{World, at, common_at, put, changed, called, sent, lost, taken_on, let_go}
-use Rattle.ioc_process.specs.Rules.{Left, as_it_was, now_waits, LeavesAll, Inherits, from_itself, from_another, Takes, that_converts, that_does_not, Receives, a_value, a_bad_value, a_fault, not_yet, Puts, that_fits, that_does_not_fit, Acknowledges, written, written_badly, not_written_yet, Gives, next, asked_too_often, no_more_numbers, Requested, while_active, while_idle, Causes, meanwhile_active, Reads, unused, absent, no_such_device, as_it_stands, after_request, Writes, to_nothing, to_absent, to_no_device, in_vain, alone, and_requests, Follows, to_record, to_scanned, nowhere, FollowsEach, no_more, one_more, PutsOut, nothing, to_link, to_device, to_links, as_event, Gets, no_input, of_link, of_device, Finishes, forward, Proceeds, at_once, kept_waiting, Runs, Disables, by_value, not_given, not_read, Rests, for_good, once_more, while_disabled, Asks, for_later, straight_away, Resumes, at_last}
+use Rattle.ioc_process.specs.Rules.{Left, as_it_was, now_waits, LeavesAll, Inherits, from_itself, from_another, Takes, that_converts, that_does_not, Receives, a_value, a_bad_value, a_fault, not_yet, Puts, that_fits, that_does_not_fit, Acknowledges, written, written_badly, not_written_yet, Gives, next, asked_too_often, no_more_numbers, Requested, while_active, while_idle, Causes, meanwhile_active, Reads, unused, absent, no_such_device, as_it_stands, after_request, Writes, to_nothing, to_absent, to_no_device, in_vain, alone, and_requests, Follows, to_record, to_scanned, nowhere, FollowsEach, no_more, one_more, PutsOut, nothing, to_link, to_device, to_links, as_event, Gets, no_input, of_link, of_device, Finishes, forward, Proceeds, at_once, kept_waiting, Runs, Disables, by_value, not_given, not_read, Rests, for_good, once_more, while_disabled, Asks, for_later, straight_away, Resumes, takes_completion}
 use Rattle.ioc_store.specs.StepFrames.{blocked-frame, stored_with}
 use Rattle.ioc_store.specs.Worlds.{at-put_same, at-put_other, common_at-changed}
 use Rattle.ioc_store.specs.Given.{Answers}
@@ -442,7 +442,7 @@ module _ {R : Type 0} (k : RecordRules R) (lawful : IsLawful k) where
     -- A record whose device answered later is idle in the end and no longer waits.
     pub resumes-others : {w : World R} {s : ℕ} {x : Finished} {w' : World R} {requests : Requests} → Resumes k answers w s x w' requests
         → (n : ℕ) → n ≢ s → Left (common_at k w n) (common_at k w' n)
-    resumes-others (at_last {w} {back} {w'} {w''} {s} {x} b p f) n apart =
+    resumes-others (takes_completion {w} {back} {w'} {w''} {s} {x} b p f) n apart =
         let taken = put back s (k.finished (at k back s) x) in
         let out = puts_out-both p in
         let rest = finishes-ended f in
@@ -452,7 +452,7 @@ module _ {R : Type 0} (k : RecordRules R) (lawful : IsLawful k) where
     pub resumes-own : {w : World R} {s : ℕ} {x : Finished} {w' : World R} {requests : Requests} → Resumes k answers w s x w' requests
         → ((common_at k w' s).active ≡ false) × ((common_at k w' s).pending ≡ Nothing_)
     unfolding OwnAs Own
-    resumes-own (at_last {w} {back} {w'} {w''} {s} {x} b p f) =
+    resumes-own (takes_completion {w} {back} {w'} {w''} {s} {x} b p f) =
         let out = puts_out-both p in
         let rest = finishes-ended f in
         let taken : (common_at k (put back s (k.finished (at k back s) x)) s).pending ≡ (common_at k back s).pending =

@@ -34,7 +34,7 @@ use Rattle.ioc_store.specs.Scanning.{moved, rescanned}
 use Rattle.ioc_store.specs.ScanLaws.{moved-either, rescanned-either}
 use Rattle.ioc_store.specs.Notifying.{passed_on, notified_as, notified}
 use Rattle.ioc_store.specs.NotifyLaws.{passed-either, notified-either}
-use Rattle.ioc_process.specs.Rules.{IdleIsFree, Inherits, from_itself, from_another, Takes, that_converts, that_does_not, Receives, a_value, a_bad_value, a_fault, not_yet, Puts, that_fits, that_does_not_fit, Acknowledges, written, written_badly, not_written_yet, Gives, next, asked_too_often, no_more_numbers, Requested, while_active, while_idle, Causes, meanwhile_active, Reads, unused, absent, no_such_device, as_it_stands, after_request, Writes, to_nothing, to_absent, to_no_device, in_vain, alone, and_requests, Follows, to_record, to_scanned, nowhere, FollowsEach, no_more, one_more, PutsOut, nothing, to_link, to_device, to_links, as_event, Gets, no_input, of_link, of_device, Finishes, forward, Proceeds, at_once, kept_waiting, Runs, Disables, by_value, not_given, not_read, Rests, for_good, once_more, while_disabled, Asks, for_later, straight_away, Resumes, at_last}
+use Rattle.ioc_process.specs.Rules.{IdleIsFree, Inherits, from_itself, from_another, Takes, that_converts, that_does_not, Receives, a_value, a_bad_value, a_fault, not_yet, Puts, that_fits, that_does_not_fit, Acknowledges, written, written_badly, not_written_yet, Gives, next, asked_too_often, no_more_numbers, Requested, while_active, while_idle, Causes, meanwhile_active, Reads, unused, absent, no_such_device, as_it_stands, after_request, Writes, to_nothing, to_absent, to_no_device, in_vain, alone, and_requests, Follows, to_record, to_scanned, nowhere, FollowsEach, no_more, one_more, PutsOut, nothing, to_link, to_device, to_links, as_event, Gets, no_input, of_link, of_device, Finishes, forward, Proceeds, at_once, kept_waiting, Runs, Disables, by_value, not_given, not_read, Rests, for_good, once_more, while_disabled, Asks, for_later, straight_away, Resumes, takes_completion}
 
 not-both : true ≡ false → ⊥
 not-both is = cc
@@ -310,5 +310,5 @@ module _ {R : Type 0} (k : RecordRules R) (lawful : IsLawful k) (n : ℕ) where
     -- `IsFree` holds after a record whose device answered later has resumed.
     pub resumes-told : {w : World R} {s : ℕ} {x : Finished} {w' : World R} {requests : Requests} → Resumes k answers w s x w' requests → But s w → IsFree w'
     unfolding AfterOutput
-    resumes-told (at_last {w} {back} {w'} {w''} {s} {x} b p f) but =
+    resumes-told (takes_completion {w} {back} {w'} {w''} {s} {x} b p f) but =
         finishes-told f (puts_out-told p (λ apart. put-other back s _ apart (subst IsFree (sym b) (changed-other w s resumed apart (but apart)))))

@@ -27,7 +27,7 @@ use Rattle.ioc_events.specs.declared.reply.Reply.{Reply}
 use Rattle.ioc_events.specs.declared.reply.Reply.TheVariants.{Refused}
 use Rattle.ioc_events.specs.Starting.{is_ready, taken_and_stored}
 use Rattle.ioc_events.specs.Step.{awaits, is_pending, is_link_change, lets_start, calls_since}
-use Rattle.ioc_events.specs.StepRules.{Does, Step, by_itself, then_others, Starts, to_be_processed, at_once_told, StartsAll, no_more, next_starts, no_such_record, no_such_field, shows_field, processes_record, refuses_value, stores_alone, stores_while_active, stores_and_processes, not_awaited, completes_at_last, leads_to_no_record, no_link_field, keeps_its_link, takes_link, refuses_notified_value, no_place, waits_its_turn, starts_now, not_live, cancels, tells_if_live}
+use Rattle.ioc_events.specs.StepRules.{Does, Step, by_itself, then_others, Starts, to_be_processed, at_once_told, StartsAll, no_more, next_starts, no_such_record, no_such_field, shows_field, processes_record, refuses_value, stores_alone, stores_while_active, stores_and_processes, not_awaited, completes_record, leads_to_no_record, no_link_field, keeps_its_link, takes_link, refuses_notified_value, no_place, waits_its_turn, starts_now, not_live, cancels, tells_if_live}
 use Rattle.ioc_set.specs.Awaiting.{awaited, one_if_completes}
 use Rattle.ioc_set.proofs.AwaitingAlike.{Alike, alike-on, alike-admitted, alike-queued, alike-unqueued, count-put, put-calls, alike-changed, alike-stored, alike-notification, alike-rescanned, alike-rewired, alike-notified, alike-cancelled}
 use Rattle.ioc_set.proofs.AwaitingCounts.{Fine, fine-alike}
@@ -164,7 +164,7 @@ module _ {R : Type 0} (k : RecordRules R) (lawful : IsLawful k) (answers : Answe
       let first = put-leaves w settled s field given r there is stored in
       inl (requested-fine k lawful answers w settled.closed q there (on w settled (marked-alike w' s (first.keeps.has s there)) first))
   does-leaves (not_awaited {w} _ _) settled = inl (first-fine w settled)
-  does-leaves (completes_at_last {w} {w'} {s} {number} there awaits r) settled =
+  does-leaves (completes_record {w} {w'} {s} {number} there awaits r) settled =
       inl (resumes-fine k lawful answers w settled.closed r there (is-awaited (common_at k w s).pending number awaits) (first-fine w settled))
   does-leaves (leads_to_no_record {w} _ _) settled = inl (first-fine w settled)
   does-leaves (no_link_field {w} _ _ _) settled = inl (first-fine w settled)

@@ -30,7 +30,7 @@ use Rattle.ioc_store.specs.Links.{handed_on}
 use Rattle.ioc_store.specs.Marks.{put_down, put_mark_passed}
 use Rattle.ioc_store.specs.Given.{Answers}
 use Rattle.ioc_store.specs.Notifying.{notified, passed_on}
-use Rattle.ioc_process.specs.Rules.{Left, as_it_was, now_waits, Requested, while_active, while_disabled, while_idle, Asks, for_later, straight_away, Causes, meanwhile_active, Reads, unused, absent, no_such_device, as_it_stands, after_request, Writes, to_nothing, to_absent, to_no_device, in_vain, alone, and_requests, Follows, to_record, to_scanned, nowhere, FollowsEach, no_more, one_more, PutsOut, nothing, to_link, to_device, to_links, as_event, Gets, no_input, of_link, of_device, Finishes, forward, Proceeds, at_once, kept_waiting, Runs, Resumes, at_last}
+use Rattle.ioc_process.specs.Rules.{Left, as_it_was, now_waits, Requested, while_active, while_disabled, while_idle, Asks, for_later, straight_away, Causes, meanwhile_active, Reads, unused, absent, no_such_device, as_it_stands, after_request, Writes, to_nothing, to_absent, to_no_device, in_vain, alone, and_requests, Follows, to_record, to_scanned, nowhere, FollowsEach, no_more, one_more, PutsOut, nothing, to_link, to_device, to_links, as_event, Gets, no_input, of_link, of_device, Finishes, forward, Proceeds, at_once, kept_waiting, Runs, Resumes, takes_completion}
 use Rattle.ioc_process.specs.RulesLaws.{requested-leaves}
 use Rattle.ioc_set.proofs.AwaitingAlike.{Alike, alike-on, alike-sent, alike-changed, alike-passed_on, alike-notified, alike-handed_on, alike-disabled, mark-links, mark-active, mark-pending, puts-alike, takes-alike, disables-alike}
 use Rattle.ioc_set.proofs.AwaitingCounts.{Fine, Under, target-has, fine-alike, under-alike, under-has, begins, under-put, under-changed, resumes-under, gives-under, After, has_come, waiting-fine, come-under, receives-after, AfterOutput, goes_on, waits_on-fine, goes_on-under, acknowledges-after, rests-fine}
@@ -200,7 +200,7 @@ module _ {R : Type 0} (k : RecordRules R) (lawful : IsLawful k) (answers : Answe
   -- A record whose device answered later no longer awaits a completion.
   pub resumes-fine : {due : ℕ} {w : World R} {s : ℕ} {x : Finished} {w' : World R} {requests : Requests} → Resumes k answers w s x w' requests → Has w0 s → IsSome (common_at k w s).pending
       → Fine_ due w → Fine_ (due + 1) w'
-  resumes-fine (at_last {w} {back} {w'} {w''} {s} {x} b p f) there awaits fine =
+  resumes-fine (takes_completion {w} {back} {w'} {w''} {s} {x} b p f) there awaits fine =
       let first = subst (Under_ _ s) (sym b) (resumes-under k lawful w0 closed w s there awaits fine) in
       let taken = under-put k lawful w0 closed back s (k.finished (at k back s) x) (links-finished k lawful _ x) (ap (λ (c : Common). c.pending) (lawful.finished_common (at k back s) x) ∙ first.none) first in
       finishes-fine f (goes_on-under k lawful w0 closed (puts_out-after p taken (λ t v is. target-has k lawful w0 closed first.fine s t.number (lawful.last_output_named (at k back s) x t v is))))

@@ -7,7 +7,7 @@ use Rattle.ioc_store.specs.Given.{Answers}
 use Rattle.ioc_events.specs.declared.event.Event.{Event}
 use Rattle.ioc_events.specs.declared.reply.Reply.{Reply}
 use Rattle.ioc_events.specs.declared.reply.Reply.TheVariants.{Notify as Notify-reply}
-use Rattle.ioc_events.specs.StepRules.{Does, Step, by_itself, then_others, no_such_record, no_such_field, shows_field, processes_record, refuses_value, stores_alone, stores_while_active, stores_and_processes, not_awaited, completes_at_last, leads_to_no_record, no_link_field, keeps_its_link, takes_link, refuses_notified_value, no_place, waits_its_turn, starts_now, not_live, cancels, tells_if_live}
+use Rattle.ioc_events.specs.StepRules.{Does, Step, by_itself, then_others, no_such_record, no_such_field, shows_field, processes_record, refuses_value, stores_alone, stores_while_active, stores_and_processes, not_awaited, completes_record, leads_to_no_record, no_link_field, keeps_its_link, takes_link, refuses_notified_value, no_place, waits_its_turn, starts_now, not_live, cancels, tells_if_live}
 use Rattle.ioc_set_store.specs.Puts.{is_put_with_notification}
 
 module _ {R : Type 0} (k : RecordRules R) (answers : Answers) (n : ℕ) where
@@ -21,7 +21,7 @@ module _ {R : Type 0} (k : RecordRules R) (answers : Answers) (n : ℕ) where
   does-begins (stores_while_active _ _ _ _ _) e = cc
   does-begins (stores_and_processes _ _ _ _ _ _ _) e = cc
   does-begins (not_awaited _ _) e = cc
-  does-begins (completes_at_last _ _ _) e = cc
+  does-begins (completes_record _ _ _) e = cc
   does-begins (leads_to_no_record _ _) e = cc
   does-begins (no_link_field _ _ _) e = cc
   does-begins (keeps_its_link _ _ _ _) e = cc

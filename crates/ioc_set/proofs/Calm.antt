@@ -18,7 +18,7 @@ use Rattle.ioc_events.specs.Holding.{IsCounted, IsHeld, by_a_record}
 use Rattle.ioc_set.specs.Awaiting.{awaited}
 use Rattle.ioc_set.specs.SetState.{SetState, now_of}
 use Rattle.ioc_set_store.specs.Resting.{resting}
-use Rattle.ioc_set.specs.Linking.{anew, AreCalm}
+use Rattle.ioc_set.specs.Linking.{with_empty_history, AreCalm}
 use Rattle.ioc_set.specs.Sound.{IsSound, CountsAddUp}
 use Rattle.ioc_set_store.proofs.Entries.{none_some}
 
@@ -55,7 +55,7 @@ module _ {R : Type 0} (k : RecordRules R) where
     shut live waiting = record { closed = λ n target named. linked_there (get rs target) (leads n target (get rs n) refl named) }
 
     pub calm_sound : ((w : World R) → IsClosed k w → len w.records < 2 ^ 63 → w.live ≡ [] → w.waiting ≡ [] → ((n : ℕ) → Has w n → (common_at k w n).notification ≡ None) → IsCounted k w)
-        → AreCalm k rs → len rs < 2 ^ 63 → {D : Type 0} (ds : Devices D) (counts : Tally) → CountsAddUp counts (awaited k rs) → IsSound k (anew rs ds [] [] counts)
+        → AreCalm k rs → len rs < 2 ^ 63 → {D : Type 0} (ds : Devices D) (counts : Tally) → CountsAddUp counts (awaited k rs) → IsSound k (with_empty_history rs ds [] [] counts)
     unfolding at
     calm_sound first calm few ds counts add_up = record {
       part = part;

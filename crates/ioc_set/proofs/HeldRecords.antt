@@ -28,7 +28,7 @@ use Rattle.ioc_events.specs.Holding.{IsCounted, IsHeld, by_a_record, in_a_waitin
 use Rattle.ioc_set.specs.Awaiting.{awaited}
 use Rattle.ioc_set.specs.SetState.{SetState, NoneIsLive, now_of}
 use Rattle.ioc_set_store.specs.Resting.{resting}
-use Rattle.ioc_set.specs.Linking.{anew, AreHeld, MayBeOne}
+use Rattle.ioc_set.specs.Linking.{with_empty_history, AreHeld, MayBeOne}
 use Rattle.ioc_set_store.specs.Recounting.{own_waiting, together, AreLive, WaitsGoAlong}
 use Rattle.ioc_set.specs.Sound.{IsSound, CountsAddUp}
 use Rattle.ioc_set.proofs.Calm.{none_in, get-insert, shut}
@@ -71,7 +71,7 @@ module _ {R : Type 0} (k : RecordRules R) where
   -- Lemmas about a set of records that are held.
 
   pub held_sound : targets k k.missing ≡ [] → (rs : Records R) → IsPart (links_of k rs) → (live : List Live) (waiting : List Waiting) → AreHeld k rs live waiting → len rs < 2 ^ 63
-      → {D : Type 0} (ds : Devices D) (counts : Tally) → CountsAddUp counts (awaited k rs) → IsSound k (anew rs ds live waiting counts)
+      → {D : Type 0} (ds : Devices D) (counts : Tally) → CountsAddUp counts (awaited k rs) → IsSound k (with_empty_history rs ds live waiting counts)
   unfolding at is_ready
   held_sound missing rs part live waiting held few ds counts add_up = record {
     part = part;

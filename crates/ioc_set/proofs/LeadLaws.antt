@@ -17,7 +17,7 @@ use Rattle.ioc_store.specs.World.{World, at, begun_at}
 use Rattle.ioc_store.specs.Scanning.{device_of, rewired}
 use Rattle.ioc_set.specs.SetState.{SetState, NoneIsLive, now_of, folded}
 use Rattle.ioc_set.specs.Doing.{with_kept}
-use Rattle.ioc_set.specs.Linking.{anew, FallsApart, MayBeOne, BecomeOne, LeadsInto}
+use Rattle.ioc_set.specs.Linking.{with_empty_history, FallsApart, MayBeOne, BecomeOne, LeadsInto}
 use Rattle.ioc_set.specs.Sound.{IsSound}
 use Rattle.ioc_set_store.specs.Recounting.{AreLive}
 use Rattle.ioc_set.proofs.Joining.{stay_may}
@@ -94,7 +94,7 @@ module _ {R D : Type 0} (k : RecordRules R) (h other begun stay both rest after 
 
   pub leads : FallsApart begun (relinked k begun.records s field none) s stay rest → BecomeOne stay other (relinked k stay.records s field link) both other_then → IsSound k both
       → (before : List ℕ) → before ≡ device_of k (at k (now_of begun) s) → (come_to : World R) → with_kept after.records both.live both.waiting come_to ≡ rewired k before (begun_at moment (now_of both)) s
-      → after ≡ anew after.records both.devices both.live both.waiting both.tally → LeadsInto k h other moment s field link after other_then rest come_to
+      → after ≡ with_empty_history after.records both.devices both.live both.waiting both.tally → LeadsInto k h other moment s field link after other_then rest come_to
   leads falls joins sound before is_before come_to left held = record {
     stay = stay;
     both = both;
@@ -102,7 +102,7 @@ module _ {R D : Type 0} (k : RecordRules R) (h other begun stay both rest after 
     joins = joins;
     sound = sound;
     sent = left ∙ ap (λ (d : List ℕ). rewired k d (begun_at moment (now_of both)) s) (device_before before is_before);
-    then_anew = held;
+    then_empty = held;
   }
 
   -- If the set may become one with the other, so may what stays of it.

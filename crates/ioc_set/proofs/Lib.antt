@@ -11,10 +11,10 @@ mod NothingHeld
 mod HeldRecords
 mod Joining
 mod Calm
-mod Anew
+mod EmptyHistory
 mod Counts
 mod AwaitedSums
-mod BegunAnew
+mod Cleared
 mod Rescans
 mod LinkEvents
 mod Linked

@@ -22,12 +22,12 @@ use Rattle.ioc_set_store.specs.Recounting.{own_waiting}
 use Rattle.ioc_set.specs.SetState.{SetState, now_of}
 use Rattle.ioc_set_store.specs.Resting.{resting}
 use Rattle.ioc_set.specs.Doing.{held_by}
-use Rattle.ioc_set.specs.Linking.{anew, AreCalm, AreHeld, FallsApart, BecomeOne, awaited_alone}
+use Rattle.ioc_set.specs.Linking.{with_empty_history, AreCalm, AreHeld, FallsApart, BecomeOne, awaited_alone}
 use Rattle.ioc_ledger.specs.Requests.{added}
 use Rattle.ioc_ledger.specs.Shared.{less_awaited}
 use Rattle.ioc_set.specs.Sound.{IsSound, CountsAddUp}
-use Rattle.ioc_set.proofs.BegunAnew.{HasBegunAnew}
-use Rattle.ioc_set.proofs.Anew.{WereNone, none_anew, begun_anew, begun_folded, own_base}
+use Rattle.ioc_set.proofs.Cleared.{HistoryIsCleared}
+use Rattle.ioc_set.proofs.EmptyHistory.{WereNone, empty_history_without_puts, empty_history, begun_folded, own_base}
 use Rattle.ioc_set.proofs.HeldRecords.{StaysHeld, rewired-stays, part_held, goes_along, Within, within_on, within_relinked, within_first, within_second}
 use Rattle.ioc_set.proofs.DoneLaws.{alike_after}
 use Rattle.ioc_set.proofs.NothingHeld.{none_held}
@@ -90,26 +90,26 @@ module _ {R D : Type 0} (k : RecordRules R) where
 
   -- The invariant of a set with an empty history.
   module _ (sound : (rs : Records R) (ds : Devices D) (live : List Live) (waiting : List Waiting) (counts : Tally) → IsPart (links_of k rs) → AreHeld k rs live waiting → len rs < 2 ^ 63 → CountsAddUp counts (awaited k rs)
-      → IsSound k (anew rs ds live waiting counts)) where
-    pub anew_holds : (c : Contents R D) (p : Puts) (b t : Tally) (entries : List Entry) → HasBegun p → c.base ≡ c.records → b ≡ t → entries ≡ [] → IsPart (links_of k c.records) → AreHeld k c.records p.live p.waiting
+      → IsSound k (with_empty_history rs ds live waiting counts)) where
+    pub empty_history_is_sound : (c : Contents R D) (p : Puts) (b t : Tally) (entries : List Entry) → HasBegun p → c.base ≡ c.records → b ≡ t → entries ≡ [] → IsPart (links_of k c.records) → AreHeld k c.records p.live p.waiting
         → len c.records < 2 ^ 63 → CountsAddUp t (awaited k c.records) → IsSound k (held_by c p b t entries) × RecordsAreLikeTheirBase k c
-    anew_holds c p b t entries begun base same none part held few add_up = (
-      subst (λ (h : SetState R D). IsSound k h) (sym (begun_anew c p b t entries begun base same none)) (sound c.records c.devices p.live p.waiting t part held few add_up),
+    empty_history_is_sound c p b t entries begun base same none part held few add_up = (
+      subst (λ (h : SetState R D). IsSound k h) (sym (empty_history c p b t entries begun base same none)) (sound c.records c.devices p.live p.waiting t part held few add_up),
       own_base k c base,
     )
 
-  pub calm_holds : ((rs : Records R) (ds : Devices D) (counts : Tally) → IsPart (links_of k rs) → AreCalm k rs → len rs < 2 ^ 63 → CountsAddUp counts (awaited k rs) → IsSound k (anew rs ds [] [] counts))
+  pub calm_holds : ((rs : Records R) (ds : Devices D) (counts : Tally) → IsPart (links_of k rs) → AreCalm k rs → len rs < 2 ^ 63 → CountsAddUp counts (awaited k rs) → IsSound k (with_empty_history rs ds [] [] counts))
       → (c : Contents R D) (p : Puts) (b t : Tally) (entries : List Entry) → WereNone p → c.base ≡ c.records → b ≡ t → entries ≡ [] → IsPart (links_of k c.records) → AreCalm k c.records → len c.records < 2 ^ 63 → CountsAddUp t (awaited k c.records)
       → IsSound k (held_by c p b t entries) × RecordsAreLikeTheirBase k c
   calm_holds sound c p b t entries puts base same none part calm few add_up = (
-    subst (λ (h : SetState R D). IsSound k h) (sym (none_anew c p b t entries puts base same none)) (sound c.records c.devices t part calm few add_up),
+    subst (λ (h : SetState R D). IsSound k h) (sym (empty_history_without_puts c p b t entries puts base same none)) (sound c.records c.devices t part calm few add_up),
     own_base k c base,
   )
 
   -- Lemmas about a set that is divided, and about two that become one.
 
   pub fell_apart : (s : ℕ) (field : FieldNo) (link : LinkField) (h : SetState R D) (was stay rest : Contents R D) (whole p q : Puts) (count : ℕ) (all b t u v : Tally) (entries rest_entries : List Entry)
-      → HasBegunAnew k h was whole all → t ≡ less_awaited h.tally count
+      → HistoryIsCleared k h was whole all → t ≡ less_awaited h.tally count
       → AreShared (get (relinked k was.records s field link)) (get stay.records) (get rest.records) → AreShared (get was.devices) (get stay.devices) (get rest.devices) → IsSome (get stay.records s)
       → p.waiting ≡ own_waiting stay.records whole.waiting → q.waiting ≡ own_waiting rest.records whole.waiting → (AreNone whole → AreNone p) → (AreNone whole → AreNone q)
       → HasBegun p → stay.base ≡ stay.records → b ≡ t → entries ≡ [] → HasBegun q → rest.base ≡ rest.records → u ≡ v → v ≡ awaited_alone count → rest_entries ≡ []
@@ -125,17 +125,17 @@ module _ {R D : Type 0} (k : RecordRules R) where
         rest_waiting = goes_along rest.records h.waiting q.waiting (rest_waits ∙ ap (λ (l : List Waiting). own_waiting rest.records l) cleared.waiting);
         none_live = λ dead. let nobody : AreNone whole = (cleared.live ∙ dead.0, cleared.waiting ∙ dead.1) in (stay_none nobody, rest_none nobody);
         stays =
-            begun_anew stay p b t entries begun base same none
-            ∙ ap (λ (x : Tally). anew stay.records stay.devices p.live p.waiting x) (counts ∙ ap (λ (n : ℕ). less_awaited h.tally n) (sym started));
+            empty_history stay p b t entries begun base same none
+            ∙ ap (λ (x : Tally). with_empty_history stay.records stay.devices p.live p.waiting x) (counts ∙ ap (λ (n : ℕ). less_awaited h.tally n) (sym started));
         leaves =
-            begun_anew rest q u v rest_entries rest_begun rest_base rest_same rest_forgotten
-            ∙ ap (λ (x : Tally). anew rest.records rest.devices q.live q.waiting x) (alone ∙ ap awaited_alone (sym started));
+            empty_history rest q u v rest_entries rest_begun rest_base rest_same rest_forgotten
+            ∙ ap (λ (x : Tally). with_empty_history rest.records rest.devices q.live q.waiting x) (alone ∙ ap awaited_alone (sym started));
         few = subst (λ (n : ℕ). n < 2 ^ 63) (sym started) few;
         together = ap (λ (x : Tally). added x v) counts ∙ ap (λ (x : Tally). added (less_awaited h.tally count) x) alone ∙ together;
       }
 
   pub became_one : (s : ℕ) (field : FieldNo) (link : LinkField) (h o : SetState R D) (was others both left : Contents R D) (one two p q : Puts) (t u sum : Tally) (none : Tally) (entries other_entries : List Entry)
-      → HasBegunAnew k h was one t → HasBegunAnew k o others two u
+      → HistoryIsCleared k h was one t → HistoryIsCleared k o others two u
       → AreShared (get both.records) (get (relinked k was.records s field link)) (get others.records) → AreShared (get both.devices) (get was.devices) (get others.devices)
       → p.waiting ≡ one.waiting ++ two.waiting → (AreNone one → AreNone two → AreNone p)
       → HasBegun p → both.base ≡ both.records → sum ≡ added t u → entries ≡ [] → left ≡ nothing → WereNone q → none ≡ no_counts → other_entries ≡ []
@@ -150,8 +150,8 @@ module _ {R D : Type 0} (k : RecordRules R) where
     waiting = waiting ∙ ap (λ (l : List Waiting). l ++ two.waiting) first.waiting ∙ ap (λ (l : List Waiting). h.waiting ++ l) second.waiting;
     none_live = λ dead other_dead. nobody (first.live ∙ dead.0, first.waiting ∙ dead.1) (second.live ∙ other_dead.0, second.waiting ∙ other_dead.1);
     all =
-        begun_anew both p sum sum entries begun base refl forgotten
-        ∙ ap (λ (x : Tally). anew both.records both.devices p.live p.waiting x) (is_sum ∙ ap (λ (x : Tally). added x u) first.tally ∙ ap (λ (x : Tally). added h.tally x) second.tally);
+        empty_history both p sum sum entries begun base refl forgotten
+        ∙ ap (λ (x : Tally). with_empty_history both.records both.devices p.live p.waiting x) (is_sum ∙ ap (λ (x : Tally). added x u) first.tally ∙ ap (λ (x : Tally). added h.tally x) second.tally);
     emptied = none_held left q none none other_entries empty others_none zero zero other_forgotten;
   }
 

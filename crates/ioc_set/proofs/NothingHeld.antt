@@ -20,7 +20,7 @@ use Rattle.ioc_set.specs.SetState.{SetState, nothing_held}
 use Rattle.ioc_set_store.specs.Resting.{resting}
 use Rattle.ioc_set.specs.Sound.{IsSound, CountsAddUp}
 use Rattle.ioc_set.specs.Doing.{held_by}
-use Rattle.ioc_set.proofs.Anew.{WereNone}
+use Rattle.ioc_set.proofs.EmptyHistory.{WereNone}
 
 none_in : {A : Type 0} (x : A) → Contains [] x → ⊥
 none_in x c = let l = c.1 in omega arith
@@ -107,8 +107,8 @@ module _ {R D : Type 0} (k : RecordRules R) (missing : targets k k.missing ≡ [
     short = omega arith;
   }
 
-  pub sound_anew : (c : Contents R D) (p : Puts) (b t : Tally) (entries : List Entry) → c ≡ nothing → WereNone p → b ≡ t → entries ≡ [] → CountsAddUp t 0 → IsSound k (held_by c p b t entries)
-  sound_anew c p b t entries none puts same forgotten counts =
+  pub nothing_is_sound : (c : Contents R D) (p : Puts) (b t : Tally) (entries : List Entry) → c ≡ nothing → WereNone p → b ≡ t → entries ≡ [] → CountsAddUp t 0 → IsSound k (held_by c p b t entries)
+  nothing_is_sound c p b t entries none puts same forgotten counts =
       let is : held_by c p b t entries ≡ held_by {R = R} {D = D} nothing no_puts t t [] = λ i. record {
         records = (none i).records;
         devices = (none i).devices;
@@ -120,5 +120,5 @@ module _ {R D : Type 0} (k : RecordRules R) (missing : targets k k.missing ≡ [
       } in
       subst (λ (h : SetState R D). IsSound k h) (sym is) (sound t counts)
 
-  pub like_anew : (c : Contents R D) → c ≡ nothing → RecordsAreLikeTheirBase k c
-  like_anew c none = subst (λ (m : Contents R D). RecordsAreLikeTheirBase k m) (sym none) (λ q there. absurd (nowhere R q there))
+  pub nothing_is_like_its_base : (c : Contents R D) → c ≡ nothing → RecordsAreLikeTheirBase k c
+  nothing_is_like_its_base c none = subst (λ (m : Contents R D). RecordsAreLikeTheirBase k m) (sym none) (λ q there. absurd (nowhere R q there))

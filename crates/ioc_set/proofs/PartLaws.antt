@@ -16,7 +16,7 @@ use Rattle.ioc_store.specs.Scanning.{device_of, rewired}
 use Rattle.ioc_set.specs.SetState.{SetState, now_of}
 use Rattle.ioc_set_store.specs.Resting.{resting}
 use Rattle.ioc_set.specs.Doing.{with_kept}
-use Rattle.ioc_set.specs.Linking.{anew, FallsApart, link_change_of}
+use Rattle.ioc_set.specs.Linking.{with_empty_history, FallsApart, link_change_of}
 use Rattle.ioc_ledger.specs.Requests.{added}
 use Rattle.ioc_set.proofs.Linked.{has_begun, was_begun}
 use Rattle.ioc_set.proofs.Rescans.{rewired-keeps, own_record, rescanned_left, rescanned_shared}
@@ -40,7 +40,7 @@ module _ {R D : Type 0} (k : RecordRules R) (h : SetState R D) (moment s : ℕ) 
   changes = refl
 
   module _ (lawful : IsLawful k) (stay rest after : SetState R D) (falls : FallsApart h linked s stay rest) (before : List ℕ) (is_before : before ≡ device) (come_to : World R)
-      (left : with_kept after.records stay.live stay.waiting come_to ≡ rewired k before (begun_at moment (now_of stay)) s) (held : after ≡ anew after.records stay.devices stay.live stay.waiting stay.tally) where
+      (left : with_kept after.records stay.live stay.waiting come_to ≡ rewired k before (begun_at moment (now_of stay)) s) (held : after ≡ with_empty_history after.records stay.devices stay.live stay.waiting stay.tally) where
     sends : with_kept after.records stay.live stay.waiting come_to ≡ rewired k device (begun_at moment (now_of stay)) s
     sends = left ∙ ap (λ (d : List ℕ). rewired k d (begun_at moment (now_of stay)) s) is_before
 
@@ -79,10 +79,10 @@ module _ {R D : Type 0} (k : RecordRules R) (h : SetState R D) (moment s : ℕ) 
       rest_waiting = falls.rest_waiting;
       none_live = λ none. let both = falls.none_live none in ((ap (λ (x : SetState R D). x.live) held ∙ both.0.0, waiting_then ∙ both.0.1), both.1);
       stays =
-          held ∙ ap (λ (x : Devices D). anew after.records x stay.live stay.waiting stay.tally) (sym devices_then)
-          ∙ ap (λ (l : List Live). anew after.records after.devices l stay.waiting stay.tally) (sym (ap (λ (x : SetState R D). x.live) held))
-          ∙ ap (λ (l : List Waiting). anew after.records after.devices after.live l stay.tally) (sym waiting_then)
-          ∙ ap (λ (x : SetState R D). anew after.records after.devices after.live after.waiting x.tally) falls.stays;
+          held ∙ ap (λ (x : Devices D). with_empty_history after.records x stay.live stay.waiting stay.tally) (sym devices_then)
+          ∙ ap (λ (l : List Live). with_empty_history after.records after.devices l stay.waiting stay.tally) (sym (ap (λ (x : SetState R D). x.live) held))
+          ∙ ap (λ (l : List Waiting). with_empty_history after.records after.devices after.live l stay.tally) (sym waiting_then)
+          ∙ ap (λ (x : SetState R D). with_empty_history after.records after.devices after.live after.waiting x.tally) falls.stays;
       leaves = falls.leaves;
       few = falls.few;
       together = ap (λ (x : SetState R D). added x.tally rest.tally) held ∙ falls.together;

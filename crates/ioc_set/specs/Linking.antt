@@ -27,8 +27,8 @@ use Rattle.ioc_set.specs.Sound.{IsSound}
 
 -- The set with these records, devices, puts with notification and counts, and with an empty
 -- history.
-abbrev pub anew : {R D : Type 0} → Records R → Devices D → List Live → List Waiting → Tally → SetState R D
-anew rs ds live waiting counts = record {
+abbrev pub with_empty_history : {R D : Type 0} → Records R → Devices D → List Live → List Waiting → Tally → SetState R D
+with_empty_history rs ds live waiting counts = record {
   records = rs;
   devices = ds;
   live = live;
@@ -81,8 +81,8 @@ module _ {R D : Type 0} where
     pub waiting : WaitsGoAlong before.waiting stay.records stay.waiting
     pub rest_waiting : WaitsGoAlong before.waiting rest.records rest.waiting
     pub none_live : NoneIsLive before → NoneIsLive stay × NoneIsLive rest
-    pub stays : stay ≡ anew stay.records stay.devices stay.live stay.waiting (less_awaited before.tally rest.tally.started)
-    pub leaves : rest ≡ anew rest.records rest.devices rest.live rest.waiting (awaited_alone rest.tally.started)
+    pub stays : stay ≡ with_empty_history stay.records stay.devices stay.live stay.waiting (less_awaited before.tally rest.tally.started)
+    pub leaves : rest ≡ with_empty_history rest.records rest.devices rest.live rest.waiting (awaited_alone rest.tally.started)
     pub few : rest.tally.started < 2 ^ 63
     pub together : added stay.tally rest.tally ≡ before.tally
 
@@ -103,7 +103,7 @@ module _ {R D : Type 0} where
     pub devices : AreShared (get both.devices) (get before.devices) (get other.devices)
     pub waiting : both.waiting ≡ before.waiting ++ other.waiting
     pub none_live : NoneIsLive before → NoneIsLive other → NoneIsLive both
-    pub all : both ≡ anew both.records both.devices both.live both.waiting (added before.tally other.tally)
+    pub all : both ≡ with_empty_history both.records both.devices both.live both.waiting (added before.tally other.tally)
     pub emptied : other_then ≡ nothing_held
 
   -- A link of a record is changed to lead from one set into another. With an empty link in its
@@ -117,4 +117,4 @@ module _ {R D : Type 0} where
     pub joins : BecomeOne stay other (relinked k stay.records number field link) both other_then
     pub sound : IsSound k both
     pub sent : with_kept after.records both.live both.waiting come_to ≡ rewired k (device_of k (record_at k before.records number)) (begun_at moment (now_of both)) number
-    pub then_anew : after ≡ anew after.records both.devices both.live both.waiting both.tally
+    pub then_empty : after ≡ with_empty_history after.records both.devices both.live both.waiting both.tally

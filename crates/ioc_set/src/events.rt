@@ -7,7 +7,7 @@ ghost use Rattle.ioc_set.specs.Doing.{Does, held_by, with_place};
 ghost use Rattle.ioc_events.specs.SetReply.{event_by, told_by};
 
 use crate::laws::{events_leave_sound, held_records_are_sound};
-use crate::linking::begin_anew;
+use crate::linking::clear_history;
 use crate::lock_set::LockSet;
 use crate::running::run_set_event;
 use crate::set_entry::SetEntry;
@@ -44,7 +44,7 @@ fn make_place<K: RecordKind, D>(
 {
     history.reserve(1)?;
     if history.len() == 64 {
-        begin_anew(members, puts, tally, base_tally, history);
+        clear_history(members, puts, tally, base_tally, history);
     }
     Ok(())
 }

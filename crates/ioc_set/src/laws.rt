@@ -26,7 +26,7 @@ ghost use Rattle.ioc_events.specs.declared.event.Entry.{Entry};
 ghost use Rattle.ioc_set.specs.Awaiting.{awaited};
 ghost use Rattle.ioc_set.specs.SetState.{SetState, NoneIsLive, now_of, folded, held_after};
 ghost use Rattle.ioc_set.specs.Doing.{is_ordinary, Does};
-ghost use Rattle.ioc_set.specs.Linking.{anew, AreCalm, AreHeld, MayBeOne};
+ghost use Rattle.ioc_set.specs.Linking.{with_empty_history, AreCalm, AreHeld, MayBeOne};
 ghost use Rattle.ioc_set_store.specs.Recounting.{AreLive};
 ghost use Rattle.ioc_set.specs.Sound.{CountsAddUp, IsSound, TellsOf};
 ghost use Rattle.ioc_set_store.specs.Puts.{is_put_with_notification};
@@ -96,7 +96,7 @@ pub fn notifications_begin_by_notify<K: RecordKind>()
 pub fn calm_records_are_sound<K: RecordKind, D>()
     ensures calm { (h : SetState K D) → IsSound K.rules h → h.live ≡ [] → AreCalm K.rules h.records }
     ensures sound { (rs : Records K) (ds : Devices D) (counts : Tally) → IsPart (links_of K.rules rs) → AreCalm K.rules rs → len rs < 2 ^ 63 →
-        CountsAddUp counts (awaited K.rules rs) → IsSound K.rules (anew rs ds [] [] counts) }
+        CountsAddUp counts (awaited K.rules rs) → IsSound K.rules (with_empty_history rs ds [] [] counts) }
 {
     events_count_holders::<K>();
 }
@@ -111,7 +111,7 @@ pub fn held_records_are_sound<K: RecordKind, D>()
     ensures holder { (h : SetState K D) (n : ℕ) → IsSound K.rules h → is_live n h.live ≡ true → IsHeld K.rules (now_of h) n }
     ensures fewer { (h : SetState K D) → IsSound K.rules h → length h.waiting ≤ length h.live }
     ensures sound { (rs : Records K) (ds : Devices D) (live : List Live) (waiting : List Waiting) (counts : Tally) → IsPart (links_of K.rules rs) →
-        AreHeld K.rules rs live waiting → len rs < 2 ^ 63 → CountsAddUp counts (awaited K.rules rs) → IsSound K.rules (anew rs ds live waiting counts) }
+        AreHeld K.rules rs live waiting → len rs < 2 ^ 63 → CountsAddUp counts (awaited K.rules rs) → IsSound K.rules (with_empty_history rs ds live waiting counts) }
     ensures may_be_one { (h other : SetState K D) → NoneIsLive h → NoneIsLive other → MayBeOne h other }
 {
     events_count_holders::<K>();

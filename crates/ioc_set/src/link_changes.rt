@@ -6,13 +6,13 @@ ghost use Rattle.ioc_store.specs.Scanning.{rewired};
 ghost use Rattle.ioc_store.specs.World.{Has, begun_at};
 ghost use Rattle.ioc_set_records.specs.Joined.{HasLink, HasFreeLink, relinked};
 ghost use Rattle.ioc_set.specs.SetState.{NoneIsLive, now_of, folded};
-ghost use Rattle.ioc_set.specs.Linking.{anew, FallsApart, MayBeOne, BecomeOne, LeadsInto, link_change_of};
+ghost use Rattle.ioc_set.specs.Linking.{with_empty_history, FallsApart, MayBeOne, BecomeOne, LeadsInto, link_change_of};
 ghost use Rattle.ioc_set_store.specs.SetStore.{world_of};
 ghost use Rattle.ioc_set.specs.Doing.{with_kept};
 
 use crate::awaited::take_awaited;
 use crate::laws::held_records_are_sound;
-use crate::linking::{add_counts, begin_anew, rescan_on};
+use crate::linking::{add_counts, clear_history, rescan_on};
 use crate::lock_set::LockSet;
 use ioc_dbcommon::LinkBox;
 use ioc_device::Device;
@@ -135,12 +135,12 @@ impl<K: RecordKind + Drop, D: Device> LockSet<K, D> {
         requires there { Has (now_of self.old) number }
         ensures left { with_kept self.new.records self.old.live self.old.waiting (world_of place.new.store)
             ≡ rewired K.rules before (begun_at moment (now_of self.old)) number }
-        ensures held { self.new ≡ anew self.new.records self.old.devices self.old.live self.old.waiting self.old.tally }
+        ensures held { self.new ≡ with_empty_history self.new.records self.old.devices self.old.live self.old.waiting self.old.tally }
     {
         held_records_are_sound::<K, D>();
         self.puts.are_few();
         rescan_on(place, &mut self.members, moment, number, before);
-        begin_anew(
+        clear_history(
             &mut self.members,
             &mut self.puts,
             &self.tally,

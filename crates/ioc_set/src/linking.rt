@@ -25,7 +25,7 @@ use std::mem;
 /// Clears the history of a set, so that each record equals its base and the puts with notification
 /// are those before the history. It is not inlined, since it is done once in 64 events.
 #[inline(never)]
-pub fn begin_anew<K: RecordKind, D>(
+pub fn clear_history<K: RecordKind, D>(
     members: &mut Members<K, D>,
     puts: &mut LivePuts,
     tally: &Tally,

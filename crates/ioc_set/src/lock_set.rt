@@ -17,12 +17,12 @@ ghost use Rattle.ioc_set_records.specs.Contents.{RecordsAreLikeTheirBase};
 ghost use Rattle.ioc_set_records.specs.Joined.{links_of, IsPart, HasLink};
 ghost use Rattle.ioc_set.specs.SetState.{NoneIsLive, now_of, nothing_held, folded};
 ghost use Rattle.ioc_set_store.specs.Resting.{resting};
-ghost use Rattle.ioc_set.specs.Linking.{anew, AreCalm, NoneAwaits};
+ghost use Rattle.ioc_set.specs.Linking.{with_empty_history, AreCalm, NoneAwaits};
 ghost use Rattle.ioc_set.specs.Sound.{IsSound};
 ghost use Rattle.ioc_set.specs.Doing.{held_by};
 
 use crate::laws::{calm_records_are_sound, held_records_are_sound};
-use crate::linking::begin_anew;
+use crate::linking::clear_history;
 use crate::no_calls::{why_not_put, why_not_shown};
 use crate::set_entry::SetEntry;
 use ioc_dbcommon::LinkBox;
@@ -254,7 +254,7 @@ impl<K: RecordKind, D> LockSet<K, D> {
         requires part { IsPart (links_of K.rules members.records) }
         requires calm { AreCalm K.rules members.records }
         requires idle { NoneAwaits K.rules members.records }
-        ensures { result ≡ anew members.records members.devices [] [] no_counts }
+        ensures { result ≡ with_empty_history members.records members.devices [] [] no_counts }
     {
         calm_records_are_sound::<K, D>();
         members.are_few();
@@ -329,7 +329,7 @@ impl<K: RecordKind, D> LockSet<K, D> {
     {
         held_records_are_sound::<K, D>();
         self.puts.are_few();
-        begin_anew(
+        clear_history(
             &mut self.members,
             &mut self.puts,
             &self.tally,

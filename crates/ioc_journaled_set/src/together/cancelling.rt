@@ -16,7 +16,7 @@ use std::alloc::{AllocError, Global};
 use std::sync::Wait;
 
 // Cancels a put with notification on a set. If allocation fails, tries again until it succeeds.
-fn cancel_at_last<K: RecordKind + Drop, D: Device, R: Wait>(
+fn cancel_retrying<K: RecordKind + Drop, D: Device, R: Wait>(
     rt: &R,
     alloc: Global,
     buffers: &mut EventBuffers<K, D>,
@@ -65,7 +65,7 @@ pub fn cancel_all<K: RecordKind + Drop, D: Device, R: Wait>(
     first.is_sound();
     first.cancel(buffers, alloc, number, moment)?;
     for i in 1..sets.len() {
-        cancel_at_last(rt, alloc, buffers, &mut sets[i], number, moment);
+        cancel_retrying(rt, alloc, buffers, &mut sets[i], number, moment);
     }
     Ok(())
 }

@@ -4,7 +4,7 @@ use Rattle.ioc_record.specs.RecordRules.{RecordRules}
 use Rattle.ioc_record.specs.Laws.{IsLawful}
 use Rattle.ioc_store.specs.World.{World, Has, at, put, changed, Keeps}
 use Rattle.ioc_store.specs.Marks.{resumed}
-use Rattle.ioc_process.specs.Processing.{Ran, went_on_at_last}
+use Rattle.ioc_process.specs.Processing.{Ran, resumed_with}
 use Rattle.ioc_ledger.specs.Requests.{counted}
 use Rattle.ioc_process.specs.Frames.{turn_of}
 use Rattle.ioc_process.specs.Answering.{begins_on, accords_before}
@@ -32,8 +32,8 @@ module _ {R : Type 0} (k : RecordRules R) (lawful : IsLawful k) (w : World R) (s
   both-keep : Has w s → Keeps k w taken
   both-keep there = keeps_on k (resumed-keeps k lawful w s there) (taken-keeps there)
 
-pub take_at_last-requires : goal.take_at_last-requires
-take_at_last-requires g c =
+pub take_completion-requires : goal.take_completion-requires
+take_completion-requires g c =
     rw c.resume.ensures.world ((resumed-keeps _ g.met.S.Record.RecordKind.lawful _ c.args.number c.requires.there).has _ c.requires.there)
 
 pub put_out-next-requires : goal.put_out-next-requires
@@ -43,8 +43,8 @@ put_out-next-requires g c =
     let w = g.S.Store.world c.args.store.now in
     let s = c.args.number in
     let x = c.args.finished in
-    let is = rw c.resume.ensures.world at c.take_at_last.ensures.world in
-    let output = rw c.resume.ensures.world at c.take_at_last.ensures.output in
+    let is = rw c.resume.ensures.world at c.take_completion.ensures.world in
+    let output = rw c.resume.ensures.world at c.take_completion.ensures.output in
     let keeps = both-keep k lawful w s x c.requires.there in
     let idle = resumed-idle k lawful w s x in
     let closed = closed_on k lawful (resumed-keeps k lawful w s c.requires.there) c.requires.closed in
@@ -61,7 +61,7 @@ put_out-next-requires g c =
 pub run_frames-requires-clause-closed : goal.run_frames-requires-clause-closed
 run_frames-requires-clause-closed g c =
     let lawful = g.met.S.Record.RecordKind.lawful in
-    let came = rw (c.take_at_last.ensures.world, c.resume.ensures.world) at c.put_out-next.ensures.takes.turns in
+    let came = rw (c.take_completion.ensures.world, c.resume.ensures.world) at c.put_out-next.ensures.takes.turns in
     closed_on _ lawful came.keeps (closed_on _ lawful (both-keep _ lawful _ c.args.number c.args.finished c.requires.there) c.requires.closed)
 
 pub run_frames-requires-clause-room : goal.run_frames-requires-clause-room
@@ -69,7 +69,7 @@ run_frames-requires-clause-room g c =
     let k = g.S.Record.RecordKind.rules in
     let lawful = g.met.S.Record.RecordKind.lawful in
     let w = g.S.Store.world c.args.store.now in
-    let came = rw (c.take_at_last.ensures.world, c.resume.ensures.world) at c.put_out-next.ensures.takes.turns in
+    let came = rw (c.take_completion.ensures.world, c.resume.ensures.world) at c.put_out-next.ensures.takes.turns in
     let turn = turn_of c.put_out-next.new.frames.items c.put_out-next.result in
     omega (
       arith,
@@ -85,10 +85,10 @@ run_frames-requires-clause-room g c =
     )
 
 pub returns-clause-done : goal.returns-clause-done
-unfolding went_on_at_last
+unfolding resumed_with
 returns-clause-done g c = λ answers begins.
     let run = c.run_frames.ensures.done answers begins in
-    let turn = rw (c.take_at_last.ensures.output, c.take_at_last.ensures.world, c.resume.ensures.world) at (c.put_out-next.ensures.turn answers (accords_before c.run_frames.ensures.given begins)) in
+    let turn = rw (c.take_completion.ensures.output, c.take_completion.ensures.world, c.resume.ensures.world) at (c.put_out-next.ensures.turn answers (accords_before c.run_frames.ensures.given begins)) in
     record {
       world = run.world ∙ ap (λ (r : Ran _). r.world) (sym turn);
       outcome = refl;
@@ -97,10 +97,10 @@ returns-clause-done g c = λ answers begins.
 
 pub returns-clause-given : goal.returns-clause-given
 returns-clause-given g c =
-    rw (c.take_at_last.ensures.given, c.resume.ensures.given) at (begins_on c.put_out-next.ensures.given c.run_frames.ensures.given)
+    rw (c.take_completion.ensures.given, c.resume.ensures.given) at (begins_on c.put_out-next.ensures.given c.run_frames.ensures.given)
 
 pub returns-clause-keeps : goal.returns-clause-keeps
 returns-clause-keeps g c =
     let k = g.S.Record.RecordKind.rules in
-    let came = rw (c.take_at_last.ensures.world, c.resume.ensures.world) at c.put_out-next.ensures.takes.turns in
+    let came = rw (c.take_completion.ensures.world, c.resume.ensures.world) at c.put_out-next.ensures.takes.turns in
     keeps_on k (both-keep k g.met.S.Record.RecordKind.lawful _ c.args.number c.args.finished c.requires.there) (keeps_on k came.keeps c.run_frames.ensures.keeps)

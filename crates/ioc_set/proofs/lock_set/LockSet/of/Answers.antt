@@ -1,5 +1,5 @@
 use Rattle.std.proofs.Common.{refl}
-use Rattle.ioc_set.proofs.Anew.{were_none}
+use Rattle.ioc_set.proofs.EmptyHistory.{were_none}
 use Rattle.ioc_set.proofs.Linked.{calm_holds}
 use Rattle.ioc_set.specs.Awaiting.{awaited}
 use Rattle.ioc_set.proofs.AwaitedSums.{awaited-none}

@@ -11,9 +11,9 @@ use Rattle.ioc_set.specs.Sound.{CountsAddUp}
 use Rattle.ioc_set.specs.SetState.{SetState}
 use Rattle.ioc_set.specs.Doing.{held_by}
 use Rattle.ioc_set.proofs.AwaitedSums.{awaited-few, awaited-parted}
-use Rattle.ioc_set.proofs.BegunAnew.{HasBegunAnew, folded_anew, folded_base}
+use Rattle.ioc_set.proofs.Cleared.{HistoryIsCleared, folded_is_cleared, folded_base}
 use Rattle.ioc_set.proofs.Counts.{rest_adds_up, stay_adds_up, parts_add_up}
-use Rattle.ioc_set.proofs.Linked.{anew_holds, stay_within, rest_within, fell_apart}
+use Rattle.ioc_set.proofs.Linked.{empty_history_is_sound, stay_within, rest_within, fell_apart}
 use Rattle.ioc_set.proofs.HeldRecords.{Within, sound_fewer, part_live, part_held, of-before}
 use Rattle.ioc_set.proofs.lock_set.LockSet.split.Given.{Over}
 use Rattle.ioc_set.proofs.lock_set.LockSet.split.Goals.{After-are_few-3}
@@ -21,11 +21,11 @@ use Rattle.ioc_set.proofs.lock_set.LockSet.split.Goals as goal
 
 -- What is known of the set once its history is cleared, and of its two parts.
 module _ (g : Over) (c : After-are_few-3 g) where
-  cleared : HasBegunAnew g.K.RecordKind.rules c.args.self.now c.self.inside.members c.self.inside.puts c.self.inside.tally
+  cleared : HistoryIsCleared g.K.RecordKind.rules c.args.self.now c.self.inside.members c.self.inside.puts c.self.inside.tally
   cleared =
       let s = c.self.inside in
       let live = c.held_records_are_sound.ensures.live (held_by s.members s.puts s.base_tally s.tally s.history.items) c.self.invariant.0 in
-      folded_anew g.K.RecordKind.rules c.args.self.now s.members s.puts s.base_tally s.tally s.history.items (c.self.view_is ∙ c.fold.ensures) c.self.invariant.0 live
+      folded_is_cleared g.K.RecordKind.rules c.args.self.now s.members s.puts s.base_tally s.tally s.history.items (c.self.view_is ∙ c.fold.ensures) c.self.invariant.0 live
 
   few_wait : length c.self.inside.puts.waiting ≤ 256
   few_wait =
@@ -83,7 +83,7 @@ invariant_of-result g c =
     let rest = c.in_ok-rest.rest in
     let puts = c.self.inside.puts in
     let own = c.own_puts-rest_puts in
-    anew_holds k c.held_records_are_sound.ensures.sound rest own.result c.take_awaited-rest_tally.result c.take_awaited-rest_tally.result c.new.result.items
+    empty_history_is_sound k c.held_records_are_sound.ensures.sound rest own.result c.take_awaited-rest_tally.result c.take_awaited-rest_tally.result c.new.result.items
     own.ensures.begun c.in_ok-rest.ensures.rest_base refl c.new.ensures.items c.in_ok-rest.ensures.rest
     (part_held k c.self.inside.members.records rest.records puts.live own.result.live puts.waiting own.result.waiting (leaves g at) (cleared g at).held
     (of-before rest.records puts.waiting own.result.waiting own.ensures.waiting) own.ensures.counted)
@@ -97,7 +97,7 @@ invariant_of-self-2 g c =
     let stay = c.part.new.self in
     let puts = c.self.inside.puts in
     let own = c.own_puts-stay_puts in
-    anew_holds k c.held_records_are_sound.ensures.sound stay own.result c.take_awaited-rest_tally.new.tally c.take_awaited-rest_tally.new.tally c.self.inside.history.items
+    empty_history_is_sound k c.held_records_are_sound.ensures.sound stay own.result c.take_awaited-rest_tally.new.tally c.take_awaited-rest_tally.new.tally c.self.inside.history.items
     own.ensures.begun c.in_ok-rest.ensures.base refl (ap (λ (h : SetState g.row.K.Denot g.row.D.Denot). h.history) (c.self.view_is ∙ c.fold.ensures)) c.in_ok-rest.ensures.stay
     (part_held k c.self.inside.members.records stay.records puts.live own.result.live puts.waiting own.result.waiting (stays g at) (cleared g at).held
     (of-before stay.records puts.waiting own.result.waiting own.ensures.waiting) own.ensures.counted)

@@ -9,12 +9,12 @@ use Rattle.ioc_set.specs.SetState.{SetState}
 use Rattle.ioc_set.specs.Sound.{CountsAddUp}
 use Rattle.ioc_set.specs.Doing.{held_by}
 use Rattle.ioc_set.specs.Awaiting.{awaited}
-use Rattle.ioc_set.proofs.Anew.{were_none}
-use Rattle.ioc_set.proofs.BegunAnew.{HasBegunAnew, folded_anew, folded_base}
+use Rattle.ioc_set.proofs.EmptyHistory.{were_none}
+use Rattle.ioc_set.proofs.Cleared.{HistoryIsCleared, folded_is_cleared, folded_base}
 use Rattle.ioc_set.proofs.AwaitedSums.{awaited-joined}
 use Rattle.ioc_set.proofs.Joining.{joined_live, joined_once, joined_held}
-use Rattle.ioc_set.proofs.Linked.{anew_holds, became_one}
-use Rattle.ioc_set.proofs.NothingHeld.{sound_anew, like_anew}
+use Rattle.ioc_set.proofs.Linked.{empty_history_is_sound, became_one}
+use Rattle.ioc_set.proofs.NothingHeld.{nothing_is_sound, nothing_is_like_its_base}
 use Rattle.ioc_set.proofs.Counts.{none_add_up, both_add_up}
 use Rattle.ioc_set.proofs.lock_set.LockSet.unite.Given.{Over}
 use Rattle.ioc_set.proofs.lock_set.LockSet.unite.Goals.{After-join_in}
@@ -22,17 +22,17 @@ use Rattle.ioc_set.proofs.lock_set.LockSet.unite.Goals as goal
 
 -- What is known of both sets once their histories are cleared.
 module _ (g : Over) (c : After-join_in g) where
-  first : HasBegunAnew g.K.RecordKind.rules c.args.self.now c.self.inside.members c.self.inside.puts c.self.inside.tally
+  first : HistoryIsCleared g.K.RecordKind.rules c.args.self.now c.self.inside.members c.self.inside.puts c.self.inside.tally
   first =
       let s = c.self.inside in
       let live = c.held_records_are_sound.ensures.live (held_by s.members s.puts s.base_tally s.tally s.history.items) c.self.invariant.0 in
-      folded_anew g.K.RecordKind.rules c.args.self.now s.members s.puts s.base_tally s.tally s.history.items (c.self.view_is ∙ c.fold.ensures) c.self.invariant.0 live
+      folded_is_cleared g.K.RecordKind.rules c.args.self.now s.members s.puts s.base_tally s.tally s.history.items (c.self.view_is ∙ c.fold.ensures) c.self.invariant.0 live
 
-  second : HasBegunAnew g.K.RecordKind.rules c.args.other.now c.other.inside.members c.other.inside.puts c.other.inside.tally
+  second : HistoryIsCleared g.K.RecordKind.rules c.args.other.now c.other.inside.members c.other.inside.puts c.other.inside.tally
   second =
       let s = c.other.inside in
       let live = c.held_records_are_sound.ensures.live (held_by s.members s.puts s.base_tally s.tally s.history.items) c.other.invariant.0 in
-      folded_anew g.K.RecordKind.rules c.args.other.now s.members s.puts s.base_tally s.tally s.history.items (c.other.view_is ∙ c.fold-2.ensures) c.other.invariant.0 live
+      folded_is_cleared g.K.RecordKind.rules c.args.other.now s.members s.puts s.base_tally s.tally s.history.items (c.other.view_is ∙ c.fold-2.ensures) c.other.invariant.0 live
 
   there : IsSome (get c.self.inside.members.records c.args.number)
   there = subst (λ (rs : Records g.row.K.Denot). IsSome (get rs c.args.number)) (sym first.records) (ap is_some c.requires.free.1)
@@ -71,7 +71,7 @@ invariant_of-self g c =
     let others = c.other.inside.members.records in
     let both = c.join_in.new.self.records in
     let joined = c.joined_puts-puts in
-    anew_holds k c.held_records_are_sound.ensures.sound c.join_in.new.self joined.result c.add_counts.new.tally c.add_counts.new.tally c.self.inside.history.items
+    empty_history_is_sound k c.held_records_are_sound.ensures.sound c.join_in.new.self joined.result c.add_counts.new.tally c.add_counts.new.tally c.self.inside.history.items
     joined.ensures.begun c.join_in.ensures.base refl (ap (λ (h : SetState g.row.K.Denot g.row.D.Denot). h.history) (c.self.view_is ∙ c.fold.ensures)) c.join_in.ensures.part
     (joined_held k lawful begun others both c.args.number c.args.field c.args.link (there g at) c.join_in.ensures.shared
     c.self.inside.puts.live c.other.inside.puts.live joined.result.live c.self.inside.puts.waiting c.other.inside.puts.waiting joined.result.waiting one.held two.held
@@ -86,9 +86,9 @@ invariant_of-self g c =
 pub invariant_of-other : goal.invariant_of-other
 invariant_of-other g c =
     let missing = g.met.K.RecordKind.lawful.missing_targets in (
-      sound_anew g.K.RecordKind.rules missing c.join_in.new.other c.none.result c.default-other-inside.result c.default-other-inside.result c.other.inside.history.items c.join_in.ensures.emptied
+      nothing_is_sound g.K.RecordKind.rules missing c.join_in.new.other c.none.result c.default-other-inside.result c.default-other-inside.result c.other.inside.history.items c.join_in.ensures.emptied
           (were_none c.none.result c.none.ensures) refl (ap (λ (h : SetState g.row.K.Denot g.row.D.Denot). h.history) (c.other.view_is ∙ c.fold-2.ensures)) (none_add_up c.default-other-inside.result c.default-other-inside.ensures 0 refl),
-      like_anew g.K.RecordKind.rules missing c.join_in.new.other c.join_in.ensures.emptied,
+      nothing_is_like_its_base g.K.RecordKind.rules missing c.join_in.new.other c.join_in.ensures.emptied,
     )
 
 pub returns : goal.returns

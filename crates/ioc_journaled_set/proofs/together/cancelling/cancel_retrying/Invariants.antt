@@ -1,5 +1,5 @@
 use Rattle.std.proofs.Common.{◌≡◌}
-use Rattle.ioc_journaled_set.proofs.together.cancelling.cancel_at_last.Given as goal
+use Rattle.ioc_journaled_set.proofs.together.cancelling.cancel_retrying.Given as goal
 
 abbrev pub invariant-loop : goal.invariant-loop
 invariant-loop g l = record {

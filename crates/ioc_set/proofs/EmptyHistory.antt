@@ -7,7 +7,7 @@ use Rattle.ioc_events.specs.declared.event.Entry.{Entry}
 use Rattle.ioc_set_store.specs.Puts.{Puts, no_puts, AreNone, HasBegun, begun_with}
 use Rattle.ioc_set.specs.SetState.{folded}
 use Rattle.ioc_set.specs.Doing.{held_by}
-use Rattle.ioc_set.specs.Linking.{anew}
+use Rattle.ioc_set.specs.Linking.{with_empty_history}
 
 -- No put with notification is live or waits, and none was or did before the history.
 abbrev pub WereNone : Puts → Type 0
@@ -28,8 +28,8 @@ were_none p is = (
 
 module _ {R D : Type 0} where
   -- A set on which none is live and whose history is cleared.
-  pub none_anew : (c : Contents R D) (p : Puts) (b t : Tally) (entries : List Entry) → WereNone p → c.base ≡ c.records → b ≡ t → entries ≡ [] → held_by c p b t entries ≡ anew c.records c.devices [] [] t
-  none_anew c p b t entries none base same forgotten = λ i. record {
+  pub empty_history_without_puts : (c : Contents R D) (p : Puts) (b t : Tally) (entries : List Entry) → WereNone p → c.base ≡ c.records → b ≡ t → entries ≡ [] → held_by c p b t entries ≡ with_empty_history c.records c.devices [] [] t
+  empty_history_without_puts c p b t entries none base same forgotten = λ i. record {
     records = c.records;
     devices = c.devices;
     live = none.0.0 i;
@@ -39,8 +39,8 @@ module _ {R D : Type 0} where
     history = forgotten i;
   }
 
-  pub begun_anew : (c : Contents R D) (p : Puts) (b t : Tally) (entries : List Entry) → HasBegun p → c.base ≡ c.records → b ≡ t → entries ≡ [] → held_by c p b t entries ≡ anew c.records c.devices p.live p.waiting t
-  begun_anew c p b t entries begun base same forgotten = λ i. record {
+  pub empty_history : (c : Contents R D) (p : Puts) (b t : Tally) (entries : List Entry) → HasBegun p → c.base ≡ c.records → b ≡ t → entries ≡ [] → held_by c p b t entries ≡ with_empty_history c.records c.devices p.live p.waiting t
+  empty_history c p b t entries begun base same forgotten = λ i. record {
     records = c.records;
     devices = c.devices;
     live = p.live;

@@ -15,7 +15,7 @@ use Rattle.ioc_set.proofs.HeldRecords.{sound_held}
 
 module _ {R D : Type 0} (k : RecordRules R) where
   -- The set is still what it was, and its records are still held with its puts with notification.
-  pub record HasBegunAnew (h : SetState R D) (c : Contents R D) (p : Puts) (t : Tally) : Type 0 where
+  pub record HistoryIsCleared (h : SetState R D) (c : Contents R D) (p : Puts) (t : Tally) : Type 0 where
     pub records : c.records ≡ h.records
     pub devices : c.devices ≡ h.devices
     pub live : p.live ≡ h.live
@@ -26,9 +26,9 @@ module _ {R D : Type 0} (k : RecordRules R) where
     pub counts : CountsAddUp t (awaited k c.records)
 
   -- So it is after its history is cleared, and then each record equals its base.
-  pub folded_anew : (h : SetState R D) (c : Contents R D) (p : Puts) (b t : Tally) (entries : List Entry) → held_by c p b t entries ≡ folded h
-      → IsSound k (held_by c p b t entries) → AreLive k c.records p.waiting p.live → HasBegunAnew h c p t
-  folded_anew h c p b t entries is sound live = record {
+  pub folded_is_cleared : (h : SetState R D) (c : Contents R D) (p : Puts) (b t : Tally) (entries : List Entry) → held_by c p b t entries ≡ folded h
+      → IsSound k (held_by c p b t entries) → AreLive k c.records p.waiting p.live → HistoryIsCleared h c p t
+  folded_is_cleared h c p b t entries is sound live = record {
     records = ap (λ (x : SetState R D). x.records) is;
     devices = ap (λ (x : SetState R D). x.devices) is;
     live = ap (λ (x : SetState R D). x.live) is;

@@ -1,6 +1,6 @@
 use Rattle.std.proofs.Common.{ap, ◌∙◌}
 use Rattle.ioc_store.specs.World.{put}
-use Rattle.ioc_process.proofs.steps.take_at_last.Goals as goal
+use Rattle.ioc_process.proofs.steps.take_completion.Goals as goal
 
 pub returns-clause-world : goal.returns-clause-world
 returns-clause-world g c =
