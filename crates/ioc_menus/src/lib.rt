@@ -5,6 +5,7 @@
 pub mod ivoa;
 pub mod laws;
 pub mod menu;
+mod numbers;
 pub mod omsl;
 pub mod pini;
 pub mod priority;
