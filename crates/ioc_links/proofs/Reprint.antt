@@ -10,7 +10,7 @@ use Rattle.ioc_links.specs.declared.link.Link.{Link}
 use Rattle.ioc_links.specs.declared.link.Link.TheVariants.{Database}
 use Rattle.ioc_links.specs.declared.link.LinkKind.{LinkKind}
 use Rattle.ioc_links.specs.declared.link.Mode.{Mode}
-use Rattle.ioc_links.specs.declared.link.Mode.TheVariants.{Nms, Ms, Msi, Mss}
+use Rattle.ioc_links.specs.declared.link.Mode.TheVariants.{Nms}
 use Rattle.ioc_links.specs.declared.link.Target.{Target}
 use Rattle.ioc_links.specs.declared.link.Flags.{Flags}
 use Rattle.ioc_links.specs.Classes.{in_class, all_of, back_of}
@@ -66,13 +66,8 @@ tail_of false m = 78 ∷ 80 ∷ 80 ∷ 32 ∷ mode_word m
 flags_again : (p : Bool) (m : Mode) → flags_of (words (tail_of p m)) ≡ Some (record { process_passive = p; mode = m })
 unfolding flags_of mode_of
 flags_again true Nms = refl
-flags_again true Ms = refl
-flags_again true Msi = refl
-flags_again true Mss = refl
 flags_again false Nms = refl
-flags_again false Ms = refl
-flags_again false Msi = refl
-flags_again false Mss = refl
+flags_again _ _ = refl
 
 printed_is : (name field : List ℕ) (p : Bool) (m : Mode) → printed_database (record { record_name = name; field = field }) (record { process_passive = p; mode = m }) ≡ (name ++ 46 ∷ field) ++ 32 ∷ tail_of p m
 printed_is name field true m = append_assoc (name ++ 46 ∷ field) (32 ∷ 80 ∷ 80 ∷ 32 ∷ []) (mode_word m)
@@ -86,13 +81,8 @@ aux_append (x ∷ xs) ys zs = aux_append xs ys (x ∷ zs)
 
 end_solid : (p : Bool) (m : Mode) (zs : List ℕ) → skip_front (is_blank true) (reverse_aux (32 ∷ tail_of p m) zs) ≡ reverse_aux (32 ∷ tail_of p m) zs
 end_solid true Nms zs = refl
-end_solid true Ms zs = refl
-end_solid true Msi zs = refl
-end_solid true Mss zs = refl
 end_solid false Nms zs = refl
-end_solid false Ms zs = refl
-end_solid false Msi zs = refl
-end_solid false Mss zs = refl
+end_solid _ _ _ = refl
 
 first_solid : (x : ℕ) (xs : List ℕ) → is_blank true x ≡ false → skip_front (is_blank true) (x ∷ xs) ≡ x ∷ xs
 first_solid x xs h = rw h refl
@@ -121,13 +111,8 @@ link_by kind text l s f b = rw (s, f) b
 
 tail_short : (p : Bool) (m : Mode) → length (tail_of p m) ≤ 7
 tail_short true Nms = omega arith
-tail_short true Ms = omega arith
-tail_short true Msi = omega arith
-tail_short true Mss = omega arith
 tail_short false Nms = omega arith
-tail_short false Ms = omega arith
-tail_short false Msi = omega arith
-tail_short false Mss = omega arith
+tail_short _ _ = omega arith
 
 pub database_again : (kind : LinkKind) (c : ℕ) (cs field : List ℕ) (p : Bool) (m : Mode) → is_record_name (c ∷ cs) ≡ true → is_field_name field ≡ true → c ≢ 64 → c ≢ 123
     → link_of kind (printed_database (record { record_name = c ∷ cs; field = field }) (record { process_passive = p; mode = m })) ≡ Some (Database (record { record_name = c ∷ cs; field = field }) (record { process_passive = p; mode = m }))
