@@ -61,6 +61,19 @@ pub struct ReachedLimit<N> {
     pub limit: N,
 }
 
+impl<N> ReachedLimit<N> {
+    #[inline]
+    fn new(status: Status, severity: Severity, limit: N) -> Self
+        ensures { result ≡ record { status = status; severity = severity; limit = limit } }
+    {
+        ReachedLimit {
+            status,
+            severity,
+            limit,
+        }
+    }
+}
+
 #[tactic(auto, unfolding(crate::specs::Limits::is_high, crate::specs::Limits::is_low))]
 impl<N: WholeNumber> AlarmLimits<N> {
     ghost use Rattle.ioc_alarms.specs.Limits.{is_high, is_low, first_reached};
@@ -89,32 +102,16 @@ impl<N: WholeNumber> AlarmLimits<N> {
         ensures { result ≡ first_reached N.whole value last_alarmed self.now }
     {
         if is_alarm(self.hihi_severity) && self.is_high(self.hihi, value, last_alarmed) {
-            return Some(ReachedLimit {
-                status: Status::Hihi,
-                severity: self.hihi_severity,
-                limit: self.hihi,
-            });
+            return Some(ReachedLimit::new(Status::Hihi, self.hihi_severity, self.hihi));
         }
         if is_alarm(self.lolo_severity) && self.is_low(self.lolo, value, last_alarmed) {
-            return Some(ReachedLimit {
-                status: Status::Lolo,
-                severity: self.lolo_severity,
-                limit: self.lolo,
-            });
+            return Some(ReachedLimit::new(Status::Lolo, self.lolo_severity, self.lolo));
         }
         if is_alarm(self.high_severity) && self.is_high(self.high, value, last_alarmed) {
-            return Some(ReachedLimit {
-                status: Status::High,
-                severity: self.high_severity,
-                limit: self.high,
-            });
+            return Some(ReachedLimit::new(Status::High, self.high_severity, self.high));
         }
         if is_alarm(self.low_severity) && self.is_low(self.low, value, last_alarmed) {
-            return Some(ReachedLimit {
-                status: Status::Low,
-                severity: self.low_severity,
-                limit: self.low,
-            });
+            return Some(ReachedLimit::new(Status::Low, self.low_severity, self.low));
         }
         None
     }
