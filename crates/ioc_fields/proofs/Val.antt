@@ -4,7 +4,7 @@ use Rattle.std.specs.Option.{IsSome}
 use Rattle.ioc_fields.specs.declared.field_no.FieldNo.TheVariants.{Own}
 use Rattle.ioc_fields.specs.declared.field_no.OwnField.TheVariants.{Val}
 use Rattle.ioc_fields.specs.declared.record_type.RecordType.{RecordType}
-use Rattle.ioc_fields.specs.declared.record_type.RecordType.TheVariants.{Longin, Longout, Int64in, Int64out, Bi, Bo, Mbbi, Mbbo, Stringin, Stringout, Fanout, Event}
+use Rattle.ioc_fields.specs.declared.record_type.RecordType.TheVariants.{Longin}
 use Rattle.ioc_fields.specs.Names.{own_name, field_of, IsFieldNamed}
 use Rattle.ioc_fields.specs.Table.{row_of, own_row, numeric_row, numeric_input_row, numeric_output_row, output_row, two_state_row, bi_row, bo_row, multi_state_row, mbbi_row, mbbo_row, text_row, text_input_row, stringout_row, fanout_row}
 use Rattle.ioc_fields.proofs.Fields.{field_of-exact}
@@ -12,17 +12,7 @@ use Rattle.ioc_fields.proofs.Fields.{field_of-exact}
 has_val : (type : RecordType) → IsSome (row_of type (Own Val))
 unfolding row_of own_row numeric_row numeric_input_row numeric_output_row output_row two_state_row bi_row bo_row multi_state_row mbbi_row mbbo_row text_row text_input_row stringout_row fanout_row
 has_val Longin = refl
-has_val Longout = refl
-has_val Int64in = refl
-has_val Int64out = refl
-has_val Bi = refl
-has_val Bo = refl
-has_val Mbbi = refl
-has_val Mbbo = refl
-has_val Stringin = refl
-has_val Stringout = refl
-has_val Fanout = refl
-has_val Event = refl
+has_val _ = refl
 
 val_named : (type : RecordType) → field_of type (86 ∷ 65 ∷ 76 ∷ []) ≡ Some (Own Val)
 unfolding own_name

@@ -5,7 +5,7 @@ use Rattle.std.specs.List.{slice_get, list_any}
 use Rattle.std.specs.Str.{bytes_eq}
 use Rattle.ioc_fields.specs.declared.field_no.FieldNo.{FieldNo}
 use Rattle.ioc_fields.specs.declared.record_type.RecordType.{RecordType}
-use Rattle.ioc_fields.specs.declared.record_type.RecordType.TheVariants.{Longin, Longout, Int64in, Int64out, Bi, Bo, Mbbi, Mbbo, Stringin, Stringout, Fanout, Event}
+use Rattle.ioc_fields.specs.declared.record_type.RecordType.TheVariants.{Fanout}
 use Rattle.ioc_fields.specs.Names.{common_name, own_name, link_name, name_of}
 use Rattle.ioc_fields.specs.LinkFields.{link_fields}
 
@@ -47,17 +47,7 @@ once (g ∷ gs) apart (suc m) (suc n) f at again =
 links_named_apart : (type : RecordType) → are_named_apart (link_fields type) ≡ true
 unfolding are_named_apart link_fields common_name own_name link_name
 links_named_apart Fanout = refl
-links_named_apart Longin = refl
-links_named_apart Longout = refl
-links_named_apart Int64in = refl
-links_named_apart Int64out = refl
-links_named_apart Bi = refl
-links_named_apart Bo = refl
-links_named_apart Mbbi = refl
-links_named_apart Mbbo = refl
-links_named_apart Stringin = refl
-links_named_apart Stringout = refl
-links_named_apart Event = refl
+links_named_apart _ = refl
 
 -- A link field is at one place among those of its type.
 pub link_listed_once : (type : RecordType) (m n : ℕ) (f : FieldNo) → slice_get (link_fields type) m ≡ Some f → slice_get (link_fields type) n ≡ Some f → m ≡ n

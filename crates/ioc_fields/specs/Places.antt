@@ -1,10 +1,14 @@
 -- A perfect hash of the field names: each name has a place of its own, where the field's index in
 -- the list of all fields is stored.
-use Rattle.std.specs.Prelude.{◌≡◌, ◌↔◌, ℕ, ◌*◌, ◌/◌, ◌%◌, ◌^◌, List, [], ◌∷◌, Option, Some, None, slice_get, slice_index}
+use Rattle.std.specs.Prelude.{◌≡◌, ◌↔◌, ℕ, ◌*◌, ◌/◌, ◌%◌, ◌^◌, List, [], ◌∷◌, Option, Some, None, slice_get, slice_index, refl}
 use Rattle.std.specs.Int.{w32, from_be_bytes}
 use Rattle.ioc_fields.specs.declared.field_no.FieldNo.{FieldNo}
+use Rattle.ioc_fields.specs.declared.field_no.FieldNo.TheVariants.{Common, Own}
+use Rattle.ioc_fields.specs.declared.field_no.CommonField.TheVariants.{Name}
+use Rattle.ioc_fields.specs.declared.field_no.OwnField.TheVariants.{StateValue, StateText, StateSeverity, Lnk}
+use Rattle.ioc_fields.specs.declared.field_no.Slot.TheVariants.{N0}
 use Rattle.ioc_fields.specs.declared.places.TheConstants.{FACTOR, PLACES}
-use Rattle.ioc_fields.specs.Names.{name_of, all_fields}
+use Rattle.ioc_fields.specs.Names.{common_name, own_name, link_name, state_value_name, state_text_name, state_severity_name, name_of, all_fields}
 
 -- The place to which four bytes hash.
 unfoldable pub place_of : List ℕ → ℕ
@@ -19,6 +23,16 @@ unfoldable pub candidate_of : List ℕ → Option FieldNo
 candidate_of (a ∷ b ∷ c ∷ []) = field_at (a ∷ b ∷ c ∷ 0 ∷ [])
 candidate_of (a ∷ b ∷ c ∷ d ∷ []) = field_at (a ∷ b ∷ c ∷ d ∷ [])
 candidate_of _ = None
+
+-- The name of each field hashes to that field.
+pub leads_home : (f : FieldNo) → candidate_of (name_of f) ≡ Some f
+unfolding candidate_of field_at place_of all_fields common_name own_name link_name state_value_name state_text_name state_severity_name
+leads_home (Common Name) = refl
+leads_home (Own (StateValue N0)) = refl
+leads_home (Own (StateText N0)) = refl
+leads_home (Own (StateSeverity N0)) = refl
+leads_home (Own (Lnk N0)) = refl
+leads_home _ = refl
 
 -- Holds if the answer is a field exactly if this is its name.
 abbrev pub IsNamed : List ℕ → Option FieldNo → Type 0

@@ -1,6 +1,6 @@
 //! The rows of the type-specific fields, by the groups of types that share them.
 ghost use Rattle.std.specs.Prelude.{◌≡◌};
-ghost use Rattle.ioc_fields.specs.Table.{numeric_row, numeric_input_row, numeric_output_row, output_row, two_state_row, bi_row, bo_row, multi_state_row, mbbi_row, mbbo_row, text_row, text_input_row, stringout_row, fanout_row, own_row};
+ghost use Rattle.ioc_fields.specs.Table.{numeric_row, input_row, output_row_with, numeric_output_row, state_row, two_state_row, multi_state_row, text_row, fanout_row, own_row};
 
 use crate::field_kind::{FieldKind, LinkRole};
 use crate::field_no::OwnField;
@@ -31,27 +31,28 @@ fn numeric_row(range: Range, field: OwnField) -> Option<Row>
     })
 }
 
-// Returns the row of a type-specific field of longin or int64in.
-#[tactic(auto, unfolding(crate::specs::Table::numeric_input_row))]
-fn numeric_input_row(range: Range, field: OwnField) -> Option<Row>
-    ensures { result ≡ numeric_input_row range field }
+// Returns the row of the field that the input types share: where they read.
+fn input_row(field: OwnField) -> Option<Row>
+    ensures { result ≡ input_row field }
 {
     match field {
         OwnField::Inp => Some(Row::link(LinkRole::Input)),
-        _ => numeric_row(range, field),
+        _ => None,
     }
 }
 
-// Returns the row of a field that the output types share: where they write, and when.
+// Returns the row of a field that the output types share: where they write, and when, and in IVOV,
+// which holds this kind, what they write if the alarm is INVALID.
 #[tactic(auto, unfolding(crate::specs::Table::output_row))]
-fn output_row(field: OwnField) -> Option<Row>
-    ensures { result ≡ output_row field }
+fn output_row_with(kind: FieldKind, field: OwnField) -> Option<Row>
+    ensures { result ≡ output_row_with kind field }
 {
     Some(match field {
         OwnField::Out => Row::link(LinkRole::Output),
         OwnField::Dol => Row::link(LinkRole::InputWithoutDevice),
         OwnField::Omsl => Row::plain(FieldKind::Menu(Menu::Omsl)),
         OwnField::Ivoa => Row::plain(FieldKind::Menu(Menu::Ivoa)),
+        OwnField::Ivov => Row::passive(kind),
         _ => return None,
     })
 }
@@ -61,15 +62,25 @@ fn output_row(field: OwnField) -> Option<Row>
 fn numeric_output_row(range: Range, field: OwnField) -> Option<Row>
     ensures { result ≡ numeric_output_row range field }
 {
+    let kind = FieldKind::Number(range);
     match field {
-        OwnField::Drvh | OwnField::Drvl | OwnField::Ivov => {
-            Some(Row::passive(FieldKind::Number(range)))
-        }
-        _ => match output_row(field) {
-            Some(row) => Some(row),
-            None => numeric_row(range, field),
-        },
+        OwnField::Drvh | OwnField::Drvl => Some(Row::passive(kind)),
+        _ => output_row_with(kind, field).or(numeric_row(range, field)),
     }
+}
+
+// Returns the row of a field that bi, bo, mbbi and mbbo share.
+fn state_row(field: OwnField) -> Option<Row>
+    ensures { result ≡ state_row field }
+{
+    Some(match field {
+        OwnField::Val => Row::passive(FieldKind::State),
+        OwnField::Rval => Row::plain(FieldKind::Number(Range::ULong)),
+        OwnField::Mask => Row::given(FieldKind::Number(Range::ULong)),
+        OwnField::Cosv => Row::passive(FieldKind::Menu(Menu::Severity)),
+        OwnField::Lalm => Row::fixed(FieldKind::Number(Range::UShort)),
+        _ => return None,
+    })
 }
 
 // Returns the row of a field that bi and bo share.
@@ -77,41 +88,10 @@ fn numeric_output_row(range: Range, field: OwnField) -> Option<Row>
 fn two_state_row(field: OwnField) -> Option<Row>
     ensures { result ≡ two_state_row field }
 {
-    Some(match field {
-        OwnField::Val => Row::passive(FieldKind::State),
-        OwnField::Rval => Row::plain(FieldKind::Number(Range::ULong)),
-        OwnField::Mask => Row::given(FieldKind::Number(Range::ULong)),
-        OwnField::Znam | OwnField::Onam => Row::passive(FieldKind::Text),
-        OwnField::Zsv | OwnField::Osv | OwnField::Cosv => {
-            Row::passive(FieldKind::Menu(Menu::Severity))
-        }
-        OwnField::Lalm => Row::fixed(FieldKind::Number(Range::UShort)),
-        _ => return None,
-    })
-}
-
-// Returns the row of a type-specific field of bi.
-#[tactic(auto, unfolding(crate::specs::Table::bi_row))]
-fn bi_row(field: OwnField) -> Option<Row>
-    ensures { result ≡ bi_row field }
-{
     match field {
-        OwnField::Inp => Some(Row::link(LinkRole::Input)),
-        _ => two_state_row(field),
-    }
-}
-
-// Returns the row of a type-specific field of bo.
-#[tactic(auto, unfolding(crate::specs::Table::bo_row))]
-fn bo_row(field: OwnField) -> Option<Row>
-    ensures { result ≡ bo_row field }
-{
-    match field {
-        OwnField::Ivov => Some(Row::passive(FieldKind::Number(Range::UShort))),
-        _ => match output_row(field) {
-            Some(row) => Some(row),
-            None => two_state_row(field),
-        },
+        OwnField::Znam | OwnField::Onam => Some(Row::passive(FieldKind::Text)),
+        OwnField::Zsv | OwnField::Osv => Some(Row::passive(FieldKind::Menu(Menu::Severity))),
+        _ => state_row(field),
     }
 }
 
@@ -121,43 +101,14 @@ fn multi_state_row(field: OwnField) -> Option<Row>
     ensures { result ≡ multi_state_row field }
 {
     Some(match field {
-        OwnField::Val => Row::passive(FieldKind::State),
-        OwnField::Rval => Row::plain(FieldKind::Number(Range::ULong)),
-        OwnField::Mask => Row::given(FieldKind::Number(Range::ULong)),
         OwnField::Shft | OwnField::Nobt => Row::plain(FieldKind::Number(Range::Bits)),
         OwnField::StateValue(_) => Row::passive(FieldKind::Number(Range::ULong)),
         OwnField::StateText(_) => Row::passive(FieldKind::Text),
-        OwnField::StateSeverity(_) | OwnField::Unsv | OwnField::Cosv => {
+        OwnField::StateSeverity(_) | OwnField::Unsv => {
             Row::passive(FieldKind::Menu(Menu::Severity))
         }
-        OwnField::Lalm => Row::fixed(FieldKind::Number(Range::UShort)),
-        _ => return None,
+        _ => return state_row(field),
     })
-}
-
-// Returns the row of a type-specific field of mbbi.
-#[tactic(auto, unfolding(crate::specs::Table::mbbi_row))]
-fn mbbi_row(field: OwnField) -> Option<Row>
-    ensures { result ≡ mbbi_row field }
-{
-    match field {
-        OwnField::Inp => Some(Row::link(LinkRole::Input)),
-        _ => multi_state_row(field),
-    }
-}
-
-// Returns the row of a type-specific field of mbbo.
-#[tactic(auto, unfolding(crate::specs::Table::mbbo_row))]
-fn mbbo_row(field: OwnField) -> Option<Row>
-    ensures { result ≡ mbbo_row field }
-{
-    match field {
-        OwnField::Ivov => Some(Row::passive(FieldKind::Number(Range::UShort))),
-        _ => match output_row(field) {
-            Some(row) => Some(row),
-            None => multi_state_row(field),
-        },
-    }
 }
 
 // Returns the row of the field that stringin, stringout and event share.
@@ -168,31 +119,6 @@ fn text_row(field: OwnField) -> Option<Row>
     match field {
         OwnField::Val => Some(Row::passive(FieldKind::Text)),
         _ => None,
-    }
-}
-
-// Returns the row of a type-specific field of stringin or event.
-#[tactic(auto, unfolding(crate::specs::Table::text_input_row))]
-fn text_input_row(field: OwnField) -> Option<Row>
-    ensures { result ≡ text_input_row field }
-{
-    match field {
-        OwnField::Inp => Some(Row::link(LinkRole::Input)),
-        _ => text_row(field),
-    }
-}
-
-// Returns the row of a type-specific field of stringout.
-#[tactic(auto, unfolding(crate::specs::Table::stringout_row))]
-fn stringout_row(field: OwnField) -> Option<Row>
-    ensures { result ≡ stringout_row field }
-{
-    match field {
-        OwnField::Ivov => Some(Row::passive(FieldKind::Text)),
-        _ => match output_row(field) {
-            Some(row) => Some(row),
-            None => text_row(field),
-        },
     }
 }
 
@@ -214,21 +140,22 @@ fn fanout_row(field: OwnField) -> Option<Row>
 
 // Returns the row of a type-specific field, if the type has it.
 #[inline(always)]
-#[tactic(auto, unfolding(crate::specs::Table::own_row))]
+#[tactic(auto, unfolding(crate::specs::Table::own_row, crate::specs::Table::numeric_input_row, crate::specs::Table::bi_row, crate::specs::Table::bo_row, crate::specs::Table::mbbi_row, crate::specs::Table::mbbo_row, crate::specs::Table::text_input_row, crate::specs::Table::stringout_row))]
 pub fn own_row(record_type: RecordType, field: OwnField) -> Option<Row>
     ensures { result ≡ own_row record_type field }
 {
+    let state = FieldKind::Number(Range::UShort);
     match record_type {
-        RecordType::Longin => numeric_input_row(Range::Long, field),
+        RecordType::Longin => input_row(field).or(numeric_row(Range::Long, field)),
         RecordType::Longout => numeric_output_row(Range::Long, field),
-        RecordType::Int64in => numeric_input_row(Range::Int64, field),
+        RecordType::Int64in => input_row(field).or(numeric_row(Range::Int64, field)),
         RecordType::Int64out => numeric_output_row(Range::Int64, field),
-        RecordType::Bi => bi_row(field),
-        RecordType::Bo => bo_row(field),
-        RecordType::Mbbi => mbbi_row(field),
-        RecordType::Mbbo => mbbo_row(field),
-        RecordType::Stringin | RecordType::Event => text_input_row(field),
-        RecordType::Stringout => stringout_row(field),
+        RecordType::Bi => input_row(field).or(two_state_row(field)),
+        RecordType::Bo => output_row_with(state, field).or(two_state_row(field)),
+        RecordType::Mbbi => input_row(field).or(multi_state_row(field)),
+        RecordType::Mbbo => output_row_with(state, field).or(multi_state_row(field)),
+        RecordType::Stringin | RecordType::Event => input_row(field).or(text_row(field)),
+        RecordType::Stringout => output_row_with(FieldKind::Text, field).or(text_row(field)),
         RecordType::Fanout => fanout_row(field),
     }
 }
