@@ -1,8 +1,9 @@
 #!/usr/bin/env python3
 """Finds the places to which the names of fields lead, as crates/ioc_fields/src/places.rt holds them.
 
-Reads the names from crates/ioc_fields/specs/Names.antt, in the order of the list of all fields, and prints a factor by which
-no two names lead to one place, and the table of places. To be run when a name was added: the check of ioc_fields refuses a
+Reads the names from crates/ioc_fields, in the order of the list of all fields, and prints a factor by which no two names lead
+to one place, and the table of places. Those of which there are sixteen stand in src/slot_names.rt, all others in
+specs/Names.antt. To be run when a name was added: the check of ioc_fields refuses a
 table in which a name doesn't lead to its field.
 
 Usage: field_places.py
@@ -11,16 +12,21 @@ import os
 import random
 import re
 
-NAMES = f"{os.path.dirname(__file__)}/../crates/ioc_fields/specs/Names.antt"
+FIELDS = f"{os.path.dirname(__file__)}/../crates/ioc_fields"
 BITS = 9
 NONE = 255
-GROUPS = ("common_name", "own_name", "state_value_name", "state_text_name", "state_severity_name", "link_name")
+GROUPS = ("common_name", "own_name")
+
+
+def read(name: str) -> str:
+    with open(f"{FIELDS}/{name}", encoding="utf-8") as file:
+        return file.read()
 
 
 def names() -> list[str]:
-    with open(NAMES, encoding="utf-8") as file:
-        text = file.read()
-    return [name for group in GROUPS for name in re.findall(rf'^{group} \w+ = codes "(\w+)"', text, re.M)]
+    text = read("specs/Names.antt")
+    single = [name for group in GROUPS for name in re.findall(rf'^{group} \w+ = codes "(\w+)"', text, re.M)]
+    return single + re.findall(r'"(\w+)"', read("src/slot_names.rt"))
 
 
 def place(name: str, factor: int) -> int:
