@@ -2,7 +2,8 @@
 use Rattle.std.proofs.Common.{◌≡◌, ℕ, ◌<◌, ◌≤◌, ◌+◌, ◌-◌, suc, IsTrue, List, [], ◌∷◌, ◌++◌, length, refl, sym, ap, subst, ◌∙◌, append_assoc, arith}
 use Rattle.std.specs.Prelude.{codes, slice_index}
 use Rattle.std.specs.List.{range_with_len}
-use Rattle.std.proofs.lemmas.Bool.{lt-ltb}
+use Rattle.std.proofs.lemmas.Bool.{eq-eqb, lt-ltb, ne_eqb}
+use Rattle.std.proofs.lemmas.List.{append-nil}
 use Rattle.ioc_graph.specs.Members.{Follow, members_from}
 use Rattle.ioc_record.specs.RecordRules.{RecordRules}
 use Rattle.ioc_store.specs.declared.one_map.OneMap.{OneMap}
@@ -46,7 +47,21 @@ module _ {R : Type 0} (k : RecordRules R) (w : World R) where
   pub names_end : (line after goal left : List ℕ) → after ≡ line ++ 125 ∷ [] → left ≡ [] → line ++ other_names k w left ≡ goal → after ≡ goal
   names_end line after goal left e none so = e ∙ ap (λ (l : List ℕ). line ++ other_names k w l) (sym none) ∙ so
 
-  pub parts_step : (numbers line after : List ℕ) (n : ℕ) → n < length numbers → after ≡ line ++ first_words k w numbers n
+  parts_step : (numbers line after : List ℕ) (n : ℕ) → n < length numbers → after ≡ line ++ first_words k w numbers n
       → after ++ parts_words k w numbers (range_with_len (n + 1) (length numbers - (n + 1))) ≡ line ++ parts_words k w numbers (range_with_len n (length numbers - n))
   parts_step numbers line after n l e =
       rw (range_step n (length numbers) l, e) (append_assoc line (first_words k w numbers n) (parts_words k w numbers (range_with_len (n + 1) (length numbers - (n + 1)))))
+
+  -- A part that begins with this record is appended.
+  pub parts_first : (numbers line after : List ℕ) (n : ℕ) → n < length numbers → slice_index numbers n ≡ n → after ≡ line ++ part_words k w numbers n
+      → after ++ parts_words k w numbers (range_with_len (n + 1) (length numbers - (n + 1))) ≡ line ++ parts_words k w numbers (range_with_len n (length numbers - n))
+  parts_first numbers line after n l first e =
+      let is : first_words k w numbers n ≡ part_words k w numbers n = rw (eq-eqb (slice_index numbers n) n first) refl in
+      parts_step numbers line after n l (e ∙ ap (λ (words : List ℕ). line ++ words) (sym is))
+
+  -- Nothing is appended for a record that isn't the first of its part.
+  pub parts_other : (numbers line : List ℕ) (n : ℕ) → n < length numbers → (slice_index numbers n ≡ n → ⊥)
+      → line ++ parts_words k w numbers (range_with_len (n + 1) (length numbers - (n + 1))) ≡ line ++ parts_words k w numbers (range_with_len n (length numbers - n))
+  parts_other numbers line n l other =
+      let is : first_words k w numbers n ≡ [] = rw (ne_eqb (slice_index numbers n) n other) refl in
+      parts_step numbers line line n l (sym (append-nil line) ∙ ap (λ (words : List ℕ). line ++ words) (sym is))

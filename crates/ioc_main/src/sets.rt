@@ -5,7 +5,7 @@ ghost use Rattle.ioc_store.specs.OneMap.{world_of};
 ghost use Rattle.ioc_graph.specs.Parts.{all_below};
 ghost use Rattle.ioc_graph.specs.Members.{AreFirsts, AreFollowers};
 ghost use Rattle.ioc_sim.specs.SeenMachine.{machine_of};
-ghost use Rattle.ioc_main.specs.Sets.{name_at, part_words, first_words, parts_words, sets_line};
+ghost use Rattle.ioc_main.specs.Sets.{name_at, part_words, parts_words, sets_line};
 
 use ioc_graph::followers;
 use ioc_names::RecordNo;
@@ -54,25 +54,6 @@ fn add_part(
     Ok(())
 }
 
-// Appends the names of the part that begins with a record, if one does.
-fn add_part_of(
-    line: &mut Vec<u8>,
-    map: &OneMap<Record, Scripted>,
-    numbers: &[usize],
-    next: &[usize],
-    number: usize,
-) -> Result<(), AllocError>
-    requires there { number < length numbers.now }
-    requires all { length numbers.now ≡ length map.now.records.items }
-    requires follow { AreFollowers numbers.now next.now }
-    ensures { OnOk result (line.new.items ≡ line.old.items ++ first_words record_rules (world_of map.now) numbers.now number) }
-{
-    if numbers[number] != number {
-        return Ok(());
-    }
-    add_part(line, map, numbers, next, number)
-}
-
 // Appends the parts, in the order of their first records.
 fn add_parts(
     line: &mut Vec<u8>,
@@ -87,7 +68,9 @@ fn add_parts(
 {
     let mut number = 0;
     while number < numbers.len() {
-        add_part_of(line, map, numbers, next, number)?;
+        if numbers[number] == number {
+            add_part(line, map, numbers, next, number)?;
+        }
         number += 1;
     }
     Ok(())
