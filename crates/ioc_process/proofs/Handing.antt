@@ -34,7 +34,7 @@ unfolding at taken_on
 taken_on-common k number w m = refl
 
 -- A requested record stays as active as it was.
-handed-active : {R : Type 0} (k : RecordRules R) → IsLawful k → (w : World R) (s t : ℕ) (by_put : Bool) → (common_at k (passed_on k (changed k w t (put_mark_passed by_put)) s t) t).active ≡ (common_at k w t).active
+pub handed-active : {R : Type 0} (k : RecordRules R) → IsLawful k → (w : World R) (s t : ℕ) (by_put : Bool) → (common_at k (passed_on k (changed k w t (put_mark_passed by_put)) s t) t).active ≡ (common_at k w t).active
 handed-active k lawful w s t by_put =
     let v = changed k w t (put_mark_passed by_put) in
     passed-either k (λ u. (common_at k u t).active ≡ (common_at k v t).active) v s t refl

@@ -1,7 +1,8 @@
 -- What requests leave unchanged: the set of records, and what their links name.
 use Rattle.std.proofs.Common.{◌≡◌, ◌≢◌, ℕ, Bool, true, false, cond, eqb, List, [], ◌∷◌, length, refl, ap, subst, ◌∙◌, arith, Some, None as Nothing_}
 use Rattle.std.proofs.lemmas.Grind.{common_steps}
-use Rattle.std.specs.Prelude.{Result, Ok, Err, Contains, nat_lt, ◌++◌}
+use Rattle.std.specs.Global.{Vec}
+use Rattle.std.specs.Prelude.{Result, Ok, Err, Contains, nat_lt, ◌++◌, vec_capacity}
 use Rattle.ioc_values.specs.declared.value.Value.{Value}
 use Rattle.ioc_values.specs.declared.error.IocError.{IocError}
 use Rattle.ioc_dbcommon.specs.declared.common.Common.{Common}
@@ -18,6 +19,7 @@ use Rattle.ioc_dbcommon.specs.Steps.{with_active, change_numbered, with_notifica
 use Rattle.ioc_record.specs.RecordRules.{RecordRules}
 use Rattle.ioc_record.specs.Laws.{IsLawful}
 use Rattle.ioc_ledger.specs.Requests.{more}
+use Rattle.ioc_store.specs.declared.frames.Frame.{Frame}
 use Rattle.ioc_store.specs.declared.outbox.OutboxItem.{OutboxItem}
 use Rattle.ioc_store.specs.World.{World, Has, at, put, changed, SameLinks, Keeps, IsClosed, called, sent, lost, taken_on, let_go}
 use Rattle.ioc_process.specs.Processing.{inherits, value_came, wrote, faulted, device_gave, received, read_device, acknowledged, write_device, next_call, can_ask, request, ran, resumed_with}
@@ -26,6 +28,7 @@ use Rattle.ioc_store.specs.StepFrames.{OwnLinks, targets_same, links-set, links-
 use Rattle.ioc_store.specs.Worlds.{at-put_same, at-put_other, has-put, has-put_back, len-put}
 use Rattle.ioc_store.specs.Links.{handed_on}
 use Rattle.ioc_process.specs.Depth.{written_has}
+use Rattle.ioc_process.specs.Ready.{CanProcess, CanRun}
 use Rattle.ioc_process.specs.Alongside.{Guards, inherits-goes, value_came-goes, wrote-goes, request-goes, ran-goes, takes_completion-goes}
 use Rattle.ioc_store.specs.Given.{Answers}
 use Rattle.ioc_store.specs.Scanning.{moved, rescanned}
@@ -66,6 +69,16 @@ module _ {R : Type 0} (k : RecordRules R) where
 module _ {R : Type 0} (k : RecordRules R) (lawful : IsLawful k) where
   pub closed_on : {w after : World R} → Keeps k w after → IsClosed k w → IsClosed k after
   closed_on keeps is = record { closed = λ n target h. keeps.has target (is.closed n target (subst (λ (l : List ℕ). Contains l target) (targets_same k lawful (keeps.links n)) h)) }
+
+  -- An event may begin where it might before a step that keeps all records and their links.
+  pub can_run_on : {w after : World R} {before frames : Vec Frame} → Keeps k w after → frames.items ≡ [] → vec_capacity frames ≡ vec_capacity before
+      → CanRun k w before → CanRun k after frames
+  can_run_on keeps empty room can = record { closed = closed_on keeps can.closed; empty = empty; room = rw (keeps.count, room) can.room }
+
+  pub can_process_on : {w after : World R} {s : ℕ} {before frames : Vec Frame} → Keeps k w after → frames.items ≡ [] → vec_capacity frames ≡ vec_capacity before
+      → CanProcess k w s before → CanProcess k after s frames
+  can_process_on keeps empty room can =
+      record { there = keeps.has _ can.there; closed = closed_on keeps can.closed; empty = empty; room = rw (keeps.count, room) can.room }
 
   pub keeps-changed : (w : World R) (s : ℕ) → Has w s → (f : Common → Common) → ((c : Common) → OwnLinks c (f c)) → Keeps k w (changed k w s f)
   unfolding changed

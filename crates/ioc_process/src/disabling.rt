@@ -7,8 +7,8 @@ ghost use Rattle.ioc_dbcommon.specs.Links.{use_of};
 ghost use Rattle.ioc_ledger.specs.declared.outcome.Outcome.TheVariants.{Disabled};
 ghost use Rattle.ioc_store.specs.Marks.{is_disabled};
 ghost use Rattle.ioc_store.specs.declared.frames.Next.TheVariants.{Ends};
-ghost use Rattle.ioc_process.specs.Ready.{IsReadyFor, IsReady, TakesTurn};
-ghost use Rattle.ioc_process.specs.Runs.{ForAnswers, IsStanding};
+ghost use Rattle.ioc_process.specs.Ready.{CanReadThrough, IsReadyFor, IsReady, TakesTurn};
+ghost use Rattle.ioc_process.specs.Runs.{ForAnswers};
 ghost use Rattle.ioc_process.specs.Processing.{faulted, request, judged, read_at, read_link, read_record};
 ghost use Rattle.ioc_store.specs.Rests.{disable_came};
 ghost use Rattle.ioc_process.specs.Frames.{Ended, after_disable, after_turn, turn_of, most_calls, most_of_request, Turns};
@@ -64,8 +64,7 @@ pub fn read_disable<S: Store>(
     number: RecordNo,
     link: LinkUse,
 ) -> Next
-    requires ready { IsReady S.Record.rules (S.world store.old) number frames.old }
-    requires standing { IsStanding (S.world store.old) link }
+    requires { CanReadThrough S.Record.rules (S.world store.old) number link frames.old }
     ensures turn { ForAnswers (S.given store.new) (λ answers.
         after_disable S.Record.rules answers number (read_link S.Record.rules (request S.Record.rules answers) (λ _. disable_kind) (S.world store.old) number link) ≡ after_turn S.Record.rules answers (S.world store.new) (turn_of frames.new.items result)) }
     ensures given { Begins S.Device.gives (S.given store.old) (S.given store.new) }

@@ -5,7 +5,7 @@ ghost use Rattle.ioc_values.specs.declared.input.Input.TheVariants.{Value as Inp
 ghost use Rattle.ioc_device.specs.declared.Answer.{Answer};
 ghost use Rattle.ioc_store.specs.World.{Has, at, put, common_at, Keeps, Stays};
 ghost use Rattle.ioc_store.specs.Given.{Begins};
-ghost use Rattle.ioc_process.specs.Runs.{ForAnswers, HasWritten, HasPutOut, IsStanding, how_written};
+ghost use Rattle.ioc_process.specs.Runs.{ForAnswers, HasBoth, HasWritten, HasPutOut, IsStanding, how_written};
 ghost use Rattle.ioc_store.specs.Links.{is_chosen, is_proc, link_at, passive_named, passive_record};
 ghost use Rattle.ioc_process.specs.Processing.{stored_at, wrote, acknowledged, write_device};
 
@@ -121,8 +121,7 @@ fn store_value<S: Store>(
     target: StandingLink,
     value: Value,
 ) -> bool
-    requires there { Has (S.world store.old) number }
-    requires standing { Has (S.world store.old) target.number }
+    requires { HasBoth (S.world store.old) number target }
     ensures wrote { HasWritten (S.world store.new) result (wrote S.Record.rules (S.world store.old) number target value) }
     ensures given { S.given store.new ≡ S.given store.old }
 {
@@ -151,8 +150,7 @@ pub fn write_value<S: Store>(
     target: StandingLink,
     value: Value,
 ) -> Written
-    requires there { Has (S.world store.old) number }
-    requires standing { Has (S.world store.old) target.number }
+    requires { HasBoth (S.world store.old) number target }
     ensures world { S.world store.new ≡ (wrote S.Record.rules (S.world store.old) number target value).world }
     ensures written { result ≡ how_written S.Record.rules (wrote S.Record.rules (S.world store.old) number target value) target }
     ensures given { S.given store.new ≡ S.given store.old }

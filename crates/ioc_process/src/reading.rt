@@ -1,10 +1,8 @@
 //! The input of a body: it reads a link or its device, or needs neither.
 ghost use Rattle.std.specs.Prelude.{◌≡◌};
-ghost use Rattle.ioc_dbcommon.specs.Wants.{need_of};
-ghost use Rattle.ioc_store.specs.World.{at};
 ghost use Rattle.ioc_store.specs.Given.{Begins};
-ghost use Rattle.ioc_process.specs.Ready.{IsReadyFor, IsReady, TakesTurn};
-ghost use Rattle.ioc_process.specs.Runs.{ForAnswers, IsStanding};
+ghost use Rattle.ioc_process.specs.Ready.{CanReadThrough, IsReadyFor, IsReadyNeeding, IsReady, TakesTurn};
+ghost use Rattle.ioc_process.specs.Runs.{ForAnswers};
 ghost use Rattle.ioc_process.specs.Processing.{processed, request, read_at, completed, body, as_input, read_link, read_record};
 ghost use Rattle.ioc_process.specs.Frames.{after_reading, after_turn, turn_of, most_calls};
 
@@ -38,8 +36,7 @@ pub fn begin_body<S: Store>(store: &mut S, frames: &mut Vec<Frame>, number: Reco
 /// Begins a body that reads a link first.
 #[inline(never)]
 pub fn begin_wanted<S: Store>(store: &mut S, frames: &mut Vec<Frame>, number: RecordNo) -> Next
-    requires ready { IsReady S.Record.rules (S.world store.old) number frames.old }
-    requires wants { need_of (S.Record.rules.begin (at S.Record.rules (S.world store.old) number)) ≡ Need.Link }
+    requires { IsReadyNeeding S.Record.rules (S.world store.old) number Need.Link frames.old }
     ensures turn { ForAnswers (S.given store.new) (λ answers.
         processed (body S.Record.rules answers (request S.Record.rules answers) (S.world store.old) number) ≡ after_turn S.Record.rules answers (S.world store.new) (turn_of frames.new.items result)) }
     ensures given { Begins S.Device.gives (S.given store.old) (S.given store.new) }
@@ -52,8 +49,7 @@ pub fn begin_wanted<S: Store>(store: &mut S, frames: &mut Vec<Frame>, number: Re
 /// Begins a body that reads its device first.
 #[inline(never)]
 pub fn begin_asking<S: Store>(store: &mut S, frames: &mut Vec<Frame>, number: RecordNo) -> Next
-    requires ready { IsReady S.Record.rules (S.world store.old) number frames.old }
-    requires wants { need_of (S.Record.rules.begin (at S.Record.rules (S.world store.old) number)) ≡ Need.Device }
+    requires { IsReadyNeeding S.Record.rules (S.world store.old) number Need.Device frames.old }
     ensures turn { ForAnswers (S.given store.new) (λ answers.
         processed (body S.Record.rules answers (request S.Record.rules answers) (S.world store.old) number) ≡ after_turn S.Record.rules answers (S.world store.new) (turn_of frames.new.items result)) }
     ensures given { Begins S.Device.gives (S.given store.old) (S.given store.new) }
@@ -73,8 +69,7 @@ fn begin_reading<S: Store>(
     number: RecordNo,
     link: LinkUse,
 ) -> Next
-    requires ready { IsReady S.Record.rules (S.world store.old) number frames.old }
-    requires standing { IsStanding (S.world store.old) link }
+    requires { CanReadThrough S.Record.rules (S.world store.old) number link frames.old }
     ensures turn { ForAnswers (S.given store.new) (λ answers.
         processed (after_reading S.Record.rules answers number (as_input (read_link S.Record.rules (request S.Record.rules answers) S.Record.rules.input_kind (S.world store.old) number link))) ≡ after_turn S.Record.rules answers (S.world store.new) (turn_of frames.new.items result)) }
     ensures given { Begins S.Device.gives (S.given store.old) (S.given store.new) }

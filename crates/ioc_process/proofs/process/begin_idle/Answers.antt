@@ -13,6 +13,7 @@ use Rattle.ioc_process.specs.Depth.{stays_on, stays-changed, taken-stays}
 use Rattle.ioc_process.specs.Keeping.{keeps-changed, keeps-taken, keeps_on}
 use Rattle.ioc_process.specs.Looks.{Begins}
 use Rattle.ioc_process.specs.Processing.{processed, request, body, completed, begun_idle}
+use Rattle.ioc_process.proofs.FrameTurns.{opens_none}
 use Rattle.ioc_process.proofs.FrameSteps.{begun-reads, begun-judged, judged-on, completed-taken}
 use Rattle.ioc_process.proofs.Needs.{body-nothing, completed-nothing}
 use Rattle.ioc_process.proofs.Ready.{StaysReady, ready_by, is_ready, turns_ready}
@@ -82,7 +83,7 @@ returns-in-ReadsLink g c =
     let lawful = g.met.S.Record.RecordKind.lawful in
     let is = rw c.in-ReadsLink.is at c.begin_fast.ensures.opened in
     let turns = turns_ready _ (found-ready _ lawful _ _ c.requires.there c.requires.closed c.requires.is_idle is.0) (omega arith) c.begin_wanted.ensures.takes.turns in
-    record { turn = λ answers begins. begun-body _ lawful _ _ answers is.1 ∙ rw is.0 at (c.begin_wanted.ensures.turn answers begins); given = rw c.begin_fast.ensures.given at c.begin_wanted.ensures.given; turns = turns; opens = c.begin_wanted.ensures.takes.opens; room = c.begin_wanted.ensures.takes.room }
+    record { turn = λ answers begins. begun-body _ lawful _ _ answers is.1 ∙ rw is.0 at (c.begin_wanted.ensures.turn answers begins); given = rw c.begin_fast.ensures.given at c.begin_wanted.ensures.given; takes = record { turns = turns; opens = c.begin_wanted.ensures.takes.opens; room = c.begin_wanted.ensures.takes.room } }
 
 pub put_out-requires : goal.put_out-requires
 put_out-requires g c =
@@ -100,14 +101,14 @@ returns-in-ReadsDevice g c =
     let lawful = g.met.S.Record.RecordKind.lawful in
     let is = rw c.in-ReadsDevice.is at c.begin_fast.ensures.opened in
     let turns = turns_ready _ (found-ready _ lawful _ _ c.requires.there c.requires.closed c.requires.is_idle is.0) (omega arith) c.begin_asking.ensures.takes.turns in
-    record { turn = λ answers begins. begun-body _ lawful _ _ answers is.1 ∙ rw is.0 at (c.begin_asking.ensures.turn answers begins); given = rw c.begin_fast.ensures.given at c.begin_asking.ensures.given; turns = turns; opens = c.begin_asking.ensures.takes.opens; room = c.begin_asking.ensures.takes.room }
+    record { turn = λ answers begins. begun-body _ lawful _ _ answers is.1 ∙ rw is.0 at (c.begin_asking.ensures.turn answers begins); given = rw c.begin_fast.ensures.given at c.begin_asking.ensures.given; takes = record { turns = turns; opens = c.begin_asking.ensures.takes.opens; room = c.begin_asking.ensures.takes.room } }
 
 pub returns-in-ReadsDisable : goal.returns-in-ReadsDisable
 returns-in-ReadsDisable g c =
     let lawful = g.met.S.Record.RecordKind.lawful in
     let is = rw c.in-ReadsDisable.is at c.begin_fast.ensures.opened in
     let turns = turns_ready _ (found-ready _ lawful _ _ c.requires.there c.requires.closed c.requires.is_idle is.0) (omega arith) c.begin_with_disable.ensures.takes.turns in
-    record { turn = λ answers begins. begun-reads _ lawful answers _ _ _ _ is.0 refl ∙ c.begin_with_disable.ensures.turn answers begins; given = rw c.begin_fast.ensures.given at c.begin_with_disable.ensures.given; turns = turns; opens = c.begin_with_disable.ensures.takes.opens; room = c.begin_with_disable.ensures.takes.room }
+    record { turn = λ answers begins. begun-reads _ lawful answers _ _ _ _ is.0 refl ∙ c.begin_with_disable.ensures.turn answers begins; given = rw c.begin_fast.ensures.given at c.begin_with_disable.ensures.given; takes = record { turns = turns; opens = c.begin_with_disable.ensures.takes.opens; room = c.begin_with_disable.ensures.takes.room } }
 
 pub returns-in-Disabled-clause-turn : goal.returns-in-Disabled-clause-turn
 returns-in-Disabled-clause-turn g c = λ answers begins.
@@ -117,21 +118,25 @@ returns-in-Disabled-clause-turn g c = λ answers begins.
 pub returns-in-Disabled-clause-given : goal.returns-in-Disabled-clause-given
 returns-in-Disabled-clause-given g c = begins_same (c.leave_alone.ensures.given ∙ c.begin_fast.ensures.given)
 
-pub returns-in-Disabled-clause-turns : goal.returns-in-Disabled-clause-turns
-returns-in-Disabled-clause-turns g c =
+pub returns-in-Disabled-clause-takes : goal.returns-in-Disabled-clause-takes
+returns-in-Disabled-clause-takes g c =
     let is = rw c.in-Disabled.is at c.begin_fast.ensures.opened in
-    rw c.leave_alone.ensures.ends (turns_ready _ (found-ready _ g.met.S.Record.RecordKind.lawful _ _ c.requires.there c.requires.closed c.requires.is_idle is.0) (omega arith) c.leave_alone.ensures.turns)
+    rw c.leave_alone.ensures.ends (record {
+      turns = turns_ready _ (found-ready _ g.met.S.Record.RecordKind.lawful _ _ c.requires.there c.requires.closed c.requires.is_idle is.0) (omega arith) c.leave_alone.ensures.turns;
+      opens = opens_none _ _ _ refl;
+      room = refl;
+    })
 
 pub returns-in-Took : goal.returns-in-Took
 returns-in-Took g c =
     let lawful = g.met.S.Record.RecordKind.lawful in
     let is = rw c.in-Took.is at c.begin_fast.ensures.opened in
     let turns = turns_ready _ (took-ready _ lawful _ _ c.requires.there c.requires.closed c.requires.is_idle is.0) (omega arith) c.finish.ensures.takes.turns in
-    record { turn = λ answers begins. begun-nothing _ lawful _ _ answers is.1 ∙ completed-nothing _ lawful answers _ _ got.Nothing is.2 (rw is.0 at (c.finish.ensures.turn answers)); given = begins_same (c.finish.ensures.given ∙ c.begin_fast.ensures.given); turns = turns; opens = c.finish.ensures.takes.opens; room = c.finish.ensures.takes.room }
+    record { turn = λ answers begins. begun-nothing _ lawful _ _ answers is.1 ∙ completed-nothing _ lawful answers _ _ got.Nothing is.2 (rw is.0 at (c.finish.ensures.turn answers)); given = begins_same (c.finish.ensures.given ∙ c.begin_fast.ensures.given); takes = record { turns = turns; opens = c.finish.ensures.takes.opens; room = c.finish.ensures.takes.room } }
 
 pub returns-in-PutsOut : goal.returns-in-PutsOut
 returns-in-PutsOut g c =
     let lawful = g.met.S.Record.RecordKind.lawful in
     let is = rw c.in-PutsOut.is at c.begin_fast.ensures.opened in
     let turns = turns_ready _ (took-ready _ lawful _ _ c.requires.there c.requires.closed c.requires.is_idle is.0) (omega arith) c.put_out.ensures.takes.turns in
-    record { turn = λ answers begins. begun-nothing _ lawful _ _ answers is.1 ∙ completed-taken _ lawful answers _ _ got.Nothing _ (sym is.2) (rw is.0 at (c.put_out.ensures.turn answers begins)); given = rw c.begin_fast.ensures.given at c.put_out.ensures.given; turns = turns; opens = c.put_out.ensures.takes.opens; room = c.put_out.ensures.takes.room }
+    record { turn = λ answers begins. begun-nothing _ lawful _ _ answers is.1 ∙ completed-taken _ lawful answers _ _ got.Nothing _ (sym is.2) (rw is.0 at (c.put_out.ensures.turn answers begins)); given = rw c.begin_fast.ensures.given at c.put_out.ensures.given; takes = record { turns = turns; opens = c.put_out.ensures.takes.opens; room = c.put_out.ensures.takes.room } }

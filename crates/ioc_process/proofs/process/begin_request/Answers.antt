@@ -1,4 +1,4 @@
-use Rattle.std.proofs.Common.{ap, ◌∙◌, sym, arith}
+use Rattle.std.proofs.Common.{refl, ap, ◌∙◌, sym, arith}
 use Rattle.ioc_dbcommon.specs.declared.common.Common.{Common}
 use Rattle.ioc_dbcommon.specs.Steps.{blocked}
 use Rattle.ioc_ledger.specs.declared.outcome.Outcome.TheVariants.{Active}
@@ -6,18 +6,21 @@ use Rattle.ioc_process.specs.Frames.{after_turn}
 use Rattle.ioc_store.specs.StepFrames.{blocked-frame}
 use Rattle.ioc_process.specs.Bodies.{ran-turned_away, ran-idle}
 use Rattle.ioc_process.specs.Answering.{begins_same}
+use Rattle.ioc_process.proofs.FrameTurns.{opens_none}
 use Rattle.ioc_process.proofs.Ready.{turns_changed}
 use Rattle.ioc_process.proofs.Turning.{some_idle}
 use Rattle.ioc_process.proofs.process.begin_request.Goals as goal
 
-pub begin_idle-requires-clause-is_idle : goal.begin_idle-requires-clause-is_idle
-begin_idle-requires-clause-is_idle g c = ap (λ (it : Common). it.active) (sym c.common.ensures) ∙ c.if-common.false
-
-pub begin_idle-requires-clause-room : goal.begin_idle-requires-clause-room
-begin_idle-requires-clause-room g c =
+pub begin_idle-requires : goal.begin_idle-requires
+begin_idle-requires g c =
     let k = g.S.Record.RecordKind.rules in
     let inactive = ap (λ (it : Common). it.active) (sym c.common.ensures) ∙ c.if-common.false in
-    omega (arith, c.requires.room, some_idle k g.met.S.Record.RecordKind.lawful (g.S.Store.world c.args.store.now) c.args.number inactive)
+    record {
+      there = c.requires.there;
+      closed = c.requires.closed;
+      is_idle = inactive;
+      room = omega (arith, c.requires.room, some_idle k g.met.S.Record.RecordKind.lawful (g.S.Store.world c.args.store.now) c.args.number inactive);
+    }
 
 pub returns-then-common-clause-turn : goal.returns-then-common-clause-turn
 unfolding after_turn
@@ -31,9 +34,12 @@ returns-then-common-clause-turn g c = λ answers begins.
 pub returns-then-common-clause-given : goal.returns-then-common-clause-given
 returns-then-common-clause-given g c = begins_same c.block.ensures.given
 
-pub returns-then-common-clause-turns : goal.returns-then-common-clause-turns
-returns-then-common-clause-turns g c =
-    turns_changed _ g.met.S.Record.RecordKind.lawful c.args.number blocked c.block.ensures.world c.requires.there (λ it. (blocked-frame it).links) (blocked-frame _).active Active
+pub returns-then-common-clause-takes : goal.returns-then-common-clause-takes
+returns-then-common-clause-takes g c = record {
+  turns = turns_changed _ g.met.S.Record.RecordKind.lawful c.args.number blocked c.block.ensures.world c.requires.there (λ it. (blocked-frame it).links) (blocked-frame _).active Active;
+  opens = opens_none _ _ _ refl;
+  room = refl;
+}
 
 pub returns-else-common-clause-turn : goal.returns-else-common-clause-turn
 returns-else-common-clause-turn g c = λ answers begins.

@@ -35,15 +35,15 @@ loop-next-preserved-in-Requests g c =
     let k = g.S.Record.RecordKind.rules in
     let lawful = g.met.S.Record.RecordKind.lawful in
     let i = c.loop-next.invariant in
-    let came = c.begin_next-next.ensures in
+    let came = c.begin_next-next.ensures.takes in
     let turn = turn_of c.begin_next-next.new.frames.items c.begin_next-next.result in
     let opened = all_opened c.loop-next.frames.items c.begin_next-next.new.frames.items turn came.opens.frames in
     record {
       goes = λ answers begins. rw (← came.opens.next, opened)
           (goes-called k lawful answers c.args.tally.now c.loop-next.tally _ (g.S.Store.world c.loop-next.store) _ (reverse c.loop-next.frames.items) turn
-          (rw c.in-Requests.is at (i.goes answers (accords_before came.given begins)))
-          (ap (λ frame. called_by k answers (g.S.Store.world c.loop-next.store) frame) (newest_reverse c.loop-next.frames.items) ∙ came.turn answers begins));
-      given = begins_on i.given came.given;
+          (rw c.in-Requests.is at (i.goes answers (accords_before c.begin_next-next.ensures.given begins)))
+          (ap (λ frame. called_by k answers (g.S.Store.world c.loop-next.store) frame) (newest_reverse c.loop-next.frames.items) ∙ c.begin_next-next.ensures.turn answers begins));
+      given = begins_on i.given c.begin_next-next.ensures.given;
       keeps = keeps_on k i.keeps came.turns.keeps;
       closed = closed_on _ lawful came.turns.keeps i.closed;
       stands = rw opened (all_stand _ _ turn came.turns.stands (all-keep k _ _ _ came.turns.keeps i.stands));
@@ -55,7 +55,7 @@ loop-next-preserved-in-Requests g c =
 pub loop-next-smaller-in-Requests : goal.loop-next-smaller-in-Requests
 loop-next-smaller-in-Requests g c =
     let i = c.loop-next.invariant in
-    let came = c.begin_next-next.ensures in
+    let came = c.begin_next-next.ensures.takes in
     let turn = turn_of c.begin_next-next.new.frames.items c.begin_next-next.result in
     rw (← came.opens.next, all_opened c.loop-next.frames.items c.begin_next-next.new.frames.items turn came.opens.frames, c.in-Requests.is)
     (work-called _ (reverse c.loop-next.frames.items) turn

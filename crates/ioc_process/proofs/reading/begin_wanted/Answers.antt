@@ -6,10 +6,13 @@ use Rattle.ioc_process.proofs.FrameSteps.{body-input}
 use Rattle.ioc_process.proofs.Needs.{needs-link}
 use Rattle.ioc_process.proofs.reading.begin_wanted.Goals as goal
 
-pub begin_reading-requires-clause-standing : goal.begin_reading-requires-clause-standing
-begin_reading-requires-clause-standing g c =
-    input_stands g.S.Record.RecordKind.rules g.met.S.Record.RecordKind.lawful _ _ _ c.requires.ready.closed
-    (needs-link _ c.requires.wants ∙ ap ReadLink (sym c.wanted_link-link.ensures))
+pub begin_reading-requires : goal.begin_reading-requires
+begin_reading-requires g c = record {
+  ready = c.requires.ready;
+  standing =
+      input_stands g.S.Record.RecordKind.rules g.met.S.Record.RecordKind.lawful _ _ _ c.requires.ready.closed
+      (needs-link _ c.requires.wants ∙ ap ReadLink (sym c.wanted_link-link.ensures));
+}
 
 pub returns-clause-turn : goal.returns-clause-turn
 unfolding input
