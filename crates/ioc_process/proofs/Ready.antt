@@ -19,7 +19,7 @@ use Rattle.ioc_process.specs.Depth.{stays-changed}
 use Rattle.ioc_process.specs.Keeping.{keeps_all, keeps-active, keeps-changed, closed_on}
 use Rattle.ioc_process.specs.Ready.{IsReady, TakesTurn}
 use Rattle.ioc_process.proofs.FrameSteps.{back-idle, back-inactive}
-use Rattle.ioc_process.proofs.FrameTurns.{turn_pushed}
+use Rattle.ioc_process.proofs.FrameTurns.{opens_pushed, turn_pushed}
 use Rattle.ioc_process.proofs.Turning.{turns_on, turns_calls, turns_ended}
 
 module _ {R : Type 0} (k : RecordRules R) where
@@ -81,6 +81,12 @@ module _ {R : Type 0} (k : RecordRules R) (lawful : IsLawful k) where
       let fewer = ap {A = Bool} {B = ℕ} (λ b. cond b 1 0) inactive in
       rw (is, opened, turn_pushed)
       (turns_calls k frame keeps (omega (arith, room-active k lawful w frame.source, fewer)) (record { source_there = keeps.has _ there; requested_there = keeps.has _ standing }) left)
+
+  -- A ready record that opens a frame takes a turn.
+  pub takes_pushed : {w v : World R} {before frames : Vec Frame} {most : ℕ} (frame : Frame) → v ≡ changed k w frame.source (with_active true) → frames.items ≡ before.items ++ frame ∷ [] → vec_capacity frames ≡ vec_capacity before
+      → IsReady k w frame.source before → Has w (requested_at frame.place) → calls_left frame.place + 1 ≤ most → TakesTurn k w v most before frames Requests
+  takes_pushed frame is opened room ready standing left =
+      record { turns = turns_pushed _ frame is opened ready.there standing ready.is_idle left; opens = opens_pushed _ _ frame opened; room = room }
 
   -- A change of one record that keeps its links and its active mark may end a turn.
   pub turns_changed : {w v : World R} {most : ℕ} (s : ℕ) (f : Common → Common) → v ≡ changed k w s f → Has w s → ((c : Common) → OwnLinks c (f c))

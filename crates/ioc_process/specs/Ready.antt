@@ -10,8 +10,10 @@ use Rattle.ioc_record.specs.RecordRules.{RecordRules}
 use Rattle.ioc_store.specs.World.{World, Has, at, common_at, idle, IsClosed}
 use Rattle.ioc_store.specs.declared.frames.Frame.{Frame}
 use Rattle.ioc_store.specs.declared.frames.Next.{Next}
-use Rattle.ioc_process.specs.Frames.{turn_of, Turns, Opens}
-use Rattle.ioc_process.specs.Runs.{IsStanding}
+use Rattle.ioc_process.specs.Frames.{after_turn, turn_of, Turns, Opens}
+use Rattle.ioc_process.specs.Runs.{ForAnswers, IsStanding}
+use Rattle.ioc_process.specs.Processing.{Ran}
+use Rattle.ioc_store.specs.Given.{Answers, Given}
 
 -- Holds if record `s` exists and is idle, no link leaves the world, and one more frame has room.
 pub record IsReady {R : Type 0} (k : RecordRules R) (w : World R) (s : ℕ) (frames : Vec Frame) : Type 0 where
@@ -63,6 +65,11 @@ pub record CanProcess {R : Type 0} (k : RecordRules R) (w : World R) (s : ℕ) (
   pub closed : IsClosed k w
   pub empty : frames.items ≡ []
   pub room : len w.records ≤ vec_capacity frames
+
+-- Holds if this is what follows from the turn that the code takes, for all answers that accord with
+-- the calls of the devices.
+abbrev pub LeadsTo : {R D : Type 0} → (Answers → Ran R) → RecordRules R → Given D → World R → Vec Frame → Next → Type 0
+LeadsTo ran k given after frames result = ForAnswers given (λ answers. ran answers ≡ after_turn k answers after (turn_of frames.items result))
 
 -- The code takes one turn, after which the body makes at most `most` more requests. It opens one
 -- frame if it requests a record, and none otherwise.

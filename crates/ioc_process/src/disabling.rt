@@ -7,11 +7,10 @@ ghost use Rattle.ioc_dbcommon.specs.Links.{use_of};
 ghost use Rattle.ioc_ledger.specs.declared.outcome.Outcome.TheVariants.{Disabled};
 ghost use Rattle.ioc_store.specs.Marks.{is_disabled};
 ghost use Rattle.ioc_store.specs.declared.frames.Next.TheVariants.{Ends};
-ghost use Rattle.ioc_process.specs.Ready.{CanReadThrough, IsReadyFor, IsReady, TakesTurn};
-ghost use Rattle.ioc_process.specs.Runs.{ForAnswers};
+ghost use Rattle.ioc_process.specs.Ready.{CanReadThrough, IsReady, IsReadyFor, LeadsTo, TakesTurn};
 ghost use Rattle.ioc_process.specs.Processing.{faulted, request, judged, read_at, read_link, read_record};
 ghost use Rattle.ioc_store.specs.Rests.{disable_came};
-ghost use Rattle.ioc_process.specs.Frames.{Ended, after_disable, after_turn, turn_of, most_calls, most_of_request, Turns};
+ghost use Rattle.ioc_process.specs.Frames.{Ended, after_disable, after_turn, most_calls, most_of_request, Turns};
 
 use crate::inputs::{fault_link, read_value};
 use crate::notifying::release_notification;
@@ -32,8 +31,8 @@ pub fn begin_with_disable<S: Store>(
     number: RecordNo,
 ) -> Next
     requires ready { IsReady S.Record.rules (S.world store.old) number frames.old }
-    ensures turn { ForAnswers (S.given store.new) (λ answers.
-        after_disable S.Record.rules answers number (read_link S.Record.rules (request S.Record.rules answers) (λ _. disable_kind) (S.world store.old) number (use_of (common_at S.Record.rules (S.world store.old) number).disable_link)) ≡ after_turn S.Record.rules answers (S.world store.new) (turn_of frames.new.items result)) }
+    ensures turn { LeadsTo (λ answers. after_disable S.Record.rules answers number (read_link S.Record.rules (request S.Record.rules answers) (λ _. disable_kind) (S.world store.old) number (use_of (common_at S.Record.rules (S.world store.old) number).disable_link)))
+        S.Record.rules (S.given store.new) (S.world store.new) frames.new result }
     ensures given { Begins S.Device.gives (S.given store.old) (S.given store.new) }
     ensures takes { TakesTurn S.Record.rules (S.world store.old) (S.world store.new) most_of_request frames.old frames.new result }
 {
@@ -55,18 +54,19 @@ pub fn leave_alone<S: Store>(store: &mut S, number: RecordNo) -> Next
     Next::Ends(Outcome::Disabled)
 }
 
-/// Reads SDIS of a record.
+// Reads SDIS of a record. If the link has PP and the record that it names is passive, that one is
+// requested first.
 #[tactic(auto, unfolding(crate::specs::Processing::read_link, crate::specs::Processing::ran_after, ioc_store::specs::Rests::disable_came, crate::specs::Frames::after_disable))]
 #[inline(always)]
-pub fn read_disable<S: Store>(
+fn read_disable<S: Store>(
     store: &mut S,
     frames: &mut Vec<Frame>,
     number: RecordNo,
     link: LinkUse,
 ) -> Next
     requires { CanReadThrough S.Record.rules (S.world store.old) number link frames.old }
-    ensures turn { ForAnswers (S.given store.new) (λ answers.
-        after_disable S.Record.rules answers number (read_link S.Record.rules (request S.Record.rules answers) (λ _. disable_kind) (S.world store.old) number link) ≡ after_turn S.Record.rules answers (S.world store.new) (turn_of frames.new.items result)) }
+    ensures turn { LeadsTo (λ answers. after_disable S.Record.rules answers number (read_link S.Record.rules (request S.Record.rules answers) (λ _. disable_kind) (S.world store.old) number link))
+        S.Record.rules (S.given store.new) (S.world store.new) frames.new result }
     ensures given { Begins S.Device.gives (S.given store.old) (S.given store.new) }
     ensures takes { TakesTurn S.Record.rules (S.world store.old) (S.world store.new) most_of_request frames.old frames.new result }
 {
@@ -74,41 +74,27 @@ pub fn read_disable<S: Store>(
         LinkUse::Unused => judge(store, frames, number),
         LinkUse::OwnDevice => judge_faulted(store, frames, number),
         LinkUse::Absent => judge_faulted(store, frames, number),
-        LinkUse::Standing(target) => begin_disable(store, frames, number, target),
+        LinkUse::Standing(target) => {
+            if passes_on(store, target.process_passive, target.number) {
+                open_frame(store, frames, number, ResumePoint::ReadingDisable(target));
+                Next::Requests
+            } else {
+                take_disable(store, frames, number, target)
+            }
+        }
     }
 }
 
 // Continues a request whose SDIS link returned a fault.
 fn judge_faulted<S: Store>(store: &mut S, frames: &mut Vec<Frame>, number: RecordNo) -> Next
     requires ready { IsReady S.Record.rules (S.world store.old) number frames.old }
-    ensures turn { ForAnswers (S.given store.new) (λ answers.
-        judged S.Record.rules answers (request S.Record.rules answers) (faulted S.Record.rules (S.world store.old) number) number ≡ after_turn S.Record.rules answers (S.world store.new) (turn_of frames.new.items result)) }
+    ensures turn { LeadsTo (λ answers. judged S.Record.rules answers (request S.Record.rules answers) (faulted S.Record.rules (S.world store.old) number) number)
+        S.Record.rules (S.given store.new) (S.world store.new) frames.new result }
     ensures given { Begins S.Device.gives (S.given store.old) (S.given store.new) }
     ensures takes { TakesTurn S.Record.rules (S.world store.old) (S.world store.new) most_calls frames.old frames.new result }
 {
     fault_link(store, number);
     judge(store, frames, number)
-}
-
-/// Reads SDIS from a record. If the link has PP and that record is passive, it is requested first.
-fn begin_disable<S: Store>(
-    store: &mut S,
-    frames: &mut Vec<Frame>,
-    number: RecordNo,
-    target: StandingLink,
-) -> Next
-    requires { IsReadyFor S.Record.rules (S.world store.old) number target frames.old }
-    ensures turn { ForAnswers (S.given store.new) (λ answers.
-        after_disable S.Record.rules answers number (read_record S.Record.rules (request S.Record.rules answers) (λ _. disable_kind) (S.world store.old) number target) ≡ after_turn S.Record.rules answers (S.world store.new) (turn_of frames.new.items result)) }
-    ensures given { Begins S.Device.gives (S.given store.old) (S.given store.new) }
-    ensures takes { TakesTurn S.Record.rules (S.world store.old) (S.world store.new) most_of_request frames.old frames.new result }
-{
-    if passes_on(store, target.process_passive, target.number) {
-        open_frame(store, frames, number, ResumePoint::ReadingDisable(target));
-        Next::Requests
-    } else {
-        take_disable(store, frames, number, target)
-    }
 }
 
 /// Continues a request whose SDIS is read from another record.
@@ -119,8 +105,8 @@ pub fn take_disable<S: Store>(
     target: StandingLink,
 ) -> Next
     requires { IsReadyFor S.Record.rules (S.world store.old) number target frames.old }
-    ensures turn { ForAnswers (S.given store.new) (λ answers.
-        (let read = read_at S.Record.rules (λ _. disable_kind) (S.world store.old) number target in judged S.Record.rules answers (request S.Record.rules answers) (disable_came S.Record.rules read.world number read.came) number) ≡ after_turn S.Record.rules answers (S.world store.new) (turn_of frames.new.items result)) }
+    ensures turn { LeadsTo (λ answers. let read = read_at S.Record.rules (λ _. disable_kind) (S.world store.old) number target in judged S.Record.rules answers (request S.Record.rules answers) (disable_came S.Record.rules read.world number read.came) number)
+        S.Record.rules (S.given store.new) (S.world store.new) frames.new result }
     ensures given { Begins S.Device.gives (S.given store.old) (S.given store.new) }
     ensures takes { TakesTurn S.Record.rules (S.world store.old) (S.world store.new) most_calls frames.old frames.new result }
 {
@@ -134,8 +120,8 @@ pub fn take_disable<S: Store>(
 #[inline(always)]
 fn judge<S: Store>(store: &mut S, frames: &mut Vec<Frame>, number: RecordNo) -> Next
     requires ready { IsReady S.Record.rules (S.world store.old) number frames.old }
-    ensures turn { ForAnswers (S.given store.new) (λ answers.
-        judged S.Record.rules answers (request S.Record.rules answers) (S.world store.old) number ≡ after_turn S.Record.rules answers (S.world store.new) (turn_of frames.new.items result)) }
+    ensures turn { LeadsTo (λ answers. judged S.Record.rules answers (request S.Record.rules answers) (S.world store.old) number)
+        S.Record.rules (S.given store.new) (S.world store.new) frames.new result }
     ensures given { Begins S.Device.gives (S.given store.old) (S.given store.new) }
     ensures takes { TakesTurn S.Record.rules (S.world store.old) (S.world store.new) most_calls frames.old frames.new result }
 {

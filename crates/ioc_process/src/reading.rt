@@ -1,10 +1,9 @@
 //! The input of a body: it reads a link or its device, or needs neither.
 ghost use Rattle.std.specs.Prelude.{◌≡◌};
 ghost use Rattle.ioc_store.specs.Given.{Begins};
-ghost use Rattle.ioc_process.specs.Ready.{CanReadThrough, IsReadyFor, IsReadyNeeding, IsReady, TakesTurn};
-ghost use Rattle.ioc_process.specs.Runs.{ForAnswers};
+ghost use Rattle.ioc_process.specs.Ready.{CanReadThrough, IsReady, IsReadyFor, IsReadyNeeding, LeadsTo, TakesTurn};
 ghost use Rattle.ioc_process.specs.Processing.{processed, request, read_at, completed, body, as_input, read_link, read_record};
-ghost use Rattle.ioc_process.specs.Frames.{after_reading, after_turn, turn_of, most_calls};
+ghost use Rattle.ioc_process.specs.Frames.{after_reading, most_calls};
 
 use crate::finishing::{finish_body, take_fault};
 use crate::inputs::{ask_device, read_value};
@@ -21,8 +20,8 @@ use ioc_store::store::Store;
 #[inline(always)]
 pub fn begin_body<S: Store>(store: &mut S, frames: &mut Vec<Frame>, number: RecordNo) -> Next
     requires ready { IsReady S.Record.rules (S.world store.old) number frames.old }
-    ensures turn { ForAnswers (S.given store.new) (λ answers.
-        processed (body S.Record.rules answers (request S.Record.rules answers) (S.world store.old) number) ≡ after_turn S.Record.rules answers (S.world store.new) (turn_of frames.new.items result)) }
+    ensures turn { LeadsTo (λ answers. processed (body S.Record.rules answers (request S.Record.rules answers) (S.world store.old) number))
+        S.Record.rules (S.given store.new) (S.world store.new) frames.new result }
     ensures given { Begins S.Device.gives (S.given store.old) (S.given store.new) }
     ensures takes { TakesTurn S.Record.rules (S.world store.old) (S.world store.new) most_calls frames.old frames.new result }
 {
@@ -37,8 +36,8 @@ pub fn begin_body<S: Store>(store: &mut S, frames: &mut Vec<Frame>, number: Reco
 #[inline(never)]
 pub fn begin_wanted<S: Store>(store: &mut S, frames: &mut Vec<Frame>, number: RecordNo) -> Next
     requires { IsReadyNeeding S.Record.rules (S.world store.old) number Need.Link frames.old }
-    ensures turn { ForAnswers (S.given store.new) (λ answers.
-        processed (body S.Record.rules answers (request S.Record.rules answers) (S.world store.old) number) ≡ after_turn S.Record.rules answers (S.world store.new) (turn_of frames.new.items result)) }
+    ensures turn { LeadsTo (λ answers. processed (body S.Record.rules answers (request S.Record.rules answers) (S.world store.old) number))
+        S.Record.rules (S.given store.new) (S.world store.new) frames.new result }
     ensures given { Begins S.Device.gives (S.given store.old) (S.given store.new) }
     ensures takes { TakesTurn S.Record.rules (S.world store.old) (S.world store.new) most_calls frames.old frames.new result }
 {
@@ -50,8 +49,8 @@ pub fn begin_wanted<S: Store>(store: &mut S, frames: &mut Vec<Frame>, number: Re
 #[inline(never)]
 pub fn begin_asking<S: Store>(store: &mut S, frames: &mut Vec<Frame>, number: RecordNo) -> Next
     requires { IsReadyNeeding S.Record.rules (S.world store.old) number Need.Device frames.old }
-    ensures turn { ForAnswers (S.given store.new) (λ answers.
-        processed (body S.Record.rules answers (request S.Record.rules answers) (S.world store.old) number) ≡ after_turn S.Record.rules answers (S.world store.new) (turn_of frames.new.items result)) }
+    ensures turn { LeadsTo (λ answers. processed (body S.Record.rules answers (request S.Record.rules answers) (S.world store.old) number))
+        S.Record.rules (S.given store.new) (S.world store.new) frames.new result }
     ensures given { Begins S.Device.gives (S.given store.old) (S.given store.new) }
     ensures takes { TakesTurn S.Record.rules (S.world store.old) (S.world store.new) most_calls frames.old frames.new result }
 {
@@ -61,7 +60,8 @@ pub fn begin_asking<S: Store>(store: &mut S, frames: &mut Vec<Frame>, number: Re
     }
 }
 
-/// Begins a body by reading a link.
+/// Begins a body by reading a link. If the link has PP and the record that it names is passive, that
+/// one is requested first.
 #[tactic(auto, unfolding(crate::specs::Processing::read_link, crate::specs::Frames::after_reading))]
 fn begin_reading<S: Store>(
     store: &mut S,
@@ -70,8 +70,8 @@ fn begin_reading<S: Store>(
     link: LinkUse,
 ) -> Next
     requires { CanReadThrough S.Record.rules (S.world store.old) number link frames.old }
-    ensures turn { ForAnswers (S.given store.new) (λ answers.
-        processed (after_reading S.Record.rules answers number (as_input (read_link S.Record.rules (request S.Record.rules answers) S.Record.rules.input_kind (S.world store.old) number link))) ≡ after_turn S.Record.rules answers (S.world store.new) (turn_of frames.new.items result)) }
+    ensures turn { LeadsTo (λ answers. processed (after_reading S.Record.rules answers number (as_input (read_link S.Record.rules (request S.Record.rules answers) S.Record.rules.input_kind (S.world store.old) number link))))
+        S.Record.rules (S.given store.new) (S.world store.new) frames.new result }
     ensures given { Begins S.Device.gives (S.given store.old) (S.given store.new) }
     ensures takes { TakesTurn S.Record.rules (S.world store.old) (S.world store.new) most_calls frames.old frames.new result }
 {
@@ -79,30 +79,14 @@ fn begin_reading<S: Store>(
         LinkUse::Unused => finish_body(store, frames, number, &Got::Nothing),
         LinkUse::OwnDevice => take_fault(store, frames, number),
         LinkUse::Absent => take_fault(store, frames, number),
-        LinkUse::Standing(target) => begin_target(store, frames, number, target),
-    }
-}
-
-/// Begins a body by reading a record. If the link has PP and that record is passive, it is
-/// requested first.
-#[inline(always)]
-fn begin_target<S: Store>(
-    store: &mut S,
-    frames: &mut Vec<Frame>,
-    number: RecordNo,
-    target: StandingLink,
-) -> Next
-    requires { IsReadyFor S.Record.rules (S.world store.old) number target frames.old }
-    ensures turn { ForAnswers (S.given store.new) (λ answers.
-        processed (after_reading S.Record.rules answers number (as_input (read_record S.Record.rules (request S.Record.rules answers) S.Record.rules.input_kind (S.world store.old) number target))) ≡ after_turn S.Record.rules answers (S.world store.new) (turn_of frames.new.items result)) }
-    ensures given { Begins S.Device.gives (S.given store.old) (S.given store.new) }
-    ensures takes { TakesTurn S.Record.rules (S.world store.old) (S.world store.new) most_calls frames.old frames.new result }
-{
-    if passes_on(store, target.process_passive, target.number) {
-        open_frame(store, frames, number, ResumePoint::Reading(target));
-        Next::Requests
-    } else {
-        take_value(store, frames, number, target)
+        LinkUse::Standing(target) => {
+            if passes_on(store, target.process_passive, target.number) {
+                open_frame(store, frames, number, ResumePoint::Reading(target));
+                Next::Requests
+            } else {
+                take_value(store, frames, number, target)
+            }
+        }
     }
 }
 
@@ -115,8 +99,8 @@ pub fn take_value<S: Store>(
     target: StandingLink,
 ) -> Next
     requires { IsReadyFor S.Record.rules (S.world store.old) number target frames.old }
-    ensures turn { ForAnswers (S.given store.new) (λ answers.
-        processed (let read = read_at S.Record.rules S.Record.rules.input_kind (S.world store.old) number target in completed S.Record.rules answers (request S.Record.rules answers) read.world number read.came) ≡ after_turn S.Record.rules answers (S.world store.new) (turn_of frames.new.items result)) }
+    ensures turn { LeadsTo (λ answers. processed (let read = read_at S.Record.rules S.Record.rules.input_kind (S.world store.old) number target in completed S.Record.rules answers (request S.Record.rules answers) read.world number read.came))
+        S.Record.rules (S.given store.new) (S.world store.new) frames.new result }
     ensures given { Begins S.Device.gives (S.given store.old) (S.given store.new) }
     ensures takes { TakesTurn S.Record.rules (S.world store.old) (S.world store.new) 17 frames.old frames.new result }
 {
