@@ -1,15 +1,15 @@
 //! The effect of an event by itself: a request, a put, a completion.
-ghost use Rattle.std.specs.FinMap.{len};
 ghost use Rattle.std.specs.Vec.{vec_capacity};
-ghost use Rattle.std.specs.Prelude.{◌≡◌, ◌≤◌, [], true, OnOk, OnErr, IfErr, Some, Ok, Err};
+ghost use Rattle.std.specs.Prelude.{◌≡◌, [], true, OnOk, OnErr, IfErr, Some, Ok, Err};
 ghost use Rattle.ioc_fields.specs.Table.{is_process_passive};
 ghost use Rattle.ioc_fields.specs.declared.field_no.FieldNo.TheVariants.{Own};
 ghost use Rattle.ioc_fields.specs.declared.field_no.OwnField.TheVariants.{Val};
 ghost use Rattle.ioc_values.specs.Conversion.{input_of};
 ghost use Rattle.ioc_record.specs.PutFaults.{error_of};
 ghost use Rattle.ioc_record.specs.Values.{put_field};
-ghost use Rattle.ioc_store.specs.World.{Has, at, put, common_at, IsClosed, Keeps};
+ghost use Rattle.ioc_store.specs.World.{Has, at, put, common_at, Keeps};
 ghost use Rattle.ioc_store.specs.Given.{Begins};
+ghost use Rattle.ioc_process.specs.Ready.{CanProcess, CanRun};
 ghost use Rattle.ioc_process.specs.Runs.{ForAnswers};
 ghost use Rattle.ioc_events.specs.declared.event.Event.TheVariants.{Process, Put, Complete};
 ghost use Rattle.ioc_events.specs.Step.{processes, awaits, told, after_put, done_alone};
@@ -75,10 +75,7 @@ fn request_present<S: Store>(
     number: RecordNo,
     tally: &mut Tally,
 ) -> Outcome
-    requires there { Has (S.world store.old) number }
-    requires closed { IsClosed S.Record.rules (S.world store.old) }
-    requires empty { frames.old.items ≡ [] }
-    requires room { len (S.world store.old).records ≤ vec_capacity frames.old }
+    requires { CanProcess S.Record.rules (S.world store.old) number frames.old }
     ensures told { ForAnswers (S.given store.new) (λ answers.
         Makes (S.world store.new) (reply_of (Ok (Some result))) tally.old tally.new (told S.Record.rules answers (S.world store.old) number)) }
     ensures keeps { Keeps S.Record.rules (S.world store.old) (S.world store.new) }
@@ -97,9 +94,7 @@ pub fn request<S: Store>(
     number: RecordNo,
     tally: &mut Tally,
 ) -> Effect
-    requires closed { IsClosed S.Record.rules (S.world store.old) }
-    requires empty { frames.old.items ≡ [] }
-    requires room { len (S.world store.old).records ≤ vec_capacity frames.old }
+    requires { CanRun S.Record.rules (S.world store.old) frames.old }
     ensures done { ForAnswers (S.given store.new) (λ answers.
         Makes (S.world store.new) (reply_of result) tally.old tally.new (done_alone S.Record.rules answers (S.world store.old) (Process number))) }
     ensures keeps { Keeps S.Record.rules (S.world store.old) (S.world store.new) }
@@ -164,10 +159,7 @@ fn process_after_put<S: Store>(
     field: FieldNo,
     tally: &mut Tally,
 ) -> Option<Outcome>
-    requires there { Has (S.world store.old) number }
-    requires closed { IsClosed S.Record.rules (S.world store.old) }
-    requires empty { frames.old.items ≡ [] }
-    requires room { len (S.world store.old).records ≤ vec_capacity frames.old }
+    requires { CanProcess S.Record.rules (S.world store.old) number frames.old }
     ensures after { ForAnswers (S.given store.new) (λ answers.
         Makes (S.world store.new) (reply_of (Ok result)) tally.old tally.new (after_put S.Record.rules answers (S.world store.old) number field)) }
     ensures keeps { Keeps S.Record.rules (S.world store.old) (S.world store.new) }
@@ -196,9 +188,7 @@ pub fn put<S: Store>(
     given: Input,
     tally: &mut Tally,
 ) -> SetReply
-    requires closed { IsClosed S.Record.rules (S.world store.old) }
-    requires empty { frames.old.items ≡ [] }
-    requires room { len (S.world store.old).records ≤ vec_capacity frames.old }
+    requires { CanRun S.Record.rules (S.world store.old) frames.old }
     ensures done { ForAnswers (S.given store.new) (λ answers.
         Makes (S.world store.new) (told_by result) tally.old tally.new (done_alone S.Record.rules answers (S.world store.old) (Put number field given))) }
     ensures keeps { Keeps S.Record.rules (S.world store.old) (S.world store.new) }
@@ -227,9 +217,7 @@ pub fn put_text<S: Store>(
     text: &[u8],
     tally: &mut Tally,
 ) -> Effect
-    requires closed { IsClosed S.Record.rules (S.world store.old) }
-    requires empty { frames.old.items ≡ [] }
-    requires room { len (S.world store.old).records ≤ vec_capacity frames.old }
+    requires { CanRun S.Record.rules (S.world store.old) frames.old }
     ensures done { ForAnswers (S.given store.new) (λ answers.
         Makes (S.world store.new) (reply_of result) tally.old tally.new (done_alone S.Record.rules answers (S.world store.old) (Put number field (input_of text.now)))) }
     ensures keeps { Keeps S.Record.rules (S.world store.old) (S.world store.new) }
@@ -268,9 +256,7 @@ pub fn complete<S: Store>(
     finished: Finished,
     tally: &mut Tally,
 ) -> SetReply
-    requires closed { IsClosed S.Record.rules (S.world store.old) }
-    requires empty { frames.old.items ≡ [] }
-    requires room { len (S.world store.old).records ≤ vec_capacity frames.old }
+    requires { CanRun S.Record.rules (S.world store.old) frames.old }
     ensures done { ForAnswers (S.given store.new) (λ answers.
         Makes (S.world store.new) (told_by result) tally.old tally.new (done_alone S.Record.rules answers (S.world store.old) (Complete number wait finished))) }
     ensures keeps { Keeps S.Record.rules (S.world store.old) (S.world store.new) }

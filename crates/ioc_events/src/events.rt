@@ -1,11 +1,11 @@
 //! One event of a database: a get, a request, a put, a completion, a put with notification, a
 //! cancel. A function that takes frames requires that they are empty and have room for all records,
 //! and leaves them empty.
-ghost use Rattle.std.specs.FinMap.{len};
 ghost use Rattle.std.specs.Vec.{vec_capacity};
-ghost use Rattle.std.specs.Prelude.{◌≡◌, ◌≤◌, ℕ, [], drop};
-ghost use Rattle.ioc_store.specs.World.{IsClosed, Keeps};
+ghost use Rattle.std.specs.Prelude.{◌≡◌, ℕ, [], drop};
+ghost use Rattle.ioc_store.specs.World.{Keeps};
 ghost use Rattle.ioc_store.specs.Given.{Answers, Begins, later_among};
+ghost use Rattle.ioc_process.specs.Ready.{CanRun};
 ghost use Rattle.ioc_process.specs.Runs.{ForAnswers};
 ghost use Rattle.ioc_events.specs.declared.event.Event.TheVariants.{Get, Process, Put, Complete, Notify, Cancel, IsLive};
 ghost use Rattle.ioc_events.specs.Step.{is_refusal, completes, stepped};
@@ -80,9 +80,7 @@ fn end_unless<S: Store>(
     refused: bool,
     tally: &mut Tally,
 )
-    requires closed { IsClosed S.Record.rules (S.world store.old) }
-    requires empty { frames.old.items ≡ [] }
-    requires room { len (S.world store.old).records ≤ vec_capacity frames.old }
+    requires { CanRun S.Record.rules (S.world store.old) frames.old }
     ensures ends { ForAnswers (S.given store.new) (λ answers.
         Ends (S.world store.new) asked tally.old tally.new (ends_unless S.Record.rules answers (S.world store.old) refused)) }
     ensures keeps { Keeps S.Record.rules (S.world store.old) (S.world store.new) }
@@ -104,9 +102,7 @@ fn end_event<S: Store>(
     reply: &SetReply,
     tally: &mut Tally,
 )
-    requires closed { IsClosed S.Record.rules (S.world store.old) }
-    requires empty { frames.old.items ≡ [] }
-    requires room { len (S.world store.old).records ≤ vec_capacity frames.old }
+    requires { CanRun S.Record.rules (S.world store.old) frames.old }
     ensures ends { ForAnswers (S.given store.new) (λ answers.
         Ends (S.world store.new) asked tally.old tally.new (ends S.Record.rules answers (S.world store.old) (told_by reply.now))) }
     ensures keeps { Keeps S.Record.rules (S.world store.old) (S.world store.new) }
@@ -126,9 +122,7 @@ fn end_effect<S: Store>(
     effect: &Effect,
     tally: &mut Tally,
 )
-    requires closed { IsClosed S.Record.rules (S.world store.old) }
-    requires empty { frames.old.items ≡ [] }
-    requires room { len (S.world store.old).records ≤ vec_capacity frames.old }
+    requires { CanRun S.Record.rules (S.world store.old) frames.old }
     ensures ends { ForAnswers (S.given store.new) (λ answers.
         Ends (S.world store.new) asked tally.old tally.new (ends S.Record.rules answers (S.world store.old) (reply_of effect.now))) }
     ensures keeps { Keeps S.Record.rules (S.world store.old) (S.world store.new) }
@@ -151,9 +145,7 @@ pub fn make_request<S: Store>(
     number: RecordNo,
     tally: &mut Tally,
 ) -> Effect
-    requires closed { IsClosed S.Record.rules (S.world store.old) }
-    requires empty { frames.old.items ≡ [] }
-    requires room { len (S.world store.old).records ≤ vec_capacity frames.old }
+    requires { CanRun S.Record.rules (S.world store.old) frames.old }
     ensures step { ForAnswers (S.given store.new) (λ answers.
         Tells (S.world store.old) (S.world store.new) (reply_of result) tally.old tally.new (Process number) (stepped S.Record.rules answers (S.world store.old) (Process number))) }
     ensures keeps { Keeps S.Record.rules (S.world store.old) (S.world store.new) }
@@ -180,9 +172,7 @@ pub fn run_request<S: Store>(
     number: RecordNo,
     tally: &mut Tally,
 ) -> SetReply
-    requires closed { IsClosed S.Record.rules (S.world store.old) }
-    requires empty { frames.old.items ≡ [] }
-    requires room { len (S.world store.old).records ≤ vec_capacity frames.old }
+    requires { CanRun S.Record.rules (S.world store.old) frames.old }
     ensures step { ForAnswers (S.given store.new) (λ answers.
         Tells (S.world store.old) (S.world store.new) (told_by result) tally.old tally.new (Process number) (stepped S.Record.rules answers (S.world store.old) (Process number))) }
     ensures keeps { Keeps S.Record.rules (S.world store.old) (S.world store.new) }
@@ -211,9 +201,7 @@ pub fn run_put<S: Store>(
     given: Input,
     tally: &mut Tally,
 ) -> SetReply
-    requires closed { IsClosed S.Record.rules (S.world store.old) }
-    requires empty { frames.old.items ≡ [] }
-    requires room { len (S.world store.old).records ≤ vec_capacity frames.old }
+    requires { CanRun S.Record.rules (S.world store.old) frames.old }
     ensures step { ForAnswers (S.given store.new) (λ answers.
         Tells (S.world store.old) (S.world store.new) (told_by result) tally.old tally.new (Put number field given) (stepped S.Record.rules answers (S.world store.old) (Put number field given))) }
     ensures keeps { Keeps S.Record.rules (S.world store.old) (S.world store.new) }
@@ -241,9 +229,7 @@ pub fn make_spelled_put<S: Store>(
     text: &[u8],
     tally: &mut Tally,
 ) -> Effect
-    requires closed { IsClosed S.Record.rules (S.world store.old) }
-    requires empty { frames.old.items ≡ [] }
-    requires room { len (S.world store.old).records ≤ vec_capacity frames.old }
+    requires { CanRun S.Record.rules (S.world store.old) frames.old }
     ensures step { ForAnswers (S.given store.new) (λ answers.
         Tells (S.world store.old) (S.world store.new) (reply_of result) tally.old tally.new (Put number field (input_of text.now)) (stepped S.Record.rules answers (S.world store.old) (Put number field (input_of text.now)))) }
     ensures keeps { Keeps S.Record.rules (S.world store.old) (S.world store.new) }
@@ -274,9 +260,7 @@ pub fn run_complete<S: Store>(
     finished: Finished,
     tally: &mut Tally,
 ) -> SetReply
-    requires closed { IsClosed S.Record.rules (S.world store.old) }
-    requires empty { frames.old.items ≡ [] }
-    requires room { len (S.world store.old).records ≤ vec_capacity frames.old }
+    requires { CanRun S.Record.rules (S.world store.old) frames.old }
     ensures step { ForAnswers (S.given store.new) (λ answers.
         Tells (S.world store.old) (S.world store.new) (told_by result) tally.old tally.new (Complete number wait finished) (stepped S.Record.rules answers (S.world store.old) (Complete number wait finished))) }
     ensures keeps { Keeps S.Record.rules (S.world store.old) (S.world store.new) }
@@ -311,9 +295,7 @@ pub fn run_notify<S: Store>(
     given: Input,
     tally: &mut Tally,
 ) -> SetReply
-    requires closed { IsClosed S.Record.rules (S.world store.old) }
-    requires empty { frames.old.items ≡ [] }
-    requires room { len (S.world store.old).records ≤ vec_capacity frames.old }
+    requires { CanRun S.Record.rules (S.world store.old) frames.old }
     ensures step { ForAnswers (S.given store.new) (λ answers.
         Tells (S.world store.old) (S.world store.new) (told_by result) tally.old tally.new (Notify target number field given) (stepped S.Record.rules answers (S.world store.old) (Notify target number field given))) }
     ensures keeps { Keeps S.Record.rules (S.world store.old) (S.world store.new) }
@@ -339,9 +321,7 @@ pub fn run_cancel<S: Store>(
     number: NotifyId,
     tally: &mut Tally,
 ) -> SetReply
-    requires closed { IsClosed S.Record.rules (S.world store.old) }
-    requires empty { frames.old.items ≡ [] }
-    requires room { len (S.world store.old).records ≤ vec_capacity frames.old }
+    requires { CanRun S.Record.rules (S.world store.old) frames.old }
     ensures step { ForAnswers (S.given store.new) (λ answers.
         Tells (S.world store.old) (S.world store.new) (told_by result) tally.old tally.new (Cancel number) (stepped S.Record.rules answers (S.world store.old) (Cancel number))) }
     ensures keeps { Keeps S.Record.rules (S.world store.old) (S.world store.new) }

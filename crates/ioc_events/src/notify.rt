@@ -1,11 +1,11 @@
 //! The effect of a put with notification by itself, and of a cancel.
-ghost use Rattle.std.specs.FinMap.{len};
 ghost use Rattle.std.specs.Vec.{vec_capacity};
-ghost use Rattle.std.specs.Prelude.{◌≡◌, ◌≤◌, ◌==◌, ◌+◌, ◌<◌, [], length};
+ghost use Rattle.std.specs.Prelude.{◌≡◌, ◌==◌, ◌+◌, ◌<◌, [], length};
 ghost use Rattle.ioc_ledger.specs.Requests.{None};
 ghost use Rattle.std.specs.List.{list_any};
-ghost use Rattle.ioc_store.specs.World.{Has, at, IsClosed, Keeps, has_place};
+ghost use Rattle.ioc_store.specs.World.{Has, at, Keeps, has_place};
 ghost use Rattle.ioc_store.specs.Given.{Answers, Begins};
+ghost use Rattle.ioc_process.specs.Ready.{CanProcess, CanRun};
 ghost use Rattle.ioc_process.specs.Runs.{ForAnswers};
 ghost use Rattle.ioc_events.specs.Starting.{value_to_put, must_wait};
 ghost use Rattle.ioc_events.specs.declared.event.Event.TheVariants.{Notify, Cancel};
@@ -60,12 +60,9 @@ fn begin_or_queue<S: Store>(
     waiting: &Waiting,
     tally: &mut Tally,
 )
-    requires there { Has (S.world store.old) waiting.now.target }
+    requires begins { CanProcess S.Record.rules (S.world store.old) waiting.now.target frames.old }
     requires place { length (S.world store.old).live + length (S.world store.old).ended < 256 }
     requires waits { length (S.world store.old).waiting < 256 }
-    requires closed { IsClosed S.Record.rules (S.world store.old) }
-    requires empty { frames.old.items ≡ [] }
-    requires room { len (S.world store.old).records ≤ vec_capacity frames.old }
     ensures done { ForAnswers (S.given store.new) (λ answers.
         Makes (S.world store.new) (told_by (SetReply.Notify waiting.now.number)) tally.old tally.new (begun_or_queued S.Record.rules answers (S.world store.old) waiting.now)) }
     ensures keeps { Keeps S.Record.rules (S.world store.old) (S.world store.new) }
@@ -92,9 +89,7 @@ pub fn notify<S: Store>(
     given: Input,
     tally: &mut Tally,
 ) -> SetReply
-    requires closed { IsClosed S.Record.rules (S.world store.old) }
-    requires empty { frames.old.items ≡ [] }
-    requires room { len (S.world store.old).records ≤ vec_capacity frames.old }
+    requires { CanRun S.Record.rules (S.world store.old) frames.old }
     ensures done { ForAnswers (S.given store.new) (λ answers.
         Makes (S.world store.new) (told_by result) tally.old tally.new (done_alone S.Record.rules answers (S.world store.old) (Notify target number field given))) }
     ensures keeps { Keeps S.Record.rules (S.world store.old) (S.world store.new) }

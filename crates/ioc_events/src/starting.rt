@@ -1,10 +1,10 @@
 //! Puts with notification that wait for their record: the order in which they start, and how one
 //! starts.
-ghost use Rattle.std.specs.FinMap.{len};
 ghost use Rattle.std.specs.Vec.{vec_capacity};
-ghost use Rattle.std.specs.Prelude.{◌≡◌, ◌≤◌, []};
-ghost use Rattle.ioc_store.specs.World.{Has, at, put, IsClosed, Keeps};
+ghost use Rattle.std.specs.Prelude.{◌≡◌, []};
+ghost use Rattle.ioc_store.specs.World.{Has, at, put, Keeps};
 ghost use Rattle.ioc_store.specs.Given.{Begins};
+ghost use Rattle.ioc_process.specs.Ready.{CanProcess, CanRun};
 ghost use Rattle.ioc_process.specs.Runs.{ForAnswers};
 ghost use Rattle.ioc_events.specs.Starting.{sooner, is_ready, next_waiting, taken_and_stored, started, all_started};
 ghost use Rattle.ioc_events.specs.Events.{Counts};
@@ -88,10 +88,7 @@ fn take_and_store<S: Store>(store: &mut S, waiting: &Waiting)
 /// Starts a put with notification: its record becomes part of it, the value is stored, and the
 /// record is processed as after a put. If nothing is processed, it ends immediately.
 pub fn start<S: Store>(store: &mut S, frames: &mut Vec<Frame>, waiting: &Waiting, tally: &mut Tally)
-    requires there { Has (S.world store.old) waiting.now.target }
-    requires closed { IsClosed S.Record.rules (S.world store.old) }
-    requires empty { frames.old.items ≡ [] }
-    requires room { len (S.world store.old).records ≤ vec_capacity frames.old }
+    requires { CanProcess S.Record.rules (S.world store.old) waiting.now.target frames.old }
     ensures started { ForAnswers (S.given store.new) (λ answers.
         Counts (S.world store.new) tally.old tally.new (started S.Record.rules answers (S.world store.old) waiting.now)) }
     ensures keeps { Keeps S.Record.rules (S.world store.old) (S.world store.new) }
@@ -112,9 +109,7 @@ pub fn start<S: Store>(store: &mut S, frames: &mut Vec<Frame>, waiting: &Waiting
 // waits.
 #[inline(never)]
 fn start_each<S: Store>(store: &mut S, frames: &mut Vec<Frame>, tally: &mut Tally)
-    requires closed { IsClosed S.Record.rules (S.world store.old) }
-    requires empty { frames.old.items ≡ [] }
-    requires room { len (S.world store.old).records ≤ vec_capacity frames.old }
+    requires { CanRun S.Record.rules (S.world store.old) frames.old }
     ensures started { ForAnswers (S.given store.new) (λ answers.
         Counts (S.world store.new) tally.old tally.new (all_started S.Record.rules answers (S.world store.old))) }
     ensures keeps { Keeps S.Record.rules (S.world store.old) (S.world store.new) }
@@ -135,9 +130,7 @@ fn start_each<S: Store>(store: &mut S, frames: &mut Vec<Frame>, tally: &mut Tall
 
 /// Starts those that wait and can start, one after another, until there is none.
 pub fn start_all<S: Store>(store: &mut S, frames: &mut Vec<Frame>, tally: &mut Tally)
-    requires closed { IsClosed S.Record.rules (S.world store.old) }
-    requires empty { frames.old.items ≡ [] }
-    requires room { len (S.world store.old).records ≤ vec_capacity frames.old }
+    requires { CanRun S.Record.rules (S.world store.old) frames.old }
     ensures started { ForAnswers (S.given store.new) (λ answers.
         Counts (S.world store.new) tally.old tally.new (all_started S.Record.rules answers (S.world store.old))) }
     ensures keeps { Keeps S.Record.rules (S.world store.old) (S.world store.new) }

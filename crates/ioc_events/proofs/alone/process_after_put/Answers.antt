@@ -2,7 +2,7 @@ use Rattle.std.proofs.Common.{true, refl, ap, sym, ◌∙◌}
 use Rattle.ioc_dbcommon.specs.declared.common.Common.{Common}
 use Rattle.ioc_dbcommon.specs.Steps.{with_put_mark, with_reprocess_mark}
 use Rattle.ioc_events.specs.Starting.{processes}
-use Rattle.ioc_process.specs.Keeping.{keeps_on, keeps-changed, closed_on}
+use Rattle.ioc_process.specs.Keeping.{keeps_on, keeps-changed, can_process_on}
 use Rattle.ioc_process.specs.Answering.{begins_same}
 use Rattle.ioc_events.proofs.Stepping.{makes-plain, makes-active, after_put-idle}
 use Rattle.ioc_events.proofs.alone.process_after_put.Goals as goal
@@ -38,29 +38,13 @@ returns-then-common-clause-keeps g c =
 pub returns-then-common-clause-given : goal.returns-then-common-clause-given
 returns-then-common-clause-given g c = begins_same c.mark_reprocess.ensures.given
 
-pub request_present-requires-clause-there : goal.request_present-requires-clause-there
-request_present-requires-clause-there g c =
+pub request_present-requires : goal.request_present-requires
+request_present-requires g c =
     let k = g.S.Record.RecordKind.rules in
     let lawful = g.met.S.Record.RecordKind.lawful in
     let w = g.S.Store.world c.args.store.now in
     let s = c.args.number in
-    rw c.mark_put.ensures.world ((keeps-changed k lawful w s c.requires.there (with_put_mark true) (λ it. (refl, refl))).has _ c.requires.there)
-
-pub request_present-requires-clause-closed : goal.request_present-requires-clause-closed
-request_present-requires-clause-closed g c =
-    let k = g.S.Record.RecordKind.rules in
-    let lawful = g.met.S.Record.RecordKind.lawful in
-    let w = g.S.Store.world c.args.store.now in
-    let s = c.args.number in
-    rw c.mark_put.ensures.world (closed_on k lawful (keeps-changed k lawful w s c.requires.there (with_put_mark true) (λ it. (refl, refl))) c.requires.closed)
-
-pub request_present-requires-clause-room : goal.request_present-requires-clause-room
-request_present-requires-clause-room g c =
-    let k = g.S.Record.RecordKind.rules in
-    let lawful = g.met.S.Record.RecordKind.lawful in
-    let w = g.S.Store.world c.args.store.now in
-    let s = c.args.number in
-    rw (c.mark_put.ensures.world, (keeps-changed k lawful w s c.requires.there (with_put_mark true) (λ it. (refl, refl))).count) c.requires.room
+    rw c.mark_put.ensures.world (can_process_on k lawful (keeps-changed k lawful w s c.requires.there (with_put_mark true) (λ it. (refl, refl))) c.requires.empty refl c.requires)
 
 pub returns-clause-after : goal.returns-clause-after
 returns-clause-after g c = λ answers begins.

@@ -4,7 +4,7 @@ use Rattle.ioc_values.specs.Conversion.{input_of}
 use Rattle.ioc_record.specs.PutFaults.{error_of}
 use Rattle.ioc_events.specs.declared.event.Event.TheVariants.{Put}
 use Rattle.ioc_store.specs.Worlds.{has-put}
-use Rattle.ioc_process.specs.Keeping.{keeps_on, closed_on}
+use Rattle.ioc_process.specs.Keeping.{keeps_on, can_process_on}
 use Rattle.ioc_events.proofs.Stepping.{makes-refused, step-put_refused, step-put}
 use Rattle.ioc_events.proofs.QuietEvents.{stored-keeps}
 use Rattle.ioc_events.proofs.alone.put_text.Goals as goal
@@ -16,21 +16,13 @@ returns-then-not-has-clause-done g c = λ answers begins.
 pub returns-in-Ok-clause-given : goal.returns-in-Ok-clause-given
 returns-in-Ok-clause-given g c = rw (c.rescan.ensures.given, c.in-Ok.ensures.given) at c.process_after_put.ensures.given
 
-pub process_after_put-requires-clause-there : goal.process_after_put-requires-clause-there
-process_after_put-requires-clause-there g c =
+pub process_after_put-requires : goal.process_after_put-requires
+process_after_put-requires g c =
     let k = g.S.Record.RecordKind.rules in
-    rw (c.rescan.ensures.world, c.in-Ok.ensures.stored) ((stored-keeps k g.met.S.Record.RecordKind.lawful (g.S.Store.world c.args.store.now) _ c.args.number c.args.field (input_of c.args.text.now) _ (sym c.has.ensures ∙ c.if-not-has.false) c.in-Ok.ensures.ok refl).has _ (sym c.has.ensures ∙ c.if-not-has.false))
-
-pub process_after_put-requires-clause-closed : goal.process_after_put-requires-clause-closed
-process_after_put-requires-clause-closed g c =
-    let k = g.S.Record.RecordKind.rules in
-    rw (c.rescan.ensures.world, c.in-Ok.ensures.stored) (closed_on k g.met.S.Record.RecordKind.lawful (stored-keeps k g.met.S.Record.RecordKind.lawful (g.S.Store.world c.args.store.now) _ c.args.number c.args.field (input_of c.args.text.now) _ (sym c.has.ensures ∙ c.if-not-has.false) c.in-Ok.ensures.ok refl) c.requires.closed)
-
-pub process_after_put-requires-clause-room : goal.process_after_put-requires-clause-room
-process_after_put-requires-clause-room g c =
-    let k = g.S.Record.RecordKind.rules in
-    let kept = stored-keeps k g.met.S.Record.RecordKind.lawful (g.S.Store.world c.args.store.now) _ c.args.number c.args.field (input_of c.args.text.now) _ (sym c.has.ensures ∙ c.if-not-has.false) c.in-Ok.ensures.ok refl in
-    rw (c.rescan.ensures.world, c.in-Ok.ensures.stored, kept.count) c.requires.room
+    let lawful = g.met.S.Record.RecordKind.lawful in
+    let there = sym c.has.ensures ∙ c.if-not-has.false in
+    rw (c.rescan.ensures.world, c.in-Ok.ensures.stored)
+    (can_process_on k lawful {before = c.args.frames.now} (stored-keeps k lawful (g.S.Store.world c.args.store.now) _ c.args.number c.args.field (input_of c.args.text.now) _ there c.in-Ok.ensures.ok refl) c.requires.empty refl (record { there = there; closed = c.requires.closed; empty = c.requires.empty; room = c.requires.room }))
 
 pub returns-in-Ok-clause-done : goal.returns-in-Ok-clause-done
 returns-in-Ok-clause-done g c = λ answers begins.

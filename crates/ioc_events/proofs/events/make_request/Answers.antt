@@ -1,15 +1,12 @@
 use Rattle.std.proofs.Common.{refl}
 use Rattle.ioc_events.specs.declared.event.Event.TheVariants.{Process}
 use Rattle.ioc_process.specs.Answering.{begins_on, accords_before}
-use Rattle.ioc_process.specs.Keeping.{keeps_on, closed_on}
+use Rattle.ioc_process.specs.Keeping.{keeps_on, can_run_on}
 use Rattle.ioc_events.proofs.Stepping.{tells-event}
 use Rattle.ioc_events.proofs.events.make_request.Goals as goal
 
-pub end_effect-requires-clause-closed : goal.end_effect-requires-clause-closed
-end_effect-requires-clause-closed g c = closed_on g.S.Record.RecordKind.rules g.met.S.Record.RecordKind.lawful c.request-effect.ensures.keeps c.requires.closed
-
-pub end_effect-requires-clause-room : goal.end_effect-requires-clause-room
-end_effect-requires-clause-room g c = rw (c.request-effect.ensures.keeps.count, c.request-effect.ensures.room) c.requires.room
+pub end_effect-requires : goal.end_effect-requires
+end_effect-requires g c = can_run_on g.S.Record.RecordKind.rules g.met.S.Record.RecordKind.lawful c.request-effect.ensures.keeps c.request-effect.ensures.empty c.request-effect.ensures.room c.requires
 
 pub returns-clause-step : goal.returns-clause-step
 returns-clause-step g c = λ answers begins.

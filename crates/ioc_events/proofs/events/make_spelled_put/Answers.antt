@@ -2,15 +2,12 @@ use Rattle.std.proofs.Common.{refl}
 use Rattle.ioc_values.specs.Conversion.{input_of}
 use Rattle.ioc_events.specs.declared.event.Event.TheVariants.{Put}
 use Rattle.ioc_process.specs.Answering.{begins_on, accords_before}
-use Rattle.ioc_process.specs.Keeping.{keeps_on, closed_on}
+use Rattle.ioc_process.specs.Keeping.{keeps_on, can_run_on}
 use Rattle.ioc_events.proofs.Stepping.{tells-event}
 use Rattle.ioc_events.proofs.events.make_spelled_put.Goals as goal
 
-pub end_effect-requires-clause-closed : goal.end_effect-requires-clause-closed
-end_effect-requires-clause-closed g c = closed_on g.S.Record.RecordKind.rules g.met.S.Record.RecordKind.lawful c.put_text-effect.ensures.keeps c.requires.closed
-
-pub end_effect-requires-clause-room : goal.end_effect-requires-clause-room
-end_effect-requires-clause-room g c = rw (c.put_text-effect.ensures.keeps.count, c.put_text-effect.ensures.room) c.requires.room
+pub end_effect-requires : goal.end_effect-requires
+end_effect-requires g c = can_run_on g.S.Record.RecordKind.rules g.met.S.Record.RecordKind.lawful c.put_text-effect.ensures.keeps c.put_text-effect.ensures.empty c.put_text-effect.ensures.room c.requires
 
 pub returns-clause-step : goal.returns-clause-step
 returns-clause-step g c = λ answers begins.

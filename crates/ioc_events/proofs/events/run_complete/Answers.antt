@@ -2,15 +2,12 @@ use Rattle.std.proofs.Common.{Bool, cond, refl, ap, sym, ◌∙◌}
 use Rattle.ioc_ledger.specs.Requests.{counted_completion}
 use Rattle.ioc_events.specs.declared.event.Event.TheVariants.{Complete}
 use Rattle.ioc_process.specs.Answering.{begins_on, accords_before}
-use Rattle.ioc_process.specs.Keeping.{closed_on}
+use Rattle.ioc_process.specs.Keeping.{can_run_on}
 use Rattle.ioc_events.proofs.Stepping.{tells-event}
 use Rattle.ioc_events.proofs.events.run_complete.Goals as goal
 
-pub end_event-requires-clause-closed : goal.end_event-requires-clause-closed
-end_event-requires-clause-closed g c = closed_on g.S.Record.RecordKind.rules g.met.S.Record.RecordKind.lawful c.complete-reply.ensures.keeps c.requires.closed
-
-pub end_event-requires-clause-room : goal.end_event-requires-clause-room
-end_event-requires-clause-room g c = rw (c.complete-reply.ensures.keeps.count, c.complete-reply.ensures.room) c.requires.room
+pub end_event-requires : goal.end_event-requires
+end_event-requires g c = can_run_on g.S.Record.RecordKind.rules g.met.S.Record.RecordKind.lawful c.complete-reply.ensures.keeps c.complete-reply.ensures.empty c.complete-reply.ensures.room c.requires
 
 pub returns-then-is_done-clause-step : goal.returns-then-is_done-clause-step
 returns-then-is_done-clause-step g c = λ answers begins.

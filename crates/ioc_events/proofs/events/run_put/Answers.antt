@@ -1,15 +1,12 @@
 use Rattle.std.proofs.Common.{refl}
 use Rattle.ioc_events.specs.declared.event.Event.TheVariants.{Put}
 use Rattle.ioc_process.specs.Answering.{begins_on, accords_before}
-use Rattle.ioc_process.specs.Keeping.{keeps_on, closed_on}
+use Rattle.ioc_process.specs.Keeping.{keeps_on, can_run_on}
 use Rattle.ioc_events.proofs.Stepping.{tells-event}
 use Rattle.ioc_events.proofs.events.run_put.Goals as goal
 
-pub end_event-requires-clause-closed : goal.end_event-requires-clause-closed
-end_event-requires-clause-closed g c = closed_on g.S.Record.RecordKind.rules g.met.S.Record.RecordKind.lawful c.put-reply.ensures.keeps c.requires.closed
-
-pub end_event-requires-clause-room : goal.end_event-requires-clause-room
-end_event-requires-clause-room g c = rw (c.put-reply.ensures.keeps.count, c.put-reply.ensures.room) c.requires.room
+pub end_event-requires : goal.end_event-requires
+end_event-requires g c = can_run_on g.S.Record.RecordKind.rules g.met.S.Record.RecordKind.lawful c.put-reply.ensures.keeps c.put-reply.ensures.empty c.put-reply.ensures.room c.requires
 
 pub returns-clause-step : goal.returns-clause-step
 returns-clause-step g c = λ answers begins.

@@ -1,6 +1,6 @@
-use Rattle.std.proofs.Common.{◌∙◌}
+use Rattle.std.proofs.Common.{refl, ◌∙◌}
 use Rattle.ioc_process.specs.Answering.{begins_same}
-use Rattle.ioc_process.specs.Keeping.{keeps_on, closed_on}
+use Rattle.ioc_process.specs.Keeping.{keeps_on, can_process_on}
 use Rattle.ioc_events.proofs.QuietEvents.{admitted-keeps, queued-keeps}
 use Rattle.ioc_events.proofs.StartCode.{admitted-waiting}
 use Rattle.ioc_events.proofs.notify.begin_or_queue.Goals as goal
@@ -8,19 +8,11 @@ use Rattle.ioc_events.proofs.notify.begin_or_queue.Goals as goal
 pub queue-requires : goal.queue-requires
 queue-requires g c = rw (c.admit.ensures.world, admitted-waiting c.args.waiting.now.number (g.S.Store.world c.args.store.now)) c.requires.waits
 
-pub start-requires-clause-there : goal.start-requires-clause-there
-start-requires-clause-there g c =
-    rw c.admit.ensures.world ((admitted-keeps g.S.Record.RecordKind.rules g.met.S.Record.RecordKind.lawful c.args.waiting.now.number (g.S.Store.world c.args.store.now)).has _ c.requires.there)
-
-pub start-requires-clause-closed : goal.start-requires-clause-closed
-start-requires-clause-closed g c =
+pub start-requires : goal.start-requires
+start-requires g c =
     let k = g.S.Record.RecordKind.rules in
     let lawful = g.met.S.Record.RecordKind.lawful in
-    rw c.admit.ensures.world (closed_on k lawful (admitted-keeps k lawful c.args.waiting.now.number (g.S.Store.world c.args.store.now)) c.requires.closed)
-
-pub start-requires-clause-room : goal.start-requires-clause-room
-start-requires-clause-room g c =
-    rw (c.admit.ensures.world, (admitted-keeps g.S.Record.RecordKind.rules g.met.S.Record.RecordKind.lawful c.args.waiting.now.number (g.S.Store.world c.args.store.now)).count) c.requires.room
+    rw c.admit.ensures.world (can_process_on k lawful (admitted-keeps k lawful c.args.waiting.now.number (g.S.Store.world c.args.store.now)) c.requires.begins.empty refl c.requires.begins)
 
 pub returns-then-waits-clause-keeps : goal.returns-then-waits-clause-keeps
 returns-then-waits-clause-keeps g c =

@@ -2,7 +2,7 @@ use Rattle.std.proofs.Common.{true, refl, ap, sym, ◌∙◌}
 use Rattle.ioc_dbcommon.specs.Steps.{with_put_mark}
 use Rattle.ioc_events.specs.Starting.{processes}
 use Rattle.ioc_process.specs.Answering.{begins_same}
-use Rattle.ioc_process.specs.Keeping.{keeps_on, keeps-changed, closed_on, notified-keeps}
+use Rattle.ioc_process.specs.Keeping.{keeps_on, keeps-changed, can_process_on, notified-keeps}
 use Rattle.ioc_events.proofs.QuietEvents.{taken-keeps}
 use Rattle.ioc_events.proofs.StartCode.{counts-told, counts-processed}
 use Rattle.ioc_events.proofs.starting.start.Goals as goal
@@ -34,29 +34,14 @@ returns-then-not-processes-clause-keeps g c =
 pub returns-then-not-processes-clause-given : goal.returns-then-not-processes-clause-given
 returns-then-not-processes-clause-given g c = begins_same (c.release_notification.ensures.given ∙ c.take_and_store.ensures.given)
 
-pub request_record-outcome-requires-clause-there : goal.request_record-outcome-requires-clause-there
-request_record-outcome-requires-clause-there g c =
+pub request_record-outcome-requires : goal.request_record-outcome-requires
+request_record-outcome-requires g c =
     let k = g.S.Record.RecordKind.rules in
     let lawful = g.met.S.Record.RecordKind.lawful in
     let taken = taken-keeps k lawful (g.S.Store.world c.args.store.now) c.args.waiting.now c.requires.there in
     let there = taken.has _ c.requires.there in
-    rw (c.mark_put.ensures.world, c.take_and_store.ensures.world) ((keeps-changed k lawful _ c.args.waiting.now.target there (with_put_mark true) (λ it. (refl, refl))).has _ there)
-
-pub request_record-outcome-requires-clause-closed : goal.request_record-outcome-requires-clause-closed
-request_record-outcome-requires-clause-closed g c =
-    let k = g.S.Record.RecordKind.rules in
-    let lawful = g.met.S.Record.RecordKind.lawful in
-    let taken = taken-keeps k lawful (g.S.Store.world c.args.store.now) c.args.waiting.now c.requires.there in
-    let there = taken.has _ c.requires.there in
-    rw (c.mark_put.ensures.world, c.take_and_store.ensures.world) (closed_on k lawful (keeps_on k taken (keeps-changed k lawful _ c.args.waiting.now.target there (with_put_mark true) (λ it. (refl, refl)))) c.requires.closed)
-
-pub request_record-outcome-requires-clause-room : goal.request_record-outcome-requires-clause-room
-request_record-outcome-requires-clause-room g c =
-    let k = g.S.Record.RecordKind.rules in
-    let lawful = g.met.S.Record.RecordKind.lawful in
-    let taken = taken-keeps k lawful (g.S.Store.world c.args.store.now) c.args.waiting.now c.requires.there in
-    let there = taken.has _ c.requires.there in
-    rw (c.mark_put.ensures.world, c.take_and_store.ensures.world, (keeps_on k taken (keeps-changed k lawful _ c.args.waiting.now.target there (with_put_mark true) (λ it. (refl, refl)))).count) c.requires.room
+    rw (c.mark_put.ensures.world, c.take_and_store.ensures.world)
+    (can_process_on k lawful (keeps_on k taken (keeps-changed k lawful _ c.args.waiting.now.target there (with_put_mark true) (λ it. (refl, refl)))) c.requires.empty refl c.requires)
 
 pub returns-clause-started : goal.returns-clause-started
 returns-clause-started g c = λ answers begins.

@@ -2,7 +2,7 @@ use Rattle.std.proofs.Common.{◌≡◌, ◌-◌, ℕ, suc, length, refl, ap, sy
 use Rattle.ioc_device.specs.declared.Answer.TheVariants.{Fault}
 use Rattle.ioc_events.specs.Starting.{all_started}
 use Rattle.ioc_process.specs.Answering.{begins_same, begins_on, accords_before}
-use Rattle.ioc_process.specs.Keeping.{keeps_all, keeps_on, closed_on}
+use Rattle.ioc_process.specs.Keeping.{can_process_on, keeps_all, keeps_on, closed_on}
 use Rattle.ioc_events.proofs.QuietEvents.{unqueued-keeps}
 use Rattle.ioc_events.proofs.StartRules.{no-start}
 use Rattle.ioc_events.proofs.StartCode.{LeadsOn, leads-here, leads-next, leads-end, leads-done, next-has}
@@ -30,25 +30,15 @@ returns-in_default-clause-started g c = λ answers begins.
     let lawful = g.met.S.Record.RecordKind.lawful in
     leads-end k lawful answers _ c.loop-left.left _ _ _ _ (c.loop-left.invariant.leads answers begins) (no-start k lawful answers c.loop-left.left _ (sym c.next_waiting.ensures ∙ c.in_default.is))
 
-pub start-requires-clause-there : goal.start-requires-clause-there
-start-requires-clause-there g c =
+pub start-requires : goal.start-requires
+start-requires g c =
     let k = g.S.Record.RecordKind.rules in
     let lawful = g.met.S.Record.RecordKind.lawful in
     let w = g.S.Store.world c.loop-left.store in
+    let i = c.loop-left.invariant in
     let there = next-has k lawful (λ calls target ask. Fault) w c.in-Some.waiting (sym c.next_waiting.ensures ∙ c.in-Some.is) in
-    rw c.unqueue.ensures.world ((unqueued-keeps k lawful c.in-Some.waiting.number w).has _ there)
-
-pub start-requires-clause-closed : goal.start-requires-clause-closed
-start-requires-clause-closed g c =
-    let k = g.S.Record.RecordKind.rules in
-    let lawful = g.met.S.Record.RecordKind.lawful in
-    rw c.unqueue.ensures.world (closed_on k lawful (unqueued-keeps k lawful c.in-Some.waiting.number _) c.loop-left.invariant.closed)
-
-pub start-requires-clause-room : goal.start-requires-clause-room
-start-requires-clause-room g c =
-    let k = g.S.Record.RecordKind.rules in
-    let lawful = g.met.S.Record.RecordKind.lawful in
-    rw (c.unqueue.ensures.world, (unqueued-keeps k lawful c.in-Some.waiting.number (g.S.Store.world c.loop-left.store)).count) c.loop-left.invariant.enough
+    rw c.unqueue.ensures.world
+    (can_process_on k lawful {before = c.loop-left.frames} (unqueued-keeps k lawful c.in-Some.waiting.number w) i.empty refl (record { there = there; closed = i.closed; empty = i.empty; room = i.enough }))
 
 pub loop-left-preserved : goal.loop-left-preserved
 loop-left-preserved g c =
