@@ -12,7 +12,7 @@ ghost use Rattle.ioc_events.specs.Step.{is_refusal, completes, stepped};
 ghost use Rattle.ioc_values.specs.declared.value.Finished.{Finished};
 ghost use Rattle.ioc_ledger.specs.Requests.{counted_started};
 ghost use Rattle.ioc_values.specs.Conversion.{input_of};
-ghost use Rattle.ioc_events.specs.Events.{Tells, reply_of, ends_unless, ends, Ends};
+ghost use Rattle.ioc_events.specs.Events.{Tells, reply_of, ends_unless, Ends};
 ghost use Rattle.ioc_events.specs.SetReply.{told_by};
 
 use crate::reply::{Effect, Reply, is_refused};
@@ -73,7 +73,7 @@ fn is_done(told: &SetReply) -> bool
 // Ends an event. Unless it was refused, waiting puts with notification start if they can. The calls
 // from `asked` on that are answered later are counted.
 #[inline(always)]
-fn end_unless<S: Store>(
+fn end_event<S: Store>(
     store: &mut S,
     frames: &mut Vec<Frame>,
     asked: usize,
@@ -92,45 +92,6 @@ fn end_unless<S: Store>(
         start_all(store, frames, tally);
     }
     count_started(store, asked, tally);
-}
-
-// Ends an event, given its reply.
-fn end_event<S: Store>(
-    store: &mut S,
-    frames: &mut Vec<Frame>,
-    asked: usize,
-    reply: &SetReply,
-    tally: &mut Tally,
-)
-    requires { CanRun S.Record.rules (S.world store.old) frames.old }
-    ensures ends { ForAnswers (S.given store.new) (λ answers.
-        Ends (S.world store.new) asked tally.old tally.new (ends S.Record.rules answers (S.world store.old) (told_by reply.now))) }
-    ensures keeps { Keeps S.Record.rules (S.world store.old) (S.world store.new) }
-    ensures given { Begins S.Device.gives (S.given store.old) (S.given store.new) }
-    ensures empty { frames.new.items ≡ [] }
-    ensures room { vec_capacity frames.new ≡ vec_capacity frames.old }
-{
-    end_unless(store, frames, asked, reply.is_refused(), tally);
-}
-
-// Ends an event, given the effect of a request or a put.
-#[inline(always)]
-fn end_effect<S: Store>(
-    store: &mut S,
-    frames: &mut Vec<Frame>,
-    asked: usize,
-    effect: &Effect,
-    tally: &mut Tally,
-)
-    requires { CanRun S.Record.rules (S.world store.old) frames.old }
-    ensures ends { ForAnswers (S.given store.new) (λ answers.
-        Ends (S.world store.new) asked tally.old tally.new (ends S.Record.rules answers (S.world store.old) (reply_of effect.now))) }
-    ensures keeps { Keeps S.Record.rules (S.world store.old) (S.world store.new) }
-    ensures given { Begins S.Device.gives (S.given store.old) (S.given store.new) }
-    ensures empty { frames.new.items ≡ [] }
-    ensures room { vec_capacity frames.new ≡ vec_capacity frames.old }
-{
-    end_unless(store, frames, asked, is_refused(effect), tally);
 }
 
 /// Requests a record, and returns the effect.
@@ -155,7 +116,7 @@ pub fn make_request<S: Store>(
 {
     let asked = store.asked();
     let effect = alone::request(store, frames, number, tally);
-    end_effect(store, frames, asked, &effect, tally);
+    end_event(store, frames, asked, is_refused(&effect), tally);
     effect
 }
 
@@ -211,7 +172,7 @@ pub fn run_put<S: Store>(
 {
     let asked = store.asked();
     let reply = alone::put(store, frames, number, field, given, tally);
-    end_event(store, frames, asked, &reply, tally);
+    end_event(store, frames, asked, reply.is_refused(), tally);
     reply
 }
 
@@ -239,7 +200,7 @@ pub fn make_spelled_put<S: Store>(
 {
     let asked = store.asked();
     let effect = alone::put_text(store, frames, number, field, text, tally);
-    end_effect(store, frames, asked, &effect, tally);
+    end_event(store, frames, asked, is_refused(&effect), tally);
     effect
 }
 
@@ -270,7 +231,7 @@ pub fn run_complete<S: Store>(
 {
     let asked = store.asked();
     let reply = alone::complete(store, frames, number, wait, finished, tally);
-    end_event(store, frames, asked, &reply, tally);
+    end_event(store, frames, asked, reply.is_refused(), tally);
     if is_done(&reply) {
         tally.count_completion();
     }
@@ -305,7 +266,7 @@ pub fn run_notify<S: Store>(
 {
     let asked = store.asked();
     let reply = notify::notify(store, frames, target, number, field, given, tally);
-    end_event(store, frames, asked, &reply, tally);
+    end_event(store, frames, asked, reply.is_refused(), tally);
     reply
 }
 
@@ -331,6 +292,6 @@ pub fn run_cancel<S: Store>(
 {
     let asked = store.asked();
     let reply = notify::cancel(store, number);
-    end_event(store, frames, asked, &reply, tally);
+    end_event(store, frames, asked, reply.is_refused(), tally);
     reply
 }

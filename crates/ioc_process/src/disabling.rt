@@ -57,7 +57,6 @@ pub fn leave_alone<S: Store>(store: &mut S, number: RecordNo) -> Next
 // Reads SDIS of a record. If the link has PP and the record that it names is passive, that one is
 // requested first.
 #[tactic(auto, unfolding(crate::specs::Processing::read_link, crate::specs::Processing::ran_after, ioc_store::specs::Rests::disable_came, crate::specs::Frames::after_disable))]
-#[inline(always)]
 fn read_disable<S: Store>(
     store: &mut S,
     frames: &mut Vec<Frame>,
@@ -72,8 +71,7 @@ fn read_disable<S: Store>(
 {
     match link {
         LinkUse::Unused => judge(store, frames, number),
-        LinkUse::OwnDevice => judge_faulted(store, frames, number),
-        LinkUse::Absent => judge_faulted(store, frames, number),
+        LinkUse::OwnDevice | LinkUse::Absent => judge_faulted(store, frames, number),
         LinkUse::Standing(target) => {
             if passes_on(store, target.process_passive, target.number) {
                 open_frame(store, frames, number, ResumePoint::ReadingDisable(target));

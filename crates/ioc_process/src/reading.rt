@@ -77,8 +77,7 @@ fn begin_reading<S: Store>(
 {
     match link {
         LinkUse::Unused => finish_body(store, frames, number, &Got::Nothing),
-        LinkUse::OwnDevice => take_fault(store, frames, number),
-        LinkUse::Absent => take_fault(store, frames, number),
+        LinkUse::OwnDevice | LinkUse::Absent => take_fault(store, frames, number),
         LinkUse::Standing(target) => {
             if passes_on(store, target.process_passive, target.number) {
                 open_frame(store, frames, number, ResumePoint::Reading(target));

@@ -13,7 +13,7 @@ pub returns-then-is_done-clause-step : goal.returns-then-is_done-clause-step
 returns-then-is_done-clause-step g c = λ answers begins.
     let t = c.end_event.new.tally in
     tells-event g.S.Record.RecordKind.rules answers _ _ _ (Complete c.args.number c.args.wait c.args.finished) _ _ _ _ t _ c.asked-asked.ensures
-    (c.complete-reply.ensures.done answers (accords_before c.end_event.ensures.given begins)) refl (c.end_event.ensures.ends answers begins)
+    (c.complete-reply.ensures.done answers (accords_before c.end_event.ensures.given begins)) refl (rw c.is_refused.ensures at (c.end_event.ensures.ends answers begins))
     (c.count_completion.ensures ∙ ap (λ (b : Bool). cond b (counted_completion t) t) (sym (sym (c.is_done.ensures c.args.number c.args.wait c.args.finished) ∙ c.if-is_done.true)))
 
 pub returns-then-is_done-clause-given : goal.returns-then-is_done-clause-given
@@ -23,7 +23,7 @@ pub returns-else-is_done-clause-step : goal.returns-else-is_done-clause-step
 returns-else-is_done-clause-step g c = λ answers begins.
     let t = c.end_event.new.tally in
     tells-event g.S.Record.RecordKind.rules answers _ _ _ (Complete c.args.number c.args.wait c.args.finished) _ _ _ _ t _ c.asked-asked.ensures
-    (c.complete-reply.ensures.done answers (accords_before c.end_event.ensures.given begins)) refl (c.end_event.ensures.ends answers begins)
+    (c.complete-reply.ensures.done answers (accords_before c.end_event.ensures.given begins)) refl (rw c.is_refused.ensures at (c.end_event.ensures.ends answers begins))
     (ap (λ (b : Bool). cond b (counted_completion t) t) (sym (sym (c.is_done.ensures c.args.number c.args.wait c.args.finished) ∙ c.if-is_done.false)))
 
 pub returns-else-is_done-clause-given : goal.returns-else-is_done-clause-given

@@ -10,7 +10,7 @@ end_event-requires g c = can_run_on g.S.Record.RecordKind.rules g.met.S.Record.R
 
 pub returns-clause-step : goal.returns-clause-step
 returns-clause-step g c = λ answers begins.
-    tells-event g.S.Record.RecordKind.rules answers _ _ _ (Put c.args.number c.args.field c.args.given) _ _ _ _ _ _ c.asked-asked.ensures (c.put-reply.ensures.done answers (accords_before c.end_event.ensures.given begins)) refl (c.end_event.ensures.ends answers begins) refl
+    tells-event g.S.Record.RecordKind.rules answers _ _ _ (Put c.args.number c.args.field c.args.given) _ _ _ _ _ _ c.asked-asked.ensures (c.put-reply.ensures.done answers (accords_before c.end_event.ensures.given begins)) refl (rw c.is_refused.ensures at (c.end_event.ensures.ends answers begins)) refl
 
 pub returns-clause-keeps : goal.returns-clause-keeps
 returns-clause-keeps g c = keeps_on g.S.Record.RecordKind.rules c.put-reply.ensures.keeps c.end_event.ensures.keeps

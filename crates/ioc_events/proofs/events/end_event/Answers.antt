@@ -1,7 +1,7 @@
 use Rattle.std.proofs.Common.{ap}
 use Rattle.ioc_process.specs.Answering.{begins_same}
-use Rattle.ioc_events.proofs.events.end_unless.Goals.{then-not-refused, else-not-refused}
-use Rattle.ioc_events.proofs.events.end_unless.Goals as goal
+use Rattle.ioc_events.proofs.events.end_event.Goals.{then-not-refused, else-not-refused}
+use Rattle.ioc_events.proofs.events.end_event.Goals as goal
 
 pub returns-clause-given : goal.returns-clause-given
 returns-clause-given g c =
