@@ -1,4 +1,4 @@
-use Rattle.std.proofs.Common.{◌≡◌, Err, rules, sym, ap, ◌∙◌}
+use Rattle.std.proofs.Common.{◌≡◌, Err, rules}
 use Rattle.ioc_values.specs.Conversion.{converted_text}
 use Rattle.ioc_record.specs.Values.{field_sort}
 use Rattle.ioc_record.proofs.Refusing.{not_put}
