@@ -27,7 +27,8 @@ pub record IsReadyFor {R : Type 0} (k : RecordRules R) (w : World R) (s : ℕ) (
   pub ready : IsReady k w s frames
   pub standing : Has w t.number
 
--- Holds if record `s` is ready, and the record that this use of a link names exists, if it names one.
+-- Holds if record `s` is ready, and the record that this use of a link names exists, if it names
+-- one.
 pub record CanReadThrough {R : Type 0} (k : RecordRules R) (w : World R) (s : ℕ) (link : LinkUse) (frames : Vec Frame) : Type 0 where
   pub ready : IsReady k w s frames
   pub standing : IsStanding w link
@@ -37,8 +38,8 @@ pub record IsReadyNeeding {R : Type 0} (k : RecordRules R) (w : World R) (s : �
   pub ready : IsReady k w s frames
   pub wants : need_of (k.begin (at k w s)) ≡ need
 
--- Holds if record `s` exists, no link leaves the world, and there is room for a frame of each record
--- that is idle.
+-- Holds if record `s` exists, no link leaves the world, and there is room for a frame of each
+-- record that is idle.
 pub record CanRequest {R : Type 0} (k : RecordRules R) (w : World R) (s : ℕ) (frames : Vec Frame) : Type 0 where
   pub there : Has w s
   pub closed : IsClosed k w

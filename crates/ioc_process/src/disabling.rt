@@ -31,7 +31,9 @@ pub fn begin_with_disable<S: Store>(
     number: RecordNo,
 ) -> Next
     requires ready { IsReady S.Record.rules (S.world store.old) number frames.old }
-    ensures turn { LeadsTo (λ answers. after_disable S.Record.rules answers number (read_link S.Record.rules (request S.Record.rules answers) (λ _. disable_kind) (S.world store.old) number (use_of (common_at S.Record.rules (S.world store.old) number).disable_link)))
+    ensures turn { LeadsTo (λ answers. after_disable S.Record.rules answers number (read_link S.Record.rules
+        (request S.Record.rules answers) (λ _. disable_kind) (S.world store.old) number (use_of
+        (common_at S.Record.rules (S.world store.old) number).disable_link)))
         S.Record.rules (S.given store.new) (S.world store.new) frames.new result }
     ensures given { Begins S.Device.gives (S.given store.old) (S.given store.new) }
     ensures takes { TakesTurn S.Record.rules (S.world store.old) (S.world store.new) most_of_request frames.old frames.new result }
@@ -64,7 +66,8 @@ fn read_disable<S: Store>(
     link: LinkUse,
 ) -> Next
     requires { CanReadThrough S.Record.rules (S.world store.old) number link frames.old }
-    ensures turn { LeadsTo (λ answers. after_disable S.Record.rules answers number (read_link S.Record.rules (request S.Record.rules answers) (λ _. disable_kind) (S.world store.old) number link))
+    ensures turn { LeadsTo (λ answers. after_disable S.Record.rules answers number (read_link S.Record.rules
+        (request S.Record.rules answers) (λ _. disable_kind) (S.world store.old) number link))
         S.Record.rules (S.given store.new) (S.world store.new) frames.new result }
     ensures given { Begins S.Device.gives (S.given store.old) (S.given store.new) }
     ensures takes { TakesTurn S.Record.rules (S.world store.old) (S.world store.new) most_of_request frames.old frames.new result }
@@ -86,7 +89,8 @@ fn read_disable<S: Store>(
 // Continues a request whose SDIS link returned a fault.
 fn judge_faulted<S: Store>(store: &mut S, frames: &mut Vec<Frame>, number: RecordNo) -> Next
     requires ready { IsReady S.Record.rules (S.world store.old) number frames.old }
-    ensures turn { LeadsTo (λ answers. judged S.Record.rules answers (request S.Record.rules answers) (faulted S.Record.rules (S.world store.old) number) number)
+    ensures turn { LeadsTo (λ answers. judged S.Record.rules answers (request S.Record.rules answers)
+        (faulted S.Record.rules (S.world store.old) number) number)
         S.Record.rules (S.given store.new) (S.world store.new) frames.new result }
     ensures given { Begins S.Device.gives (S.given store.old) (S.given store.new) }
     ensures takes { TakesTurn S.Record.rules (S.world store.old) (S.world store.new) most_calls frames.old frames.new result }
@@ -103,7 +107,8 @@ pub fn take_disable<S: Store>(
     target: StandingLink,
 ) -> Next
     requires { IsReadyFor S.Record.rules (S.world store.old) number target frames.old }
-    ensures turn { LeadsTo (λ answers. let read = read_at S.Record.rules (λ _. disable_kind) (S.world store.old) number target in judged S.Record.rules answers (request S.Record.rules answers) (disable_came S.Record.rules read.world number read.came) number)
+    ensures turn { LeadsTo (λ answers. let read = read_at S.Record.rules (λ _. disable_kind) (S.world store.old) number target in
+        judged S.Record.rules answers (request S.Record.rules answers) (disable_came S.Record.rules read.world number read.came) number)
         S.Record.rules (S.given store.new) (S.world store.new) frames.new result }
     ensures given { Begins S.Device.gives (S.given store.old) (S.given store.new) }
     ensures takes { TakesTurn S.Record.rules (S.world store.old) (S.world store.new) most_calls frames.old frames.new result }

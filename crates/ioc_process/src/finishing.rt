@@ -146,7 +146,8 @@ pub fn put_out<S: Store>(
 ) -> Next
     requires standing { (t : StandingLink) (v : Value) → output.now ≡ WriteLink (Standing t) v → Has (S.world store.old) t.number }
     requires ready { IsReady S.Record.rules (S.world store.old) number frames.old }
-    ensures turn { LeadsTo (λ answers. processed (after_output S.Record.rules (request S.Record.rules answers) number (put_out S.Record.rules answers (request S.Record.rules answers) (S.world store.old) number output.now)))
+    ensures turn { LeadsTo (λ answers. processed (after_output S.Record.rules (request S.Record.rules answers) number
+        (put_out S.Record.rules answers (request S.Record.rules answers) (S.world store.old) number output.now)))
         S.Record.rules (S.given store.new) (S.world store.new) frames.new result }
     ensures given { Begins S.Device.gives (S.given store.old) (S.given store.new) }
     ensures takes { TakesTurn S.Record.rules (S.world store.old) (S.world store.new) 17 frames.old frames.new result }
@@ -172,7 +173,8 @@ pub fn put_out<S: Store>(
 /// Continues a body whose link returned a fault.
 pub fn take_fault<S: Store>(store: &mut S, frames: &mut Vec<Frame>, number: RecordNo) -> Next
     requires ready { IsReady S.Record.rules (S.world store.old) number frames.old }
-    ensures turn { LeadsTo (λ answers. processed (completed S.Record.rules answers (request S.Record.rules answers) (faulted S.Record.rules (S.world store.old) number) number Got.Fault))
+    ensures turn { LeadsTo (λ answers. processed (completed S.Record.rules answers (request S.Record.rules answers)
+        (faulted S.Record.rules (S.world store.old) number) number Got.Fault))
         S.Record.rules (S.given store.new) (S.world store.new) frames.new result }
     ensures given { Begins S.Device.gives (S.given store.old) (S.given store.new) }
     ensures takes { TakesTurn S.Record.rules (S.world store.old) (S.world store.new) 17 frames.old frames.new result }
@@ -190,7 +192,8 @@ pub fn finish_body<S: Store>(
     got: &Got,
 ) -> Next
     requires ready { IsReady S.Record.rules (S.world store.old) number frames.old }
-    ensures turn { LeadsTo (λ answers. processed (completed S.Record.rules answers (request S.Record.rules answers) (S.world store.old) number got.now))
+    ensures turn { LeadsTo (λ answers. processed (completed S.Record.rules answers
+        (request S.Record.rules answers) (S.world store.old) number got.now))
         S.Record.rules (S.given store.new) (S.world store.new) frames.new result }
     ensures given { Begins S.Device.gives (S.given store.old) (S.given store.new) }
     ensures takes { TakesTurn S.Record.rules (S.world store.old) (S.world store.new) 17 frames.old frames.new result }

@@ -60,8 +60,8 @@ pub fn begin_asking<S: Store>(store: &mut S, frames: &mut Vec<Frame>, number: Re
     }
 }
 
-/// Begins a body by reading a link. If the link has PP and the record that it names is passive, that
-/// one is requested first.
+/// Begins a body by reading a link. If the link has PP and the record that it names is passive,
+/// that one is requested first.
 #[tactic(auto, unfolding(crate::specs::Processing::read_link, crate::specs::Frames::after_reading))]
 fn begin_reading<S: Store>(
     store: &mut S,
@@ -70,7 +70,8 @@ fn begin_reading<S: Store>(
     link: LinkUse,
 ) -> Next
     requires { CanReadThrough S.Record.rules (S.world store.old) number link frames.old }
-    ensures turn { LeadsTo (λ answers. processed (after_reading S.Record.rules answers number (as_input (read_link S.Record.rules (request S.Record.rules answers) S.Record.rules.input_kind (S.world store.old) number link))))
+    ensures turn { LeadsTo (λ answers. processed (after_reading S.Record.rules answers number (as_input (read_link S.Record.rules
+        (request S.Record.rules answers) S.Record.rules.input_kind (S.world store.old) number link))))
         S.Record.rules (S.given store.new) (S.world store.new) frames.new result }
     ensures given { Begins S.Device.gives (S.given store.old) (S.given store.new) }
     ensures takes { TakesTurn S.Record.rules (S.world store.old) (S.world store.new) most_calls frames.old frames.new result }
@@ -98,7 +99,9 @@ pub fn take_value<S: Store>(
     target: StandingLink,
 ) -> Next
     requires { IsReadyFor S.Record.rules (S.world store.old) number target frames.old }
-    ensures turn { LeadsTo (λ answers. processed (let read = read_at S.Record.rules S.Record.rules.input_kind (S.world store.old) number target in completed S.Record.rules answers (request S.Record.rules answers) read.world number read.came))
+    ensures turn { LeadsTo (λ answers. processed
+        (let read = read_at S.Record.rules S.Record.rules.input_kind (S.world store.old) number target in
+        completed S.Record.rules answers (request S.Record.rules answers) read.world number read.came))
         S.Record.rules (S.given store.new) (S.world store.new) frames.new result }
     ensures given { Begins S.Device.gives (S.given store.old) (S.given store.new) }
     ensures takes { TakesTurn S.Record.rules (S.world store.old) (S.world store.new) 17 frames.old frames.new result }
