@@ -1,7 +1,7 @@
 -- A put with notification ends if and only if nothing is part of it any more.
 use Rattle.std.proofs.Common.{◌<◌, ◌^◌, ◌≡◌, ◌≢◌, ℕ, zero, suc, ◌+◌, ◌≤◌, true, false, cond, eqb, nat_lt, List, [], ◌∷◌, Option, Some, None as Nothing_, T, is_some, IsTrue, unwrap_or, refl, sym, ap, subst, ◌∙◌, ◌⊎◌, inl, inr, arith}
 use Rattle.std.specs.Prelude.{◌↔◌, Contains}
-use Rattle.std.specs.Ordering.{nat_cmp, is_eq}
+use Rattle.std.specs.Ordering.{nat_cmp}
 use Rattle.std.specs.Cmp.{unsigned_tied}
 use Rattle.std.specs.FinMap.{get, len, get-entries, entries, entries_sorted, find}
 use Rattle.std.specs.FinMap.Entries.{is_sorted, below_all}
@@ -12,7 +12,7 @@ use Rattle.ioc_notify.specs.declared.waiting_lists.Waiting.{Waiting}
 use Rattle.ioc_record.specs.RecordRules.{RecordRules}
 use Rattle.ioc_record.specs.Laws.{IsLawful}
 use Rattle.ioc_store.specs.World.{World, Has, IsClosed, common_at, at, total, is_notification, begun, begun_at}
-use Rattle.ioc_store.specs.Weights.{first, second, less}
+use Rattle.ioc_store.specs.Weights.{first, second}
 use Rattle.ioc_store.specs.Given.{Answers, listed}
 use Rattle.ioc_events.specs.declared.event.Event.{Event}
 use Rattle.ioc_events.specs.declared.event.Event.TheVariants.{Cancel}
@@ -24,6 +24,7 @@ use Rattle.ioc_events.specs.Holding.{how_many, one_if_has, holders, IsCounted, I
 use Rattle.ioc_events.proofs.Counting.{few-one, live-lives, lives, one_if, some_more}
 use Rattle.ioc_events.proofs.Holders.{ends, stands, holds-some}
 use Rattle.ioc_events.proofs.HeldStarts.{waiters, waiters-some, Sound}
+use Rattle.ioc_events.proofs.Sums.{find-none}
 use Rattle.ioc_events.proofs.HeldSteps.{begins, ceases, step-leads, step-cancelled}
 
 -- An item that is counted is in the list.
@@ -49,12 +50,6 @@ there-counted number (y ∷ xs) x (suc i, lt, is) =
 none-some : {X : Type 0} {x : X} → Nothing_ ≡ Some x → ⊥
 none-some is = cc
 
--- A key below all others isn't among them.
-find_apart : {X : Type 0} (q : ℕ) (es : List (ℕ × X)) → T (below_all nat_cmp q es) → find nat_cmp q es ≡ Nothing_
-find_apart q [] below = refl
-find_apart q (e ∷ es) below =
-    ap (λ r. cond (is_eq r) (Some e.1) (find nat_cmp q es)) (less (nat_cmp q e.0) (first _ _ below)) ∙ find_apart q es (second _ _ below)
-
 -- A sum that isn't zero has an item that isn't zero.
 total-found : {X : Type 0} (weight : X → ℕ) (es : List (ℕ × X)) → T (is_sorted nat_cmp es) → 1 ≤ total weight es → (n : ℕ) × (r : X) × (find nat_cmp n es ≡ Some r) × (1 ≤ weight r)
 total-found weight [] sorted some = absurd (omega arith)
@@ -64,7 +59,7 @@ total-found weight (e ∷ es) sorted some =
       | false ↦ λ isnt.
           let none = ltb-false 0 (weight e.1) isnt in
           let later = total-found weight es (second (below_all nat_cmp e.0 es) (is_sorted nat_cmp es) sorted) (omega arith) in
-          let apart : later.0 ≢ e.0 = λ same. absurd (let gone : find nat_cmp later.0 es ≡ Nothing_ = ap (λ q. find nat_cmp q es) same ∙ find_apart e.0 es (first (below_all nat_cmp e.0 es) (is_sorted nat_cmp es) sorted) in none-some (sym gone ∙ later.2)) in
+          let apart : later.0 ≢ e.0 = λ same. absurd (let gone : find nat_cmp later.0 es ≡ Nothing_ = ap (λ q. find nat_cmp q es) same ∙ find-none e.0 es (first (below_all nat_cmp e.0 es) (is_sorted nat_cmp es) sorted) in none-some (sym gone ∙ later.2)) in
           (later.0, later.1, rw (unsigned_tied later.0 e.0, ne_eqb later.0 e.0 apart) later.2, later.3)
     ] refl
 

@@ -1,5 +1,5 @@
 mod Besides
-mod RecordLists
+pub mod RecordLists
 mod Stepping
 mod StartRules
 mod Waitings
@@ -16,6 +16,9 @@ mod Holders
 mod Carrying
 mod HeldStarts
 mod HeldSteps
-mod Ended
+pub mod Ended
 mod ToldEvents
 mod Apart
+pub mod Beginning
+pub mod Rewired
+pub mod Sums

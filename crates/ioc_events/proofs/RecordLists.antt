@@ -10,7 +10,7 @@ use Rattle.ioc_notify.specs.Waits.{at_record, without}
 -- Lemmas about filtered lists.
 
 -- An item is in the filtered list if and only if it is in the list and passes.
-passes-there : {X : Type 0} (p : X → Bool) (xs : List X) (x : X) → Contains (filter p xs) x → Contains xs x × (p x ≡ true)
+pub passes-there : {X : Type 0} (p : X → Bool) (xs : List X) (x : X) → Contains (filter p xs) x → Contains xs x × (p x ≡ true)
 passes-there p xs x h = (
   All-contains (Contains xs) (filter p xs) x (All-filter p (Contains xs) xs (All-contains_itself xs)) h,
   All-contains (λ y. p y ≡ true) (filter p xs) x (filter_passes p xs) h,
@@ -30,7 +30,7 @@ all-kept p (y ∷ xs) =
     let rest = All-weaker (IsKept p (filter p xs)) (IsKept p kept) (λ x h is. behind (p y) y (filter p xs) x (h is)) xs (all-kept p xs) in
     All-cons (IsKept p kept) y xs (λ is. rw is (0, omega arith, refl)) rest
 
-there-passes : {X : Type 0} (p : X → Bool) (xs : List X) (x : X) → Contains xs x → p x ≡ true → Contains (filter p xs) x
+pub there-passes : {X : Type 0} (p : X → Bool) (xs : List X) (x : X) → Contains xs x → p x ≡ true → Contains (filter p xs) x
 there-passes p xs x h = All-contains (IsKept p (filter p xs)) xs x (all-kept p xs) h
 
 -- Two filters commute.
@@ -99,7 +99,7 @@ added-elsewhere xs x target apart =
     filter-append p xs (x ∷ []) ∙ ap (λ (b : Bool). filter p xs ++ cond b (x ∷ []) []) none ∙ append-nil (filter p xs)
 
 -- Removing one commutes with selecting the list of a record.
-taken-from_each : (number target : ℕ) (xs : List Waiting) → at_record target (without number xs) ≡ without number (at_record target xs)
+pub taken-from_each : (number target : ℕ) (xs : List Waiting) → at_record target (without number xs) ≡ without number (at_record target xs)
 taken-from_each number target xs = two_filters (λ (w : Waiting). nat_eq w.target target) (λ (w : Waiting). not (nat_eq w.number number)) xs
 
 pub taken-same : (number target : ℕ) (xs ys : List Waiting) → at_record target xs ≡ at_record target ys → at_record target (without number xs) ≡ at_record target (without number ys)

@@ -1,5 +1,5 @@
 -- The counts of events.
-use Rattle.std.proofs.Common.{◌≡◌, ℕ, ◌+◌, ◌-◌, ◌^◌, Bool, true, false, cond, nat_lt, List, [], ◌∷◌, ◌++◌, length, drop, refl, sym, ap, ◌∙◌, subst}
+use Rattle.std.proofs.Common.{◌≡◌, ℕ, ◌+◌, ◌-◌, ◌^◌, Bool, true, false, cond, nat_lt, List, [], ◌∷◌, ◌++◌, length, refl, sym, ap, ◌∙◌}
 use Rattle.std.specs.Prelude.{is_some, not, nat_eq}
 use Rattle.std.specs.Cmp.Lexicographic.{pointwise}
 use Rattle.std.specs.FinMap.{contains_key}
@@ -26,11 +26,10 @@ use Rattle.ioc_events.specs.declared.event.Event.{Event}
 use Rattle.ioc_events.specs.declared.event.Event.TheVariants.{Get, Process, Put, Complete, Link, Notify, Cancel, IsLive}
 use Rattle.ioc_events.specs.declared.reply.Reply.{Reply}
 use Rattle.ioc_events.specs.declared.reply.Reply.TheVariants.{Plain, Shown, Live as Live-reply, Refused}
-use Rattle.ioc_events.specs.Step.{Stepped, stepped, done_alone, done_there, relinked, refused, all_there, tallied, completes, calls_since}
+use Rattle.ioc_events.specs.Step.{Stepped, stepped, done_alone, done_there, relinked, refused, all_there, tallied, completes}
 use Rattle.ioc_history.specs.declared.entry.Note.{Note}
-use Rattle.ioc_history.specs.Legal.{entry_of, done, map_of, IsLegal, IsSound}
-use Rattle.ioc_history.specs.Covering.{Holds, IsOf}
-use Rattle.ioc_history.specs.Counting.{tallied_by, once_by, once_in, CountAlike}
+use Rattle.ioc_history.specs.Legal.{entry_of, done, map_of}
+use Rattle.ioc_history.specs.Counting.{tallied_by, once_in}
 use Rattle.ioc_history.specs.CountLaws.{counts_nothing, CountsNothing, PartsCountAlike, QuestionsCountNothing}
 use Rattle.ioc_history.specs.EventLaws.{EventLaws}
 use Rattle.ioc_history.proofs.Doing.{agree, sound-on}

@@ -1,8 +1,7 @@
 -- A held part stays held when a put with notification is canceled, and when an event begins.
-use Rattle.std.proofs.Common.{◌≡◌, ℕ, Bool, true, false, cond, List, [], ◌∷◌, Option, Some, None, refl, sym, ap, subst, ◌∙◌}
-use Rattle.std.specs.Prelude.{◌==◌, not, Contains}
+use Rattle.std.proofs.Common.{◌≡◌, ℕ, List, None, refl, sym, ap, subst, ◌∙◌}
+use Rattle.std.specs.Prelude.{◌==◌, not, Contains, option_map}
 use Rattle.std.specs.FinMap.{get}
-use Rattle.std.specs.List.{filter}
 use Rattle.ioc_notify.specs.declared.waiting_lists.Waiting.{Waiting}
 use Rattle.ioc_notify.specs.Waits.{at_record, without}
 use Rattle.ioc_dbcommon.specs.Steps.{with_notification}
@@ -11,29 +10,9 @@ use Rattle.ioc_record.specs.Laws.{IsLawful}
 use Rattle.ioc_store.specs.World.{World, Has, at, freed, begun, begun_at, cancelled}
 use Rattle.ioc_store.specs.Freeing.{get-mapped, has-cancelled, at_cancelled-either}
 use Rattle.ioc_store.specs.StepFrames.{targets-set}
+use Rattle.ioc_events.proofs.RecordLists.{passes-there, taken-from_each}
 use Rattle.ioc_history.specs.Covering.{Holds}
 use Rattle.ioc_history.specs.Laws.{CancelIsHeld, BeginningIsHeld}
-use Rattle.ioc_history.proofs.Basics.{passes-there}
-
--- Two filters may be exchanged.
-filter-swap : {X : Type 0} (p q : X → Bool) (xs : List X) → filter p (filter q xs) ≡ filter q (filter p xs)
-filter-swap p q [] = refl
-filter-swap p q (x ∷ xs) =
-    let rest = filter-swap p q xs in
-    elim (p x) as (λ b. p x ≡ b → filter p (cond (q x) (x ∷ filter q xs) (filter q xs)) ≡ filter q (cond b (x ∷ filter p xs) (filter p xs))) [
-      | true ↦ λ is. elim (q x) as (λ b. filter p (cond b (x ∷ filter q xs) (filter q xs)) ≡ cond b (x ∷ filter q (filter p xs)) (filter q (filter p xs))) [
-        | true ↦ ap (λ (b : Bool). cond b (x ∷ filter p (filter q xs)) (filter p (filter q xs))) is ∙ ap (λ (l : List _). x ∷ l) rest
-        | false ↦ rest
-      ]
-      | false ↦ λ isnt. elim (q x) as (λ b. filter p (cond b (x ∷ filter q xs) (filter q xs)) ≡ filter q (filter p xs)) [
-        | true ↦ ap (λ (b : Bool). cond b (x ∷ filter p (filter q xs)) (filter p (filter q xs))) isnt ∙ rest
-        | false ↦ rest
-      ]
-    ] refl
-
-abbrev mapped : {A B : Type 0} → (A → B) → Option A → Option B
-mapped f None = None
-mapped f (Some x) = Some (f x)
 
 module _ {R : Type 0} (k : RecordRules R) where
   pub begins-held : BeginningIsHeld k
@@ -43,11 +22,11 @@ module _ {R : Type 0} (k : RecordRules R) where
   module _ (lawful : IsLawful k) (number : ℕ) where
     get-same : (m v : World R) (q : ℕ) → get m.records q ≡ get v.records q → get (cancelled k number m).records q ≡ get (cancelled k number v).records q
     unfolding cancelled
-    get-same m v q same = get-mapped (freed k number) m.records q ∙ ap (mapped (freed k number)) same ∙ sym (get-mapped (freed k number) v.records q)
+    get-same m v q same = get-mapped (freed k number) m.records q ∙ ap (option_map (freed k number)) same ∙ sym (get-mapped (freed k number) v.records q)
 
     waiting-of : (w : World R) (q : ℕ) → at_record q (cancelled k number w).waiting ≡ without number (at_record q w.waiting)
     unfolding cancelled
-    waiting-of w q = filter-swap (λ (x : Waiting). x.target == q) (λ (x : Waiting). not (x.number == number)) w.waiting
+    waiting-of w q = taken-from_each number q w.waiting
 
     waits-before : (w : World R) (x : Waiting) → Contains (cancelled k number w).waiting x → Contains w.waiting x
     unfolding cancelled

@@ -1,4 +1,5 @@
 mod Adding
+mod Appending
 mod Asking
 mod Bases
 mod Begun
@@ -12,9 +13,10 @@ mod Few
 mod Fitting
 mod Giving
 mod Lasting
+mod Learning
 mod Linking
 mod Lists
-mod Moves
+pub mod Moves
 mod Moving
 mod Pieces
 mod Replaying

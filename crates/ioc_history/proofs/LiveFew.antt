@@ -3,19 +3,18 @@ use Rattle.std.proofs.Common.{◌≡◌, ◌≢◌, ℕ, ◌+◌, ◌<◌, ◌�
 use Rattle.std.specs.Prelude.{map, Contains}
 use Rattle.std.proofs.lemmas.Bool.{eq-eqb, eqb-true, ltb-true, and_parts}
 use Rattle.std.proofs.lemmas.List.{length-map}
-use Rattle.ioc_ledger.specs.Requests.{Requests}
 use Rattle.ioc_notify.specs.declared.live_numbers.Live.{Live}
 use Rattle.ioc_notify.specs.Living.{is_live}
 use Rattle.ioc_record.specs.RecordRules.{RecordRules}
-use Rattle.ioc_store.specs.World.{World, begun, begun_at, has_place}
-use Rattle.ioc_store.specs.Given.{Answers, listed}
+use Rattle.ioc_store.specs.World.{World, begun, begun_at}
+use Rattle.ioc_store.specs.Given.{listed}
 use Rattle.ioc_events.specs.declared.event.Entry.{Entry}
-use Rattle.ioc_events.specs.declared.event.Event.{Event}
 use Rattle.ioc_events.specs.declared.reply.Reply.{Reply}
 use Rattle.ioc_events.specs.declared.reply.Reply.TheVariants.{Plain, Outcome as Outcome-reply, Shown, Notify as Notify-reply, Live as Live-reply, Refused}
 use Rattle.ioc_events.specs.Holding.{IsCounted}
 use Rattle.ioc_events.specs.Step.{stepped}
-use Rattle.ioc_events.specs.StepRules.{Replay, at_the_end, and_then, Does, Step, by_itself, then_others, no_such_record, no_such_field, shows_field, processes_record, refuses_value, stores_alone, stores_while_active, stores_and_processes, not_awaited, completes_record, leads_to_no_record, no_link_field, keeps_its_link, takes_link, refuses_notified_value, no_place, waits_its_turn, starts_now, not_live, cancels, tells_if_live}
+use Rattle.ioc_events.specs.StepRules.{Replay, at_the_end, and_then, Step}
+use Rattle.ioc_events.proofs.Beginning.{step-begins}
 use Rattle.ioc_history.specs.declared.entry.Note.{Note}
 use Rattle.ioc_history.specs.Legal.{entry_of, done, Fits}
 use Rattle.ioc_history.specs.EventLaws.{EventLaws}
@@ -41,36 +40,6 @@ same-number : {a b : ℕ} → Notify-reply a ≡ Notify-reply b → a ≡ b
 same-number is = cc
 
 module _ {R : Type 0} (k : RecordRules R) where
-  -- A put with notification begins only if there is a place for it.
-
-  module _ (answers : Answers) (n : ℕ) where
-    does-place : {w w' : World R} {event : Event} {reply : Reply} {requests : Requests} → Does k answers w event w' reply requests → reply ≡ Notify-reply n → has_place w n ≡ true
-    does-place (no_such_record _) e = cc
-    does-place (no_such_field _ _) e = cc
-    does-place (shows_field _ _) e = cc
-    does-place (processes_record _ _ _) e = cc
-    does-place (refuses_value _ _) e = cc
-    does-place (stores_alone _ _ _ _) e = cc
-    does-place (stores_while_active _ _ _ _ _) e = cc
-    does-place (stores_and_processes _ _ _ _ _ _ _) e = cc
-    does-place (not_awaited _ _) e = cc
-    does-place (completes_record _ _ _) e = cc
-    does-place (leads_to_no_record _ _) e = cc
-    does-place (no_link_field _ _ _) e = cc
-    does-place (keeps_its_link _ _ _ _) e = cc
-    does-place (takes_link _ _ _ _) e = cc
-    does-place (refuses_notified_value _ _) e = cc
-    does-place (no_place _ _ _) e = cc
-    does-place (waits_its_turn {w} _ _ place _) e = subst (λ (m : ℕ). has_place w m ≡ true) (same-number e) place
-    does-place (starts_now {w} _ _ place _ _) e = subst (λ (m : ℕ). has_place w m ≡ true) (same-number e) place
-    does-place (not_live _) e = cc
-    does-place (cancels _) e = cc
-    does-place tells_if_live e = cc
-
-    step-place : {w w' : World R} {event : Event} {reply : Reply} {requests : Requests} → Step k answers w event w' reply requests → reply ≡ Notify-reply n → has_place w n ≡ true
-    step-place (by_itself does _) e = does-place does e
-    step-place (then_others does _ _) e = does-place does e
-
   -- After an event, the live puts with notification are among those before it and the one that it
   -- begins.
 
@@ -130,12 +99,13 @@ module _ {R : Type 0} (k : RecordRules R) where
         let d = stepped k answers w (entry_of n).event in
         and_then (subst (λ (r : Reply). Step k answers w (entry_of n).event d.world r d.requests) (sym fits.reply) (laws.allowed answers w (entry_of n).event)) fits.used at_the_end
 
+    -- A put with notification begins only if there is a place for it.
     place-before : (number : ℕ) → (entry_of n).reply ≡ Notify-reply number → length m.live < 256
     unfolding begun begun_at done
     place-before number is =
         let answers = listed (entry_of n).answers in
         let w = begun_at (entry_of n).moment m in
-        let place = step-place answers number (laws.allowed answers w (entry_of n).event) (sym fits.reply ∙ is) in
+        let place = (step-begins k answers number (laws.allowed answers w (entry_of n).event) (sym fits.reply ∙ is)).place in
         let room = ltb-true (length m.live + 0) 256 (and_parts _ _ place).0 in
         omega (arith, room)
 

@@ -16,8 +16,9 @@ use Rattle.ioc_history.specs.LinkChange.{link_note}
 use Rattle.ioc_history.specs.Laws.{LinkMoves}
 use Rattle.ioc_history.specs.EventLaws.{EventLaws}
 use Rattle.ioc_history.proofs.Linking.{link-joins}
+use Rattle.ioc_events.proofs.Rewired.{rewired-leaves}
 use Rattle.ioc_history.proofs.Rescanning.{set-there, there-before, set-within, set-halves, rewired-set, half-at, rescanned-halves, rescanned-shut}
-use Rattle.ioc_history.proofs.Rewiring.{set-at, landed, get-put, set-twice, put-there, put-waiting, changed-get, changed-waiting, rewired-waiting}
+use Rattle.ioc_history.proofs.Rewiring.{set-at, landed, get-put, set-twice, put-there, put-waiting, changed-get, changed-waiting}
 use Rattle.ioc_history.proofs.Sharing.{falls, one-in}
 use Rattle.ioc_history.proofs.Uniting.{whole, whole-halves, whole-shared, whole-within}
 
@@ -68,7 +69,7 @@ module _ {R : Type 0} (k : RecordRules R) (v o stay rest joined : World R) (s : 
   pub changed-halves : AreHalves changed own rest
   changed-halves =
       set-halves s (landed k device led) emptied stay rest changed own halves stays changed-set own-set
-      (changed-waiting k v s field link ∙ sym (put-waiting k v s freed)) (rewired-waiting k device linked s ∙ put-waiting k stay s (k.with_link (at k stay s) field link))
+      (changed-waiting k v s field link ∙ sym (put-waiting k v s freed)) ((rewired-leaves k device linked s).waiting ∙ put-waiting k stay s (k.with_link (at k stay s) field link))
 
   linked-there : Has linked s
   linked-there = put-there k stay s (k.with_link (at k stay s) field link)
@@ -86,7 +87,7 @@ module _ {R : Type 0} (k : RecordRules R) (v o stay rest joined : World R) (s : 
   after-there q has = set-there s (landed k device (at k joined s)) joined after after-set q has
 
   pub after-within : WaitsWithin joined → WaitsWithin after
-  after-within within = set-within s (landed k device (at k joined s)) joined after after-set (rewired-waiting k device joined s) within
+  after-within within = set-within s (landed k device (at k joined s)) joined after after-set (rewired-leaves k device joined s).waiting within
 
   -- The records of `v` with its link changed are those of `v`.
   pub changed-before : (q : ℕ) → Has changed q → Has v q

@@ -11,22 +11,13 @@ use Rattle.ioc_record.specs.RecordRules.{RecordRules}
 use Rattle.ioc_store.specs.World.{World, Has, begun, begun_at, has_place}
 use Rattle.ioc_store.specs.Weights.{weight_of}
 use Rattle.ioc_events.specs.Holding.{how_many, one_if_has, holders, IsCounted}
+pub use Rattle.ioc_events.proofs.Ended.{there-counted}
 use Rattle.ioc_history.specs.Covering.{Holds}
 use Rattle.ioc_history.specs.Laws.{PlaceForOneMore, HeldAreFewer}
 use Rattle.ioc_history.proofs.Basics.{not_both, not_true, is-none, nobody-waits, passes-there}
 use Rattle.ioc_history.proofs.Summing.{point, same-point, of-number, holders-least}
 
 -- Lists with as many elements as numbers.
-
-pub there-counted : {A : Type 0} (number : A → ℕ) (xs : List A) (x : A) → Contains xs x → 1 ≤ how_many number (number x) xs
-there-counted number [] x (i, lt, is) = absurd (omega arith)
-there-counted number (y ∷ xs) x (zero, lt, is) = rw (eq-eqb (number y) (number x) (ap number is)) (omega arith)
-there-counted number (y ∷ xs) x (suc i, lt, is) =
-    let rest = there-counted number xs x (i, omega arith, is) in
-    elim (eqb (number y) (number x)) as (λ b. 1 ≤ cond b (1 + how_many number (number x) xs) (how_many number (number x) xs)) [
-      | true ↦ omega arith
-      | false ↦ rest
-    ]
 
 -- The elements with another number.
 abbrev others : {A : Type 0} → (A → ℕ) → ℕ → List A → List A

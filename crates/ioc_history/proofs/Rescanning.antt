@@ -13,7 +13,8 @@ use Rattle.ioc_process.specs.Keeping.{keeps_all, closed_on, moved-keeps}
 use Rattle.ioc_store.specs.Scanning.{rewired}
 use Rattle.ioc_history.specs.Covering.{AreHalves, WaitsWithin}
 use Rattle.ioc_history.specs.Laws.{RescansApart}
-use Rattle.ioc_history.proofs.Rewiring.{set-at, landed, rewired-get, rewired-waiting}
+use Rattle.ioc_events.proofs.Rewired.{rewired-leaves}
+use Rattle.ioc_history.proofs.Rewiring.{set-at, landed, rewired-get}
 use Rattle.ioc_history.proofs.Sharing.{none-there, one-in, from-one}
 
 -- The records of a world in which one record was set.
@@ -78,7 +79,7 @@ module _ {R : Type 0} (k : RecordRules R) where
   rescanned-halves all one other device s halves there =
       set-halves s (landed k device (at k one s)) all one other (rewired k device all s) (rewired k device one s) halves there
       (rewired-set device all s (at k one s) (one-in all one other halves s there) (half-at all one other s halves there))
-      (rewired-set device one s (at k one s) there refl) (rewired-waiting k device all s) (rewired-waiting k device one s)
+      (rewired-set device one s (at k one s) there refl) (rewired-leaves k device all s).waiting (rewired-leaves k device one s).waiting
 
   module _ (lawful : IsLawful k) where
     pub rescanned-shut : (one : World R) (device : List ℕ) (s : ℕ) → Has one s → IsClosed k one → IsClosed k (rewired k device one s)

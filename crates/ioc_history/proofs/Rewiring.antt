@@ -16,10 +16,10 @@ use Rattle.ioc_store.specs.declared.outbox.OutboxItem.{OutboxItem}
 use Rattle.ioc_store.specs.declared.outbox.OutboxItem.TheVariants.{Change}
 use Rattle.ioc_store.specs.World.{World, Has, at, common_at, put, changed, sent, lost, is_notification}
 use Rattle.ioc_store.specs.Scanning.{device_of, moved, rewired, with_link_changed}
-use Rattle.ioc_store.specs.ScanLaws.{rewired-either, moved-either}
 use Rattle.ioc_store.specs.Weights.{weight_of}
 use Rattle.ioc_store.specs.Worlds.{at-put_same, sent_by}
 use Rattle.ioc_events.specs.Holding.{one_if_has}
+use Rattle.ioc_events.proofs.Rewired.{rewired-leaves}
 
 -- The lookup function of a map in which one record was set.
 abbrev pub set-at : {R : Type 0} → ℕ → R → (ℕ → Option R) → ℕ → Option R
@@ -73,21 +73,6 @@ module _ {R : Type 0} (k : RecordRules R) where
         | false ↦ moved-get w s there q
       ]
 
-  -- The waiting lists and the calls of devices are unchanged.
-  moved-waiting : (w : World R) (s : ℕ) → (moved k w s).waiting ≡ w.waiting
-  unfolding changed put lost
-  moved-waiting w s = moved-either k (λ (x : World R). x.waiting ≡ w.waiting) w s (λ item. ap (λ (x : World R). x.waiting) (sym (sent_by item _))) refl
-
-  moved-calls : (w : World R) (s : ℕ) → (moved k w s).calls ≡ w.calls
-  unfolding changed put lost
-  moved-calls w s = moved-either k (λ (x : World R). x.calls ≡ w.calls) w s (λ item. ap (λ (x : World R). x.calls) (sym (sent_by item _))) refl
-
-  pub rewired-waiting : (before : List ℕ) (w : World R) (s : ℕ) → (rewired k before w s).waiting ≡ w.waiting
-  rewired-waiting before w s = rewired-either k (λ (x : World R). x.waiting ≡ w.waiting) before w s refl (moved-waiting w s)
-
-  pub rewired-calls : (before : List ℕ) (w : World R) (s : ℕ) → (rewired k before w s).calls ≡ w.calls
-  rewired-calls before w s = rewired-either k (λ (x : World R). x.calls ≡ w.calls) before w s refl (moved-calls w s)
-
   -- Link changes.
 
   -- The record with its link changed.
@@ -128,11 +113,11 @@ module _ {R : Type 0} (k : RecordRules R) where
 
   pub changed-waiting : (w : World R) (s : ℕ) (field : FieldNo) (link : LinkField) → (with_link_changed k w s field link).waiting ≡ w.waiting
   unfolding put
-  changed-waiting w s field link = rewired-waiting (device_of k (at k w s)) (put w s (k.with_link (at k w s) field link)) s
+  changed-waiting w s field link = (rewired-leaves k (device_of k (at k w s)) (put w s (k.with_link (at k w s) field link)) s).waiting
 
   pub changed-calls : (w : World R) (s : ℕ) (field : FieldNo) (link : LinkField) → (with_link_changed k w s field link).calls ≡ w.calls
   unfolding put
-  changed-calls w s field link = rewired-calls (device_of k (at k w s)) (put w s (k.with_link (at k w s) field link)) s
+  changed-calls w s field link = (rewired-leaves k (device_of k (at k w s)) (put w s (k.with_link (at k w s) field link)) s).calls
 
   -- A link change leaves the notification of the record unchanged.
   module _ (lawful : IsLawful k) where

@@ -1,5 +1,5 @@
 -- The entries of the calls behind those that were dropped.
-use Rattle.std.proofs.Common.{◌≡◌, ℕ, zero, suc, ◌+◌, ◌<◌, ◌≤◌, List, [], ◌∷◌, ◌++◌, length, drop, refl, sym, ap, ◌∙◌, arith, length-drop}
+use Rattle.std.proofs.Common.{◌≡◌, ℕ, zero, suc, ◌+◌, ◌≤◌, List, [], ◌∷◌, ◌++◌, length, drop, refl, sym, ap, ◌∙◌, arith, length-drop}
 use Rattle.std.proofs.lemmas.List.{drop-append-le}
 use Rattle.std.specs.Prelude.{slice_get}
 use Rattle.ioc_history.specs.declared.entry.JournalEntry.{JournalEntry}

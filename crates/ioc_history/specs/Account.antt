@@ -135,11 +135,25 @@ module _ {R : Type 0} (k : RecordRules R) (base : World R) where
     pub own : calls_by after.number (calls after.seen) ≡ calls_by before.number (calls before.seen) ++ journalled before.number before.next done ∷ []
     pub legal : IsAccount after.seen
 
-  -- Holds if an event may follow a list that was seen with keys owned, at whatever desk: any legal
-  -- list that continues from that one without the keys is legal with the event appended.
+  -- Holds if the note of an event, whatever desk it is of, has a property after any legal list that
+  -- continues from one that was seen, without the keys owned.
+  abbrev pub AfterAny : List Note → List Key → Entry → (List Note → Note → Type 0) → Type 0
+  AfterAny seen owned done P = (log : List Note) (desk call : ℕ) (own : List Key) → IsSound k base → Continues seen owned log → IsLegal k base log
+      → P log (noted (journalled desk call done) (owned ++ own))
+
+  -- The same for two lists that were seen, each with keys owned.
+  abbrev pub AfterBoth : (seen : List Note) (owned : List Key) (also_seen : List Note) (also_owned : List Key) → Entry → (List Note → Note → Type 0) → Type 0
+  AfterBoth seen owned also_seen also_owned done P =
+      (log : List Note) (desk call : ℕ) (own : List Key) → IsSound k base → Continues seen owned log → Continues also_seen also_owned log → IsLegal k base log
+      → P log (noted (journalled desk call done) ((owned ++ also_owned) ++ own))
+
+  -- The list is legal with the note appended.
+  abbrev pub StaysLegal : List Note → Note → Type 0
+  StaysLegal log n = IsLegal k base (log ++ n ∷ [])
+
+  -- Holds if an event may follow a list that was seen with keys owned.
   abbrev pub MayFollow : List Note → List Key → Entry → Type 0
-  MayFollow seen owned done = (log : List Note) (desk call : ℕ) (own : List Key) → IsSound k base → Continues seen owned log → IsLegal k base log
-      → IsLegal k base (log ++ noted (journalled desk call done) (owned ++ own) ∷ [])
+  MayFollow seen owned done = AfterAny seen owned done StaysLegal
 
   -- The event was appended to such a list.
   pub record Added (seen : List Note) (owned : List Key) (done : Entry) (log longer : List Note) : Type 0 where
@@ -151,12 +165,9 @@ module _ {R : Type 0} (k : RecordRules R) (base : World R) where
     pub legal : IsLegal k base log
     pub ends : longer ≡ log ++ noted (journalled desk call done) (owned ++ own) ∷ []
 
-  -- Holds if an event may follow two lists that were seen, each with keys owned: any legal list
-  -- that continues from both without their keys is legal with the event appended.
+  -- Holds if an event may follow two lists that were seen, each with keys owned.
   abbrev pub BothMayFollow : (seen : List Note) (owned : List Key) (also_seen : List Note) (also_owned : List Key) → Entry → Type 0
-  BothMayFollow seen owned also_seen also_owned done =
-      (log : List Note) (desk call : ℕ) (own : List Key) → IsSound k base → Continues seen owned log → Continues also_seen also_owned log → IsLegal k base log
-      → IsLegal k base (log ++ noted (journalled desk call done) ((owned ++ also_owned) ++ own) ∷ [])
+  BothMayFollow seen owned also_seen also_owned done = AfterBoth seen owned also_seen also_owned done StaysLegal
 
   -- The event was appended to such a list.
   pub record AddedByBoth (seen : List Note) (owned : List Key) (also_seen : List Note) (also_owned : List Key) (done : Entry) (log longer : List Note) : Type 0 where

@@ -1,6 +1,6 @@
 -- The counts of calls, the requests among them, and the once requests that they send. Application
 -- Developer's Guide, "Scanning": scanOnce. The counts are this project's own.
-use Rattle.std.specs.Prelude.{◌≡◌, ℕ, ◌+◌, ◌<◌, ◌≤◌, ◌^◌, Bool, List, [], ◌∷◌, ◌++◌, length, Option, Some, None, MatchOption}
+use Rattle.std.specs.Prelude.{◌≡◌, ℕ, ◌+◌, ◌<◌, ◌≤◌, ◌^◌, Bool, List, [], ◌∷◌, length, Option, Some, None, MatchOption}
 use Rattle.std.specs.Option.{IfSome}
 use Rattle.ioc_ledger.specs.Requests.{Requests, counted_all, no_counts}
 use Rattle.ioc_ledger.specs.Shared.{ShareView, share_view}
@@ -15,10 +15,10 @@ use Rattle.ioc_events.specs.declared.event.Event.{Event}
 use Rattle.ioc_events.specs.declared.event.Event.TheVariants.{Process}
 use Rattle.ioc_events.specs.Step.{tallied}
 use Rattle.ioc_history.specs.declared.entry.Note.{Note}
+use Rattle.ioc_history.specs.declared.cell.View.{View}
 use Rattle.ioc_history.specs.Key.{Key}
-use Rattle.ioc_history.specs.Line.{noted, Continues}
-use Rattle.ioc_history.specs.Legal.{entry_of, done, map_of, IsLegal, IsSound}
-use Rattle.ioc_history.specs.Account.{journalled}
+use Rattle.ioc_history.specs.Legal.{entry_of, done, map_of}
+use Rattle.ioc_history.specs.Account.{AfterAny, AfterBoth, MayFollow, BothMayFollow, MayBegin}
 
 -- The records of the once requests among these items, in order.
 abbrev pub once_in : List OutboxItem → List ℕ
@@ -99,27 +99,45 @@ module _ {R : Type 0} (k : RecordRules R) where
   DoesCount m n share before after = MatchOption share ((t : Tally) → tallied_by t m n ≡ t) (λ _. after ≡ tallied_by before m n)
 
   module _ (base : World R) where
-    -- Holds if an event sends this many once requests after any legal list that continues from one
-    -- that was seen, without the keys.
+    -- Holds if an event sends this many once requests.
+    abbrev Sends : ℕ → List Note → Note → Type 0
+    Sends sent log n = sent ≡ once_by (map_of k base log) n
+
+    -- Holds if an event counts this.
+    abbrev CountsThis : Option ShareView → Tally → Tally → List Note → Note → Type 0
+    CountsThis share before after log n = DoesCount (map_of k base log) n share before after
+
+    -- Holds if an event sends this many once requests whatever list it follows, as in `AfterAny`.
     abbrev pub MaySend : List Note → List Key → Entry → ℕ → Type 0
-    MaySend seen owned made sent = (log : List Note) (desk call : ℕ) (own : List Key) → IsSound k base → Continues seen owned log → IsLegal k base log
-        → sent ≡ once_by (map_of k base log) (noted (journalled desk call made) (owned ++ own))
+    MaySend seen owned made sent = AfterAny k base seen owned made (Sends sent)
 
-    -- The same for an event that concerns two passes.
     abbrev pub BothMaySend : List Note → List Key → List Note → List Key → Entry → ℕ → Type 0
-    BothMaySend seen owned also_seen also_owned made sent = (log : List Note) (desk call : ℕ) (own : List Key) → IsSound k base → Continues seen owned log → Continues also_seen also_owned log → IsLegal k base log
-        → sent ≡ once_by (map_of k base log) (noted (journalled desk call made) ((owned ++ also_owned) ++ own))
+    BothMaySend seen owned also_seen also_owned made sent = AfterBoth k base seen owned also_seen also_owned made (Sends sent)
 
-    -- Holds if an event counts this after any legal list that continues from one that was seen,
-    -- without the keys.
+    -- Holds if an event counts this whatever list it follows.
     abbrev pub MayCount : List Note → List Key → Entry → Option ShareView → Tally → Tally → Type 0
-    MayCount seen owned made share before after = (log : List Note) (desk call : ℕ) (own : List Key) → IsSound k base → Continues seen owned log → IsLegal k base log
-        → DoesCount (map_of k base log) (noted (journalled desk call made) (owned ++ own)) share before after
+    MayCount seen owned made share before after = AfterAny k base seen owned made (CountsThis share before after)
 
-    -- The same for an event that concerns two passes.
     abbrev pub BothMayCount : List Note → List Key → List Note → List Key → Entry → Option ShareView → Tally → Tally → Type 0
-    BothMayCount seen owned also_seen also_owned made share before after = (log : List Note) (desk call : ℕ) (own : List Key) → IsSound k base → Continues seen owned log → Continues also_seen also_owned log → IsLegal k base log
-        → DoesCount (map_of k base log) (noted (journalled desk call made) ((owned ++ also_owned) ++ own)) share before after
+    BothMayCount seen owned also_seen also_owned made share before after = AfterBoth k base seen owned also_seen also_owned made (CountsThis share before after)
+
+    -- What an event fulfils that may be appended by the owner of one pass: it may follow, and this
+    -- is what it sends and counts.
+    pub record MayAppend (pass : View) (made : Entry) (sent : ℕ) (share : Option ShareView) (before after : Tally) : Type 0 where
+      pub follows : MayFollow k base pass.seen pass.owns made
+      pub begins : MayBegin pass.seen pass.owns made.event
+      pub sends : MaySend pass.seen pass.owns made sent
+      pub counts : MayCount pass.seen pass.owns made share before after
+      pub backed : IsBacked share before
+
+    -- The same for the owner of two passes. The second has the key of the puts with notification, if
+    -- the event begins one.
+    pub record BothMayAppend (one other : View) (made : Entry) (sent : ℕ) (share : Option ShareView) (before after : Tally) : Type 0 where
+      pub follows : BothMayFollow k base one.seen one.owns other.seen other.owns made
+      pub begins : MayBegin other.seen other.owns made.event
+      pub sends : BothMaySend one.seen one.owns other.seen other.owns made sent
+      pub counts : BothMayCount one.seen one.owns other.seen other.owns made share before after
+      pub backed : IsBacked share before
 
     -- Holds if the requests of these calls and the once requests that they send are fewer than 2^64.
     abbrev pub IsFew : List Note → Type 0

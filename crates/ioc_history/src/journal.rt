@@ -3,11 +3,12 @@ ghost use Rattle.std.specs.Prelude.{◌≡◌, ◌↔◌, ◌<◌, ◌≤◌, �
 ghost use Rattle.crossbeam_utils.specs.Seq.{cell_view};
 ghost use Rattle.ioc_history.specs.Key.{Key, Has};
 ghost use Rattle.ioc_history.specs.Line.{keeper, holder, Continues};
+ghost use Rattle.ioc_history.specs.Desks.{IsReceipt};
 ghost use Rattle.ioc_history.specs.Legal.{IsLegal, IsSound};
 ghost use Rattle.ioc_values.specs.declared.error.IocError.TheVariants.{JournalFull};
-ghost use Rattle.ioc_history.specs.Account.{AreNoDesks, AreRecords, IsHolder, MayFollow, BothMayFollow, MayBegin, Call, Added, AddedByBoth, AreMerged, calls, calls_by, journalled};
+ghost use Rattle.ioc_history.specs.Account.{AreNoDesks, AreRecords, IsHolder, Call, Added, AddedByBoth, AreMerged, calls, calls_by, journalled};
 ghost use Rattle.ioc_history.specs.Stored.{IsStored};
-ghost use Rattle.ioc_history.specs.Counting.{MaySend, BothMaySend, MayCount, BothMayCount, IsBacked, IsGivenBack, IsFew, counts_of};
+ghost use Rattle.ioc_history.specs.Counting.{MayAppend, BothMayAppend, IsGivenBack, IsFew, counts_of};
 ghost use Rattle.ioc_ledger.specs.Requests.{no_counts};
 ghost use Rattle.ioc_ledger.specs.Shared.{share_view, less_awaited};
 ghost use Rattle.ioc_history.specs.Ticketed.{tickets_view, AreBack, AreTicketed};
@@ -30,7 +31,7 @@ use ioc_ledger::{TallyBook, TallyShare, Ticket, Tickets};
 use ioc_record::RecordKind;
 use ioc_values::IocError;
 use std::alloc::{AllocError, Global};
-use std::marker::{Model, PhantomData};
+use std::marker::{Brand, Model, PhantomData};
 use std::sync::Wait;
 use std::sync::ledger::Blank;
 
@@ -77,6 +78,34 @@ pub struct Appended<K: RecordKind, B: EngineName<K>> {
     pub tickets: Tickets<RequestTickets<K, B>>,
     /// The share of the set on which the event was done, if it came with one.
     pub share: Option<TallyShare<EngineCounts<K, B>>>,
+}
+
+impl<K: RecordKind, B: EngineName<K>> Appended<K, B> {
+    // The call at this place, from a pass that knows the list up to it.
+    #[inline(always)]
+    fn new(
+        place: u64,
+        pass: KeyPass,
+        tickets: Tickets<RequestTickets<K, B>>,
+        share: Option<TallyShare<EngineCounts<K, B>>>,
+    ) -> Self
+        requires ends { IsReceipt K.rules B.base B.table pass.table_id (cell_view pass) place }
+        ensures receipt { result.receipt ≡ (cell_view pass).seen }
+        ensures tickets { result.tickets ≡ tickets }
+        ensures share { result.share ≡ share }
+    {
+        let receipt = Receipt {
+            place,
+            pass,
+            of: PhantomData,
+            kind: PhantomData,
+        };
+        Appended {
+            receipt,
+            tickets,
+            share,
+        }
+    }
 }
 
 impl<K: RecordKind, B: EngineName<K>> Journal<K, B> {
@@ -206,12 +235,7 @@ impl<K: RecordKind, B: EngineName<K>> Journal<K, B> {
         requires table { (cell.now.table.shared.table_id ≡ B.table) × (set.old.table_id ≡ B.table) }
         requires set { IsHolder (cell_view set.old) × AreNoDesks (cell_view set.old).owns }
         requires stored { IsStored (journalled desk.old.number desk.old.next S.entry) made }
-        requires follows { MayFollow K.rules B.base (cell_view set.old).seen (cell_view set.old).owns S.entry }
-        requires begins { MayBegin (cell_view set.old).seen (cell_view set.old).owns S.entry.event }
-        requires sent { MaySend K.rules B.base (cell_view set.old).seen (cell_view set.old).owns S.entry counts.sent }
-        requires counts { MayCount K.rules B.base (cell_view set.old).seen (cell_view set.old).owns S.entry
-            counts.share counts.before counts.after }
-        requires backed { IsBacked counts.share counts.before }
+        requires may { MayAppend K.rules B.base (cell_view set.old) S.entry counts.sent counts.share counts.before counts.after }
         ensures call { Call K.rules B.base desk.old S.entry desk.new }
         ensures receipt { result.receipt ≡ desk.new.seen }
         ensures tickets { IsFew K.rules B.base self.new.filled → result.tickets ≡ counts.sent }
@@ -222,22 +246,19 @@ impl<K: RecordKind, B: EngineName<K>> Journal<K, B> {
     {
         let index = self.dropped + self.entries.len() as u64;
         let is_request = made.is_request();
-        let pass = pass::append(rt, cell, &mut self.pass, set, &mut desk.pass, &made);
+        let pass = pass::append::<Brand, Brand, R>(
+            rt,
+            cell,
+            &mut self.pass,
+            set,
+            &mut desk.pass,
+            &made,
+        );
         let tickets = self.tickets.add(is_request, counts.sent);
         let share = record_event(&mut self.counted, counts);
         self.entries.fill(place, made);
         desk.next += 1;
-        let receipt = Receipt {
-            place: index,
-            pass,
-            of: PhantomData,
-            kind: PhantomData,
-        };
-        Appended {
-            receipt,
-            tickets,
-            share,
-        }
+        Appended::new(index, pass, tickets, share)
     }
 
     /// Adds the next call of a desk, of the event that `S` names, which concerns two sets, with what
@@ -261,14 +282,8 @@ impl<K: RecordKind, B: EngineName<K>> Journal<K, B> {
         requires within { (key : Key) → Has key (P.keys ++ P.rest) → Has key ((cell_view one.old).owns ++ (cell_view other.old).owns) }
         requires apart { (key : Key) → Has key P.keys → Has key P.rest → ⊥ }
         requires stored { IsStored (journalled desk.old.number desk.old.next S.entry) made }
-        requires follows { BothMayFollow K.rules B.base (cell_view one.old).seen (cell_view one.old).owns (cell_view other.old).seen
-            (cell_view other.old).owns S.entry }
-        requires begins { MayBegin (cell_view other.old).seen (cell_view other.old).owns S.entry.event }
-        requires sent { BothMaySend K.rules B.base (cell_view one.old).seen (cell_view one.old).owns (cell_view other.old).seen
-            (cell_view other.old).owns S.entry counts.sent }
-        requires counts { BothMayCount K.rules B.base (cell_view one.old).seen (cell_view one.old).owns (cell_view other.old).seen
-            (cell_view other.old).owns S.entry counts.share counts.before counts.after }
-        requires backed { IsBacked counts.share counts.before }
+        requires may { BothMayAppend K.rules B.base (cell_view one.old) (cell_view other.old) S.entry counts.sent counts.share
+            counts.before counts.after }
         ensures call { Call K.rules B.base desk.old S.entry desk.new }
         ensures receipt { result.receipt ≡ desk.new.seen }
         ensures tickets { IsFew K.rules B.base self.new.filled → result.tickets ≡ counts.sent }
@@ -282,22 +297,20 @@ impl<K: RecordKind, B: EngineName<K>> Journal<K, B> {
         let call = desk.next;
         let index = self.dropped + self.entries.len() as u64;
         let is_request = made.is_request();
-        let pass = deal::<P, R>(rt, cell, &mut self.pass, one, other, &mut desk.pass, &made);
+        let pass = deal::<Brand, Brand, Brand, R>(
+            rt,
+            cell,
+            &mut self.pass,
+            one,
+            other,
+            &mut desk.pass,
+            &made,
+        );
         let tickets = self.tickets.add(is_request, counts.sent);
         let share = record_event(&mut self.counted, counts);
         self.entries.fill(place, made);
         desk.next = call + 1;
-        let receipt = Receipt {
-            place: index,
-            pass,
-            of: PhantomData,
-            kind: PhantomData,
-        };
-        Appended {
-            receipt,
-            tickets,
-            share,
-        }
+        Appended::new(index, pass, tickets, share)
     }
 
     /// Takes back the ticket of a request that wasn't made.
@@ -366,7 +379,7 @@ impl<K: RecordKind, B: EngineName<K>> Journal<K, B> {
         ensures apart { (key : Key) → Has key (cell_view one.old).owns → Has key (cell_view other.old).owns → ⊥ }
         ensures same { self.new ≡ self.old }
     {
-        pass::compare(rt, cell, &mut self.pass, one, other);
+        pass::compare::<Brand, R>(rt, cell, &mut self.pass, one, other);
     }
 
     /// Moves the keys of the second pass to the first. Afterwards the second owns nothing, and both

@@ -37,7 +37,6 @@ pub mod limits;
 mod lookup;
 pub mod pass;
 pub mod receipt;
-pub mod relink;
 pub mod request_tickets;
 pub mod shared_journal;
 pub mod shared_places;

@@ -26,16 +26,6 @@ fn cut<M: Split<View>>(cell: &Cell, pass: &mut KeyPass) -> KeyPass
     cell.split_pass::<M>(pass)
 }
 
-// Joins another pass to a pass, so that the two can be compared.
-#[inline(always)]
-fn lay_beside(cell: &Cell, pass: &mut KeyPass, other: KeyPass)
-    requires table { (pass.old.table_id ≡ cell.now.table.shared.table_id) × (other.table_id ≡ pass.old.table_id) × (other.me.1 ≡ []) }
-    requires asks { ((cell_view pass.old).asks ≡ []) × ((cell_view other).asks ≡ []) }
-    ensures { (pass.new.table_id ≡ pass.old.table_id) × (cell_view pass.new ≡ shown (cell_view pass.old) (cell_view other)) }
-{
-    cell.join_pass::<Shows>(pass, other);
-}
-
 /// Returns a new pass that has seen the same list and owns no key.
 pub fn copy(cell: &Cell, pass: &mut KeyPass) -> KeyPass
     requires { pass.old.table_id ≡ cell.now.table.shared.table_id }
@@ -90,6 +80,24 @@ fn step<O: Outcome<[u64; 1], View>, R: Wait>(rt: &R, cell: &Cell, pass: &mut Key
     cell.load_as::<O, R>(rt, pass);
 }
 
+// Joins another pass to a pass, and makes a step that the rule allows the two together.
+#[inline(always)]
+fn step_with<O: Outcome<[u64; 1], View>, R: Wait>(
+    rt: &R,
+    cell: &Cell,
+    pass: &mut KeyPass,
+    other: KeyPass,
+)
+    requires table { (pass.old.table_id ≡ cell.now.table.shared.table_id) × (other.table_id ≡ pass.old.table_id) × (other.me.1 ≡ []) }
+    requires asks { ((cell_view pass.old).asks ≡ []) × ((cell_view other).asks ≡ []) }
+    requires rule { (by : ℕ) → Turns IsOneList by (shown (cell_view pass.old) (cell_view other)) (λ x. x) O.then }
+    ensures table { pass.new.table_id ≡ pass.old.table_id }
+    ensures rule { (word : List ℕ) × O.then (shown (cell_view pass.old) (cell_view other)) word word (cell_view pass.new) }
+{
+    cell.join_pass::<Shows>(pass, other);
+    step::<O, R>(rt, cell, pass);
+}
+
 /// Moves the keys of a pass into the keeper's. No note since what that pass had seen has any of its
 /// keys.
 pub fn take_in<R: Wait>(rt: &R, cell: &Cell, master: &mut KeyPass, other: KeyPass)
@@ -102,8 +110,7 @@ pub fn take_in<R: Wait>(rt: &R, cell: &Cell, master: &mut KeyPass, other: KeyPas
     ensures born { (k : Key) → Has k (cell_view other).owns → Has k (cell_view master.old).born }
     ensures apart { (k : Key) → Has k (cell_view master.old).owns → Has k (cell_view other).owns → ⊥ }
 {
-    lay_beside(cell, master, other);
-    step::<TakesIn, R>(rt, cell, master);
+    step_with::<TakesIn, R>(rt, cell, master, other);
 }
 
 /// Moves a pass on to the longer of the lists that it and another pass have seen.
@@ -116,8 +123,7 @@ pub fn learn<R: Wait>(rt: &R, cell: &Cell, pass: &mut KeyPass, other: KeyPass)
         (longer (cell_view pass.old).seen (cell_view other).seen) }
     ensures begins { Begins (cell_view other).seen (longer (cell_view pass.old).seen (cell_view other).seen) }
 {
-    lay_beside(cell, pass, other);
-    step::<Learns, R>(rt, cell, pass);
+    step_with::<Learns, R>(rt, cell, pass, other);
 }
 
 /// Moves all keys to a new pass, which has seen the same list.
@@ -140,7 +146,11 @@ pub fn note_down<S: NoteName, R: Wait>(rt: &R, cell: &Cell, master: &mut KeyPass
     step::<Appends<S>, R>(rt, cell, master);
 }
 
-fn append_as<K: Keys, S: NoteName, R: Wait>(
+/// Adds the note of an entry, which has the keys of both passes, to the list, and returns the pass of
+/// its receipt. The caller holds the journal's lock, the pass of a set, which owns the keys of `K`,
+/// and that of a desk, which owns the rest. Afterwards all passes know the whole list.
+#[inline(always)]
+pub fn append<K: Keys, S: NoteName, R: Wait>(
     rt: &R,
     cell: &Cell,
     master: &mut KeyPass,
@@ -156,15 +166,13 @@ fn append_as<K: Keys, S: NoteName, R: Wait>(
     requires apart { (k : Key) → Has k K.keys → Has k K.rest → ⊥ }
     requires said { S.note ≡ noted entry.now (K.keys ++ K.rest) }
     ensures keeper { (master.new.table_id ≡ master.old.table_id)
-        × (cell_view master.new
-        ≡ keeper ((cell_view master.old).seen ++ noted entry.now (K.keys ++ K.rest) ∷ []) (cell_view master.old).born) }
+        × (cell_view master.new ≡ keeper ((cell_view master.old).seen ++ S.note ∷ []) (cell_view master.old).born) }
     ensures set { (set.new.table_id ≡ set.old.table_id)
-        × (cell_view set.new ≡ holder ((cell_view master.old).seen ++ noted entry.now (K.keys ++ K.rest) ∷ []) K.keys) }
+        × (cell_view set.new ≡ holder ((cell_view master.old).seen ++ S.note ∷ []) K.keys) }
     ensures desk { (desk.new.table_id ≡ desk.old.table_id)
-        × (cell_view desk.new
-        ≡ holder ((cell_view master.old).seen ++ noted entry.now (K.keys ++ K.rest) ∷ []) K.rest) }
+        × (cell_view desk.new ≡ holder ((cell_view master.old).seen ++ S.note ∷ []) K.rest) }
     ensures receipt { (result.table_id ≡ master.old.table_id) × (result.me.1 ≡ [])
-        × (cell_view result ≡ holder ((cell_view master.old).seen ++ noted entry.now (K.keys ++ K.rest) ∷ []) []) }
+        × (cell_view result ≡ holder ((cell_view master.old).seen ++ S.note ∷ []) []) }
     ensures goes_on { Continues (cell_view set.old).seen K.keys (cell_view master.old).seen
         × Continues (cell_view desk.old).seen K.rest (cell_view master.old).seen }
     ensures born { (k : Key) → Has k (K.keys ++ K.rest) → Has k (cell_view master.old).born }
@@ -177,46 +185,6 @@ fn append_as<K: Keys, S: NoteName, R: Wait>(
     *set = part::<K>(cell, master);
     *desk = give_all(cell, master);
     copy(cell, master)
-}
-
-/// Adds an entry to the list and returns the pass of its receipt. The caller holds the journal's
-/// lock, the pass of a set and that of a desk. Afterwards all passes know the whole list.
-#[inline(always)]
-pub fn append<R: Wait>(
-    rt: &R,
-    cell: &Cell,
-    master: &mut KeyPass,
-    set: &mut KeyPass,
-    desk: &mut KeyPass,
-    entry: &StoredEntry,
-) -> KeyPass
-    requires table { (master.old.table_id ≡ cell.now.table.shared.table_id) × (set.old.table_id ≡ master.old.table_id)
-        × (desk.old.table_id ≡ master.old.table_id) }
-    requires keeper { cell_view master.old ≡ keeper (cell_view master.old).seen (cell_view master.old).born }
-    requires set { cell_view set.old ≡ holder (cell_view set.old).seen (cell_view set.old).owns }
-    requires desk { cell_view desk.old ≡ holder (cell_view desk.old).seen (cell_view desk.old).owns }
-    requires apart { (k : Key) → Has k (cell_view set.old).owns → Has k (cell_view desk.old).owns → ⊥ }
-    ensures keeper { (master.new.table_id ≡ master.old.table_id)
-        × (cell_view master.new
-        ≡ keeper ((cell_view master.old).seen
-        ++ noted entry.now ((cell_view set.old).owns ++ (cell_view desk.old).owns) ∷ []) (cell_view master.old).born) }
-    ensures set { (set.new.table_id ≡ set.old.table_id)
-        × (cell_view set.new
-        ≡ holder ((cell_view master.old).seen
-        ++ noted entry.now ((cell_view set.old).owns ++ (cell_view desk.old).owns) ∷ []) (cell_view set.old).owns) }
-    ensures desk { (desk.new.table_id ≡ desk.old.table_id)
-        × (cell_view desk.new
-        ≡ holder ((cell_view master.old).seen
-        ++ noted entry.now ((cell_view set.old).owns ++ (cell_view desk.old).owns) ∷ []) (cell_view desk.old).owns) }
-    ensures receipt { (result.table_id ≡ master.old.table_id) × (result.me.1 ≡ [])
-        × (cell_view result
-        ≡ holder ((cell_view master.old).seen
-        ++ noted entry.now ((cell_view set.old).owns ++ (cell_view desk.old).owns) ∷ []) []) }
-    ensures goes_on { Continues (cell_view set.old).seen (cell_view set.old).owns (cell_view master.old).seen
-        × Continues (cell_view desk.old).seen (cell_view desk.old).owns (cell_view master.old).seen }
-    ensures born { (k : Key) → Has k ((cell_view set.old).owns ++ (cell_view desk.old).owns) → Has k (cell_view master.old).born }
-{
-    append_as::<Brand, Brand, R>(rt, cell, master, set, desk, entry)
 }
 
 fn claim_as<K: Keys>(cell: &Cell, master: &mut KeyPass, kind: u64, number: u64) -> KeyPass
@@ -246,7 +214,9 @@ pub fn claim_key(cell: &Cell, master: &mut KeyPass, kind: u64, number: u64) -> K
     claim_as::<Brand>(cell, master, kind, number)
 }
 
-fn compare_as<K: Keys, R: Wait>(
+/// Compares two passes, which own the keys of `K` and the rest: they have no key in common. Afterwards
+/// both know the whole list.
+pub fn compare<K: Keys, R: Wait>(
     rt: &R,
     cell: &Cell,
     master: &mut KeyPass,
@@ -272,22 +242,4 @@ fn compare_as<K: Keys, R: Wait>(
     take_in(rt, cell, master, own);
     *a = part::<K>(cell, master);
     *b = give_all(cell, master);
-}
-
-/// Compares two passes: they have no key in common. Afterwards both know the whole list.
-pub fn compare<R: Wait>(rt: &R, cell: &Cell, master: &mut KeyPass, a: &mut KeyPass, b: &mut KeyPass)
-    requires table { (master.old.table_id ≡ cell.now.table.shared.table_id) × (a.old.table_id ≡ master.old.table_id)
-        × (b.old.table_id ≡ master.old.table_id) }
-    requires keeper { cell_view master.old ≡ keeper (cell_view master.old).seen (cell_view master.old).born }
-    requires a { cell_view a.old ≡ holder (cell_view a.old).seen (cell_view a.old).owns }
-    requires b { cell_view b.old ≡ holder (cell_view b.old).seen (cell_view b.old).owns }
-    ensures keeper { (master.new.table_id ≡ master.old.table_id)
-        × (cell_view master.new ≡ keeper (cell_view master.old).seen (cell_view master.old).born) }
-    ensures a { (a.new.table_id ≡ a.old.table_id) × (cell_view a.new ≡ holder (cell_view master.old).seen (cell_view a.old).owns) }
-    ensures b { (b.new.table_id ≡ b.old.table_id) × (cell_view b.new ≡ holder (cell_view master.old).seen (cell_view b.old).owns) }
-    ensures goes_on { Continues (cell_view a.old).seen (cell_view a.old).owns (cell_view master.old).seen
-        × Continues (cell_view b.old).seen (cell_view b.old).owns (cell_view master.old).seen }
-    ensures apart { (k : Key) → Has k (cell_view a.old).owns → Has k (cell_view b.old).owns → ⊥ }
-{
-    compare_as::<Brand, R>(rt, cell, master, a, b)
 }

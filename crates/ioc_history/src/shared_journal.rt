@@ -6,7 +6,7 @@ ghost use Rattle.ioc_history.specs.Key.{Key, Has};
 ghost use Rattle.ioc_history.specs.Line.{holder};
 ghost use Rattle.ioc_history.specs.Account.{IsHolder, AreNoDesks, AreRecords, MayFollow, BothMayFollow, MayBegin, Call, Added, AddedByBoth, AreKnown, AreMerged, calls, calls_by};
 ghost use Rattle.ioc_history.specs.Places.{IsNoPlace};
-ghost use Rattle.ioc_history.specs.Counting.{MaySend, BothMaySend, MayCount, BothMayCount, IsBacked, IsGivenBack, IsFew};
+ghost use Rattle.ioc_history.specs.Counting.{MayAppend, BothMayAppend, MaySend, BothMaySend, MayCount, BothMayCount, IsBacked, IsGivenBack, IsFew};
 ghost use Rattle.ioc_ledger.specs.Requests.{no_counts};
 ghost use Rattle.ioc_ledger.specs.Shared.{share_view, less_awaited};
 ghost use Rattle.ioc_values.specs.declared.error.IocError.TheVariants.{JournalFull};
@@ -225,12 +225,7 @@ impl<K: RecordKind, B: EngineName<K>> SharedJournal<K, B> {
         requires entry { S.entry ≡ entry }
         requires table { set.old.table_id ≡ B.table }
         requires set { IsHolder (cell_view set.old) × AreNoDesks (cell_view set.old).owns }
-        requires follows { MayFollow K.rules B.base (cell_view set.old).seen (cell_view set.old).owns S.entry }
-        requires begins { MayBegin (cell_view set.old).seen (cell_view set.old).owns S.entry.event }
-        requires sent { MaySend K.rules B.base (cell_view set.old).seen (cell_view set.old).owns S.entry counts.sent }
-        requires counts { MayCount K.rules B.base (cell_view set.old).seen (cell_view set.old).owns S.entry
-            counts.share counts.before counts.after }
-        requires backed { IsBacked counts.share counts.before }
+        requires may { MayAppend K.rules B.base (cell_view set.old) S.entry counts.sent counts.share counts.before counts.after }
         ensures call { Call K.rules B.base desk.old S.entry desk.new }
         ensures receipt { result.receipt ≡ desk.new.seen }
         ensures tickets { IsFew K.rules B.base desk.new.seen → result.tickets ≡ counts.sent }
@@ -292,14 +287,8 @@ impl<K: RecordKind, B: EngineName<K>> SharedJournal<K, B> {
         requires other { IsHolder (cell_view other.old) × AreNoDesks (cell_view other.old).owns }
         requires within { (key : Key) → Has key (P.keys ++ P.rest) → Has key ((cell_view one.old).owns ++ (cell_view other.old).owns) }
         requires apart { (key : Key) → Has key P.keys → Has key P.rest → ⊥ }
-        requires follows { BothMayFollow K.rules B.base (cell_view one.old).seen (cell_view one.old).owns (cell_view other.old).seen
-            (cell_view other.old).owns S.entry }
-        requires begins { MayBegin (cell_view other.old).seen (cell_view other.old).owns S.entry.event }
-        requires sent { BothMaySend K.rules B.base (cell_view one.old).seen (cell_view one.old).owns (cell_view other.old).seen
-            (cell_view other.old).owns S.entry counts.sent }
-        requires counts { BothMayCount K.rules B.base (cell_view one.old).seen (cell_view one.old).owns (cell_view other.old).seen
-            (cell_view other.old).owns S.entry counts.share counts.before counts.after }
-        requires backed { IsBacked counts.share counts.before }
+        requires may { BothMayAppend K.rules B.base (cell_view one.old) (cell_view other.old) S.entry counts.sent counts.share
+            counts.before counts.after }
         ensures call { Call K.rules B.base desk.old S.entry desk.new }
         ensures receipt { result.receipt ≡ desk.new.seen }
         ensures tickets { IsFew K.rules B.base desk.new.seen → result.tickets ≡ counts.sent }

@@ -1,26 +1,28 @@
-use Rattle.std.proofs.Common.{◌++◌, ⊎_elim}
+use Rattle.std.proofs.Common.{List, ◌++◌, sym, ap, ap₂, ◌∙◌, subst}
 use Rattle.crossbeam_utils.specs.Seq.{cell_view}
-use Rattle.ioc_history.specs.Key.{Has}
-use Rattle.ioc_history.specs.KeyLaws.{has_left, has_right, has_either}
+use Rattle.ioc_history.specs.declared.cell.View.{View}
+use Rattle.ioc_history.specs.Key.{Key, Has}
+use Rattle.ioc_history.specs.Line.{Continues}
 use Rattle.ioc_history.proofs.key_division.deal.Goals as goal
 
-pub relink_as-requires-clause-within : goal.relink_as-requires-clause-within
-relink_as-requires-clause-within g c = λ k has.
-    let ps = g.P.Keys.keys in
-    let qs = g.P.Keys.rest in
-    let ds = (cell_view c.args.desk.now).owns in
-    let us = (cell_view c.args.one.now).owns ++ (cell_view c.args.other.now).owns in
-    ⊎_elim
-    (λ (x : Has k ps). has_left k us ds (c.requires.within k (has_left k ps qs x)))
-    (λ (y : Has k (qs ++ ds)). ⊎_elim (λ (x : Has k qs). has_left k us ds (c.requires.within k (has_right k ps qs x))) (λ (z : Has k ds). has_right k us ds z) (has_either k qs ds y))
-    (has_either k ps (qs ++ ds) has)
+pub part-requires-clause-within : goal.part-requires-clause-within
+part-requires-clause-within g c = λ k has.
+    let one = ap (λ (v : View). v.owns) c.take_in.ensures.kept.1 ∙ ap₂ (λ (x y : List Key). x ++ y) (ap (λ (v : View). v.owns) c.requires.keeper) (ap (λ (v : View). v.owns) c.whole-one.ensures.given.2) in
+    let two = ap (λ (v : View). v.owns) c.take_in-2.ensures.kept.1 ∙ ap₂ (λ (x y : List Key). x ++ y) one (ap (λ (v : View). v.owns) c.whole-other.ensures.given.2) in
+    let all = ap (λ (v : View). v.owns) c.take_in-3.ensures.kept.1 ∙ ap₂ (λ (x y : List Key). x ++ y) two (ap (λ (v : View). v.owns) (c.whole-own.ensures.given.2 ∙ c.requires.desk)) in
+    subst (Has k) (sym (ap (λ (v : View). v.owns) c.note_down.ensures.1 ∙ all)) (c.requires.within k has)
 
-pub relink_as-requires-clause-apart : goal.relink_as-requires-clause-apart
-relink_as-requires-clause-apart g c = λ k x y.
-    let ps = g.P.Keys.keys in
-    let qs = g.P.Keys.rest in
-    let ds = (cell_view c.args.desk.now).owns in
-    ⊎_elim (λ (a : Has k qs). c.requires.apart k x a) (λ (b : Has k ds). c.requires.apart_desk k (has_left k ps qs x) b) (has_either k qs ds y)
+pub returns-clause-goes_on : goal.returns-clause-goes_on
+returns-clause-goes_on g c =
+    let s1 = ap (λ (v : View). v.seen) c.take_in.ensures.kept.1 in
+    let s2 = ap (λ (v : View). v.seen) c.take_in-2.ensures.kept.1 ∙ s1 in (
+      subst (λ (v : View). Continues v.seen v.owns (cell_view c.args.master.now).seen) c.whole-one.ensures.given.2 c.take_in.ensures.goes_on,
+      subst (λ l. Continues (cell_view c.args.b.now).seen (cell_view c.args.b.now).owns l) s1 (subst (λ (v : View). Continues v.seen v.owns (cell_view c.take_in.new.master).seen) c.whole-other.ensures.given.2 c.take_in-2.ensures.goes_on),
+      subst (λ l. Continues (cell_view c.args.desk.now).seen g.L.Keys.rest l) s2 (subst (λ (v : View). Continues v.seen v.owns (cell_view c.take_in-2.new.master).seen) (c.whole-own.ensures.given.2 ∙ c.requires.desk) c.take_in-3.ensures.goes_on),
+    )
 
-pub relink_as-requires-clause-apart_desk : goal.relink_as-requires-clause-apart_desk
-relink_as-requires-clause-apart_desk g c = λ k x y. c.requires.apart_desk k (has_right k g.P.Keys.keys g.P.Keys.rest x) y
+pub returns-clause-born : goal.returns-clause-born
+returns-clause-born g c = λ k has.
+    let one = ap (λ (v : View). v.born) c.take_in.ensures.kept.1 in
+    let two = ap (λ (v : View). v.born) c.take_in-2.ensures.kept.1 ∙ one in
+    subst (Has k) two (c.take_in-3.ensures.born k (subst (λ (v : View). Has k v.owns) (sym (c.whole-own.ensures.given.2 ∙ c.requires.desk)) has))

@@ -1,7 +1,7 @@
-use Rattle.std.proofs.Common.{◌≡◌, ◌+◌, ◌-◌, ◌≤◌, ◌<◌, length, sym, ap, ◌∙◌, subst, arith}
+use Rattle.std.proofs.Common.{◌≡◌, ◌+◌, ◌-◌, sym, ap, ◌∙◌, subst, arith}
 use Rattle.std.specs.Option.{option_map}
 use Rattle.std.specs.Borrow.{Bor}
-use Rattle.std.specs.Prelude.{slice_get, List, Option}
+use Rattle.std.specs.Prelude.{slice_get, List}
 use Rattle.crossbeam_utils.specs.Seq.{cell_view}
 use Rattle.ioc_history.specs.declared.entry.JournalEntry.{JournalEntry}
 use Rattle.ioc_history.specs.declared.entry.Note.{Note}

@@ -4,7 +4,7 @@ use Rattle.ioc_history.specs.declared.cell.View.{View}
 use Rattle.ioc_history.specs.Key.{Has}
 use Rattle.ioc_history.specs.Line.{Continues}
 use Rattle.ioc_history.specs.KeyLaws.{has_either}
-use Rattle.ioc_history.proofs.pass.append_as.Goals as goal
+use Rattle.ioc_history.proofs.pass.append.Goals as goal
 
 pub returns-clause-goes_on : goal.returns-clause-goes_on
 returns-clause-goes_on g c =

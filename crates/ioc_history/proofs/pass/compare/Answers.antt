@@ -3,7 +3,7 @@ use Rattle.crossbeam_utils.specs.Seq.{cell_view}
 use Rattle.ioc_history.specs.declared.cell.View.{View}
 use Rattle.ioc_history.specs.Key.{Key, Has}
 use Rattle.ioc_history.specs.Line.{Continues}
-use Rattle.ioc_history.proofs.pass.compare_as.Goals as goal
+use Rattle.ioc_history.proofs.pass.compare.Goals as goal
 
 pub part-requires-clause-apart : goal.part-requires-clause-apart
 part-requires-clause-apart g c = λ k x y.
