@@ -10,7 +10,7 @@ ghost use Rattle.ioc_history.specs.Account.{AreNoDesks, AreRecords, IsHolder, Ca
 ghost use Rattle.ioc_history.specs.Stored.{IsStored};
 ghost use Rattle.ioc_history.specs.Counting.{MayAppend, BothMayAppend, IsGivenBack, IsFew, counts_of};
 ghost use Rattle.ioc_ledger.specs.Requests.{no_counts};
-ghost use Rattle.ioc_ledger.specs.Shared.{share_view, less_awaited};
+ghost use Rattle.ioc_ledger.specs.Shared.{MayDivide, AreDivided};
 ghost use Rattle.ioc_history.specs.Ticketed.{tickets_view, AreBack, AreTicketed};
 ghost use Rattle.ioc_ledger.specs.Counts.{counts};
 ghost use Rattle.ioc_history.specs.Places.{AreAllowed, journal_of, one_more_desk, with_tickets};
@@ -346,12 +346,8 @@ impl<K: RecordKind, B: EngineName<K>> Journal<K, B> {
         started: u64,
         count: u64,
     )
-        requires started { started ≡ share.old.counts.started }
-        requires enough { count ≤ started }
-        requires none { other.old.counts ≡ no_counts }
-        requires parts { 0 < count → 0 < other.old.parts }
-        ensures share { share.new ≡ share_view share.old.parts (less_awaited share.old.counts count) }
-        ensures other { other.new ≡ share_view other.old.parts (record no_counts { started = count }) }
+        requires may { MayDivide share.old other.old started count }
+        ensures divided { AreDivided share.old other.old count share.new other.new }
         ensures same { self.new ≡ self.old }
     {
         self.counted.divide_started(share, other, started, count);

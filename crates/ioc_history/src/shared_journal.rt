@@ -7,8 +7,7 @@ ghost use Rattle.ioc_history.specs.Line.{holder};
 ghost use Rattle.ioc_history.specs.Account.{IsHolder, AreNoDesks, AreRecords, MayFollow, BothMayFollow, MayBegin, Call, Added, AddedByBoth, AreKnown, AreMerged, calls, calls_by};
 ghost use Rattle.ioc_history.specs.Places.{IsNoPlace};
 ghost use Rattle.ioc_history.specs.Counting.{MayAppend, BothMayAppend, MaySend, BothMaySend, MayCount, BothMayCount, IsBacked, IsGivenBack, IsFew};
-ghost use Rattle.ioc_ledger.specs.Requests.{no_counts};
-ghost use Rattle.ioc_ledger.specs.Shared.{share_view, less_awaited};
+ghost use Rattle.ioc_ledger.specs.Shared.{MayDivide, AreDivided};
 ghost use Rattle.ioc_values.specs.declared.error.IocError.TheVariants.{JournalFull};
 
 use crate::desk::Desk;
@@ -356,12 +355,8 @@ impl<K: RecordKind, B: EngineName<K>> SharedJournal<K, B> {
         started: u64,
         count: u64,
     )
-        requires started { started ≡ share.old.counts.started }
-        requires enough { count ≤ started }
-        requires none { other.old.counts ≡ no_counts }
-        requires parts { 0 < count → 0 < other.old.parts }
-        ensures share { share.new ≡ share_view share.old.parts (less_awaited share.old.counts count) }
-        ensures other { other.new ≡ share_view other.old.parts (record no_counts { started = count }) }
+        requires may { MayDivide share.old other.old started count }
+        ensures divided { AreDivided share.old other.old count share.new other.new }
     {
         lock_soon(rt, &self.journal).divide_started(share, other, started, count);
     }

@@ -1,6 +1,6 @@
 -- The counts of requests of many lock sets together. This project's own.
-use Rattle.std.specs.Prelude.{ℕ, zero, suc, ◌-◌, ◌^◌, ◌==◌, if◌then◌else◌}
-use Rattle.ioc_ledger.specs.Requests.{capped}
+use Rattle.std.specs.Prelude.{◌≡◌, ℕ, zero, suc, ◌-◌, ◌^◌, ◌<◌, ◌≤◌, ◌==◌, if◌then◌else◌}
+use Rattle.ioc_ledger.specs.Requests.{capped, no_counts}
 use Rattle.ioc_ledger.specs.declared.tally.Tally.{Tally}
 use Rattle.ioc_ledger.specs.declared.count_blanks.CountBlanks.{CountBlanks}
 
@@ -39,3 +39,13 @@ names_of b (suc (suc (suc (suc (suc (suc _)))))) = b.completed.name
 -- count stays full.
 abbrev pub less_awaited : Tally → ℕ → Tally
 less_awaited t count = record t { started = if t.started == 2 ^ 64 - 1 then t.started else t.started - count }
+
+-- Holds if this many of a share's calls that are answered later may be moved to another share, which
+-- has no counts yet.
+abbrev pub MayDivide : (share other : ShareView) (started count : ℕ) → Type 0
+MayDivide share other started count = (started ≡ share.counts.started) × (count ≤ started) × (other.counts ≡ no_counts) × (0 < count → 0 < other.parts)
+
+-- They are moved: each share has its parts as before. A full count stays full.
+abbrev pub AreDivided : (share other : ShareView) (count : ℕ) (share_then other_then : ShareView) → Type 0
+AreDivided share other count share_then other_then =
+    (share_then ≡ share_view share.parts (less_awaited share.counts count)) × (other_then ≡ share_view other.parts (record no_counts { started = count }))

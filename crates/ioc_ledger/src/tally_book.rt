@@ -2,7 +2,7 @@
 ghost use Rattle.std.specs.Prelude.{◌≡◌, ◌<◌, ◌≤◌, ◌+◌, ◌-◌, ◌^◌, ℕ};
 ghost use Rattle.std.specs.Prelude.{Bool};
 ghost use Rattle.ioc_ledger.specs.Requests.{Requests, added, capped, counted_all, no_counts, FitsAll};
-ghost use Rattle.ioc_ledger.specs.Shared.{share_view, names_of, less_awaited};
+ghost use Rattle.ioc_ledger.specs.Shared.{share_view, names_of, MayDivide, AreDivided};
 ghost use Rattle.ioc_ledger.specs.declared.tally.Tally.{Tally};
 
 use crate::count_blanks::CountBlanks;
@@ -239,12 +239,8 @@ impl<B: CountNames> TallyBook<B> {
         started: u64,
         count: u64,
     )
-        requires started { started ≡ share.old.counts.started }
-        requires enough { count ≤ started }
-        requires none { other.old.counts ≡ no_counts }
-        requires parts { 0 < count → 0 < other.old.parts }
-        ensures share { share.new ≡ share_view share.old.parts (less_awaited share.old.counts count) }
-        ensures other { other.new ≡ share_view other.old.parts (record no_counts { started = count }) }
+        requires may { MayDivide share.old other.old started count }
+        ensures divided { AreDivided share.old other.old count share.new other.new }
         ensures same { self.new ≡ self.old }
     {
         move_over(
