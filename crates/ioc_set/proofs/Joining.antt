@@ -1,8 +1,8 @@
 -- Two sets become one: the puts with notification of both.
-use Rattle.std.proofs.Common.{◌≡◌, ◌≢◌, ◌⊎◌, ℕ, zero, suc, ◌+◌, ◌≤◌, Bool, true, false, cond, eqb, nat_eq, List, [], ◌∷◌, ◌++◌, Option, Some, refl, sym, ap, subst, ◌∙◌, ⊎_elim, inl, inr, arith}
+use Rattle.std.proofs.Common.{◌≡◌, ◌≢◌, ◌⊎◌, ℕ, zero, suc, ◌+◌, ◌≤◌, Bool, true, false, cond, eqb, nat_eq, List, ◌++◌, Option, Some, refl, sym, subst, ◌∙◌, ⊎_elim, inl, inr, arith}
 use Rattle.std.specs.Prelude.{◌↔◌, IsSome, IsTrue, unwrap_or, Contains}
 use Rattle.std.specs.FinMap.{get}
-use Rattle.std.proofs.lemmas.Bool.{eqb-true, eq-eqb}
+use Rattle.std.proofs.lemmas.Bool.{eq-eqb}
 use Rattle.std.proofs.lemmas.List.Elements.{Contains-append_cases}
 use Rattle.ioc_fields.specs.declared.field_no.FieldNo.{FieldNo}
 use Rattle.ioc_dbcommon.specs.declared.link_field.LinkField.{LinkField}
@@ -24,6 +24,7 @@ use Rattle.ioc_set_store.proofs.Entries.{none_some}
 use Rattle.ioc_events.proofs.Counting.{lives, how_many-append}
 use Rattle.ioc_set_store.proofs.Counted.{live-some, some-live}
 use Rattle.ioc_set_store.proofs.Fewer.{fewer}
+use Rattle.ioc_events.proofs.Ended.{counted-there, there-counted}
 use Rattle.ioc_set_store.proofs.Gathered.{passes-there, there-passes, together-count, dead}
 use Rattle.ioc_set.proofs.HeldRecords.{AreSame, Within, within_relinked, same_itself}
 
@@ -41,35 +42,13 @@ together-second n one other is = second-case n one other is (is_live n one) refl
 
 -- Lemmas about how often one is there.
 
-later : {X : Type 0} (y : X) (xs : List X) (x : X) → Contains xs x → Contains (y ∷ xs) x
-later y xs x (i, lt, is) = (suc i, omega (arith, lt), is)
-
-pub one-of : {X : Type 0} (f : X → ℕ) (n : ℕ) (xs : List X) → 1 ≤ how_many f n xs → (x : X) × Contains xs x × (f x ≡ n)
-one-of f n [] some = absurd (let z : ⊥ = omega (arith, some) in z)
-one-of {X} f n (y ∷ xs) some = elim (eqb (f y) n) as (λ b. eqb (f y) n ≡ b → 1 ≤ cond b (1 + how_many f n xs) (how_many f n xs) → (x : X) × Contains (y ∷ xs) x × (f x ≡ n)) [
-  | true ↦ λ e _. (y, (0, omega arith, refl), eqb-true (f y) n e)
-  | false ↦ λ e rest. let one = one-of f n xs rest in (one.0, later y xs one.0 one.1, one.2)
-] refl some
-
-pub is-counted : {X : Type 0} (f : X → ℕ) (xs : List X) (x : X) → Contains xs x → 1 ≤ how_many f (f x) xs
-is-counted f [] x c = absurd (let l = c.1 in let z : ⊥ = omega (arith, l) in z)
-is-counted f (y ∷ xs) x (zero, lt, is) =
-    let same : eqb (f y) (f x) ≡ true = eq-eqb (f y) (f x) (ap f is) in
-    subst (λ (b : Bool). 1 ≤ cond b (1 + how_many f (f x) xs) (how_many f (f x) xs)) (sym same) (omega arith)
-is-counted f (y ∷ xs) x (suc i, lt, is) =
-    let rest = is-counted f xs x (i, omega (arith, lt), is) in
-    elim (eqb (f y) (f x)) as (λ b. 1 ≤ cond b (1 + how_many f (f x) xs) (how_many f (f x) xs)) [
-      | true ↦ omega arith
-      | false ↦ rest
-    ]
-
 once-case : (n : ℕ) (ws xs : List Waiting) → ((x y : Waiting) → Contains ws x → Contains xs y → x.number ≢ y.number)
     → (a : ℕ) → how_many (λ (x : Waiting). x.number) n ws ≡ a → (b : ℕ) → how_many (λ (x : Waiting). x.number) n xs ≡ b → a ≤ 1 → b ≤ 1 → a + b ≤ 1
 once-case n ws xs apart zero is b other_is one other_one = omega (arith, other_one)
 once-case n ws xs apart (suc a) is zero other_is one other_one = omega (arith, one)
 once-case n ws xs apart (suc a) is (suc b) other_is one other_one =
-    let x = one-of (λ (x : Waiting). x.number) n ws (omega (arith, is)) in
-    let y = one-of (λ (x : Waiting). x.number) n xs (omega (arith, other_is)) in
+    let x = counted-there (λ (x : Waiting). x.number) n ws (omega (arith, is)) in
+    let y = counted-there (λ (x : Waiting). x.number) n xs (omega (arith, other_is)) in
     absurd (apart x.0 y.0 x.1 y.1 (x.2 ∙ sym y.2))
 
 pub joined_once : (ws xs : List Waiting) → ((x y : Waiting) → Contains ws x → Contains xs y → x.number ≢ y.number) → ((n : ℕ) → how_many (λ (x : Waiting). x.number) n ws ≤ 1)
@@ -184,8 +163,8 @@ module _ {R D : Type 0} (k : RecordRules R) (before other stay : SetState R D) (
   waits-case : (n a : ℕ) → how_many (λ (x : Waiting). x.number) n stay.waiting ≡ a → a ≤ 1 → a ≤ how_many (λ (x : Waiting). x.number) n before.waiting
   waits-case n zero is one = omega arith
   waits-case n (suc a) is one =
-      let x = one-of (λ (x : Waiting). x.number) n stay.waiting (omega (arith, is)) in
-      let counted : 1 ≤ how_many (λ (x : Waiting). x.number) n before.waiting = subst (λ (q : ℕ). 1 ≤ how_many (λ (x : Waiting). x.number) q before.waiting) x.2 (is-counted (λ (x : Waiting). x.number) before.waiting x.0 (waited x.0 x.1)) in
+      let x = counted-there (λ (x : Waiting). x.number) n stay.waiting (omega (arith, is)) in
+      let counted : 1 ≤ how_many (λ (x : Waiting). x.number) n before.waiting = subst (λ (q : ℕ). 1 ≤ how_many (λ (x : Waiting). x.number) q before.waiting) x.2 (there-counted (λ (x : Waiting). x.number) before.waiting x.0 (waited x.0 x.1)) in
       omega (arith, counted, one)
 
   pub stay_may : MayBeOne stay other

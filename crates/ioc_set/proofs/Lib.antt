@@ -4,7 +4,6 @@ mod AwaitingRequests
 mod AwaitingEvents
 mod Sounding
 mod NoneLive
-mod Beginning
 mod DidLaws
 mod DoneLaws
 mod NothingHeld

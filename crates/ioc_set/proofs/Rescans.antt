@@ -16,8 +16,7 @@ use Rattle.ioc_process.specs.Keeping.{keeps_all, moved-keeps}
 use Rattle.ioc_store.specs.declared.outbox.OutboxItem.TheVariants.{Change}
 use Rattle.ioc_store.specs.World.{World, Has, Keeps, at, begun, begun_at, put, changed, sent, lost}
 use Rattle.ioc_store.specs.Scanning.{device_of, moved, rewired}
-use Rattle.ioc_store.specs.ScanLaws.{rewired-either, moved-either}
-use Rattle.ioc_store.specs.Worlds.{sent_by}
+use Rattle.ioc_store.specs.ScanLaws.{rewired-either}
 use Rattle.ioc_set_store.specs.declared.set_store.SetStore.{SetStore}
 use Rattle.ioc_set_store.specs.SetStore.{world_of}
 use Rattle.ioc_set_store.specs.Resting.{resting}
@@ -39,21 +38,6 @@ unfolding begun_at begun
 waiting_begun moment rs = refl
 
 module _ {R : Type 0} (k : RecordRules R) where
-  -- It makes no put with notification live or waiting.
-  moved-live : (w : World R) (s : ℕ) → (moved k w s).live ≡ w.live
-  unfolding changed put lost
-  moved-live w s = moved-either k (λ (x : World R). x.live ≡ w.live) w s (λ item. ap (λ (x : World R). x.live) (sym (sent_by item _))) refl
-
-  moved-waiting : (w : World R) (s : ℕ) → (moved k w s).waiting ≡ w.waiting
-  unfolding changed put lost
-  moved-waiting w s = moved-either k (λ (x : World R). x.waiting ≡ w.waiting) w s (λ item. ap (λ (x : World R). x.waiting) (sym (sent_by item _))) refl
-
-  pub rewired-live : (before : List ℕ) (w : World R) (s : ℕ) → (rewired k before w s).live ≡ w.live
-  rewired-live before w s = rewired-either k (λ (x : World R). x.live ≡ w.live) before w s refl (moved-live w s)
-
-  pub rewired-waiting : (before : List ℕ) (w : World R) (s : ℕ) → (rewired k before w s).waiting ≡ w.waiting
-  rewired-waiting before w s = rewired-either k (λ (x : World R). x.waiting ≡ w.waiting) before w s refl (moved-waiting w s)
-
   pub rewired-keeps : IsLawful k → (before : List ℕ) (w : World R) (s : ℕ) → Has w s → Keeps k w (rewired k before w s)
   rewired-keeps lawful before w s there = rewired-either k (Keeps k w) before w s (keeps_all k w) (moved-keeps k lawful w s there)
 

@@ -1,10 +1,10 @@
 //! Link changes of lock sets: one set that is divided, and two that become one.
-ghost use Rattle.std.specs.Prelude.{◌≡◌, ◌<◌, ◌≤◌, ◌+◌, ℕ, [], ◌∷◌, None, IsSome, Contains, IfOk, OnOk, OnErr};
+ghost use Rattle.std.specs.Prelude.{◌≡◌, ◌<◌, ◌≤◌, ◌+◌, ℕ, [], ◌∷◌, None, IsSome, IfOk, OnOk, OnErr};
 ghost use Rattle.std.specs.FinMap as map;
 ghost use Rattle.ioc_dbcommon.specs.Links.{use_of, named_by};
 ghost use Rattle.ioc_store.specs.Scanning.{rewired};
 ghost use Rattle.ioc_store.specs.World.{Has, begun_at};
-ghost use Rattle.ioc_set_records.specs.Joined.{HasLink, HasFreeLink, relinked};
+ghost use Rattle.ioc_set_records.specs.Joined.{HasLink, HasFreeLink, MayLink, relinked};
 ghost use Rattle.ioc_set.specs.SetState.{NoneIsLive, now_of, folded};
 ghost use Rattle.ioc_set.specs.Linking.{with_empty_history, FallsApart, MayBeOne, BecomeOne, LeadsInto, link_change_of};
 ghost use Rattle.ioc_set_store.specs.SetStore.{world_of};
@@ -47,9 +47,7 @@ impl<K: RecordKind + Drop, D: Drop> LockSet<K, D> {
         link: LinkBox,
         base_link: LinkBox,
     ) -> Result<LockSet<K, D>, AllocError>
-        requires base_link { base_link ≡ link }
-        requires field { HasLink K.rules self.old.records number field }
-        requires within { (t : ℕ) → Contains (named_by (use_of link)) t → IsSome (map.get self.old.records t) }
+        requires link { MayLink K.rules self.old.records number field link base_link }
         ensures apart { IfOk result (λ rest. FallsApart self.old (relinked K.rules self.old.records number field link) number self.new
             rest) }
         ensures fewer { OnOk result (map.len self.new.records ≤ map.len self.old.records) }
@@ -110,7 +108,7 @@ impl<K: RecordKind + Drop, D: Drop> LockSet<K, D> {
         self.fold();
         other.fold();
         self.members
-            .join_in(room, &mut other.members, number, field, link, base_link);
+            .join(room, &mut other.members, number, field, link, base_link);
         self.members.are_few();
         let puts = joined_puts(&self.members, &self.puts, &other.puts, puts_room, alloc);
         self.puts = puts;
@@ -170,9 +168,7 @@ impl<K: RecordKind + Drop, D: Device> LockSet<K, D> {
         base_link: LinkBox,
         moment: u64,
     ) -> Result<LockSet<K, D>, AllocError>
-        requires base_link { base_link ≡ link }
-        requires field { HasLink K.rules self.old.records number field }
-        requires within { (t : ℕ) → Contains (named_by (use_of link)) t → IsSome (map.get self.old.records t) }
+        requires link { MayLink K.rules self.old.records number field link base_link }
         ensures apart { IfOk result (λ rest. FallsApart self.old (link_change_of K.rules self.old moment number field link).records
             number self.new rest) }
         ensures left { OnOk result (with_kept (link_change_of K.rules self.old moment number field link).records self.old.live

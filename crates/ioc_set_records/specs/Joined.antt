@@ -8,7 +8,7 @@ use Rattle.std.specs.FinMap.{get, insert}
 use Rattle.ioc_fields.specs.declared.field_no.FieldNo.{FieldNo}
 use Rattle.ioc_graph.specs.Paths.{Connected}
 use Rattle.ioc_dbcommon.specs.declared.link_field.LinkField.{LinkField}
-use Rattle.ioc_dbcommon.specs.Links.{named_by_field}
+use Rattle.ioc_dbcommon.specs.Links.{named_by, named_by_field, use_of}
 use Rattle.ioc_record.specs.RecordRules.{RecordRules, targets}
 use Rattle.ioc_set_records.specs.Contents.{Records, record_at}
 
@@ -53,6 +53,11 @@ HasLink {R} k m n field = (r : R) × (get m n ≡ Some r) × (is_some (k.link r 
 -- leads nowhere.
 abbrev pub HasFreeLink : {R : Type 0} → RecordRules R → Records R → ℕ → FieldNo → Type 0
 HasFreeLink {R} k m n field = (r : R) × (get m n ≡ Some r) × (is_some (k.link r field) ≡ true) × (named_by_field (k.link r field) ≡ [])
+
+-- Holds if the field is a link field of the record, and the link, like the equal one of the base,
+-- leads nowhere or to one of these records.
+abbrev pub MayLink : {R : Type 0} → RecordRules R → Records R → ℕ → FieldNo → (link base_link : LinkField) → Type 0
+MayLink k m n field link base_link = HasLink k m n field × ((t : ℕ) → Contains (named_by (use_of link)) t → IsSome (get m t)) × (base_link ≡ link)
 
 -- The records with one link of one of them set.
 abbrev pub relinked : {R : Type 0} → RecordRules R → Records R → ℕ → FieldNo → LinkField → Records R

@@ -1,5 +1,5 @@
 //! The union of two sets.
-ghost use Rattle.std.specs.Prelude.{◌≡◌, ◌<◌, ◌≤◌, ◌+◌, ◌++◌, length, IfOk, OnOk, OnErr, [], vec_capacity};
+ghost use Rattle.std.specs.Prelude.{◌≡◌, ◌<◌, ◌≤◌, ◌+◌, ◌++◌, length, IfOk, [], vec_capacity};
 ghost use Rattle.std.specs.List.Sorted.{IsNonDecreasingBy, IsPermutation};
 ghost use Rattle.ioc_set_records.specs.Edges.{slots_relinked};
 
@@ -50,34 +50,6 @@ fn sort<K, D>(slots: &mut Vec<Slot<K, D>>)
     slots.sort_unstable_by_key(|slot| slot.number.index());
 }
 
-/// Moves the slots of another set here, and sets a link of the record at a place, and of its base.
-/// `link` and `base_link` must be equal.
-///
-/// # Errors
-///
-/// [`AllocError`] if allocation fails; nothing has changed then.
-pub fn join_slots<K: RecordKind, D>(
-    slots: &mut Vec<Slot<K, D>>,
-    other: &mut Vec<Slot<K, D>>,
-    place: usize,
-    field: FieldNo,
-    link: LinkBox,
-    base_link: LinkBox,
-) -> Result<(), AllocError>
-    requires there { place < length slots.old.items }
-    requires base_link { base_link ≡ link }
-    ensures permutation { OnOk result (IsPermutation (slots_relinked K.rules slots.old.items place field link ++ other.old.items) slots.new.items) }
-    ensures sorted { OnOk result (IsNonDecreasingBy (λ s. s.number) slots.new.items) }
-    ensures emptied { OnOk result (other.new.items ≡ []) }
-    ensures err { OnErr result ((slots.new.items ≡ slots.old.items) × (other.new.items ≡ other.old.items)) }
-    ensures full { OnErr result (vec_capacity slots.old < length slots.old.items + length other.old.items) }
-{
-    slots.append(other)?;
-    relink(&mut slots[place], field, link, base_link);
-    sort(slots);
-    Ok(())
-}
-
 /// Moves slots and the list of changed ones to the larger memory of `room`. No slot may be marked
 /// as changed.
 pub fn move_in<K: Drop, D: Drop>(
@@ -103,8 +75,9 @@ pub fn move_in<K: Drop, D: Drop>(
     *changed = places;
 }
 
-/// Joins two sets as [`join_slots`] does, if the memory for both is reserved.
-pub fn join_with_room<K: RecordKind, D>(
+/// Moves the slots of another set here, for which memory is reserved, and sets a link of the record
+/// at a place, and of its base. `link` and `base_link` must be equal.
+pub fn join_slots<K: RecordKind, D>(
     slots: &mut Vec<Slot<K, D>>,
     other: &mut Vec<Slot<K, D>>,
     place: usize,
@@ -119,7 +92,9 @@ pub fn join_with_room<K: RecordKind, D>(
     ensures sorted { IsNonDecreasingBy (λ s. s.number) slots.new.items }
     ensures emptied { other.new.items ≡ [] }
 {
-    if join_slots(slots, other, place, field, link, base_link).is_err() {
+    let Ok(()) = slots.append(other) else {
         unreachable!()
-    }
+    };
+    relink(&mut slots[place], field, link, base_link);
+    sort(slots);
 }

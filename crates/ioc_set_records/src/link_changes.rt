@@ -5,7 +5,7 @@ ghost use Rattle.ioc_dbcommon.specs.Links.{use_of, named_by};
 ghost use Rattle.ioc_set_records.specs.Contents.{nothing};
 ghost use Rattle.ioc_set_records.specs.Joined.{links_of, IsPart, HasLink, HasFreeLink, AreShared, relinked};
 
-use crate::joining::{JoinBuffers, join_slots, join_with_room, move_in};
+use crate::joining::{JoinBuffers, join_slots, move_in};
 use crate::marks::fold_slots;
 use crate::members::Members;
 use crate::parting::part_slots;
@@ -63,65 +63,12 @@ impl<K: RecordKind + Drop, D: Drop> Members<K, D> {
             latest: 0,
         })
     }
-}
 
-impl<K: RecordKind, D> Members<K, D> {
     /// Sets a link of a record, which led nowhere, to a record of another set, and takes over that
-    /// set with its devices; the other set has no records then. Each record equals its base before
-    /// and after, so the base gets an equal link, `base_link`. The cost is n log n for n records in
-    /// both.
-    ///
-    /// # Errors
-    ///
-    /// [`AllocError`] if allocation fails; nothing has changed then.
+    /// set with its devices, in memory that was reserved before; the other set has no records then.
+    /// Each record equals its base before and after, so the base gets an equal link, `base_link`.
+    /// The cost is n log n for n records in both.
     pub fn join(
-        &mut self,
-        other: &mut Members<K, D>,
-        number: RecordNo,
-        field: FieldNo,
-        link: LinkBox,
-        base_link: LinkBox,
-    ) -> Result<(), AllocError>
-        requires folded { self.old.base ≡ self.old.records }
-        requires other_folded { other.old.base ≡ other.old.records }
-        requires base_link { base_link ≡ link }
-        requires apart { (q : ℕ) → IsSome (map.get self.old.records q) → map.get other.old.records q ≡ None }
-        requires one_part { IsPart (links_of K.rules self.old.records) }
-        requires other_part { IsPart (links_of K.rules other.old.records) }
-        requires free { HasFreeLink K.rules self.old.records number field }
-        requires to { (t : ℕ) × (named_by (use_of link) ≡ t ∷ []) × IsSome (map.get other.old.records t) }
-
-        // The records are those of both sets, each once, unchanged except for the one link, and so
-        // are the devices.
-        ensures shared { OnOk result (AreShared (map.get self.new.records) (map.get (relinked K.rules self.old.records number field link)) (map.get other.old.records)) }
-        ensures devices { OnOk result (AreShared (map.get self.new.devices) (map.get self.old.devices) (map.get other.old.devices)) }
-        ensures part { OnOk result (IsPart (links_of K.rules self.new.records)) }
-        ensures emptied { OnOk result (other.new ≡ nothing) }
-        ensures base { OnOk result (self.new.base ≡ self.new.records) }
-        ensures err { OnErr result ((self.new ≡ self.old) × (other.new ≡ other.old)) }
-    {
-        fold_slots(&mut self.slots, &mut self.changed);
-        fold_slots(&mut other.slots, &mut other.changed);
-        let Some(place) = place_of(&self.slots, self.latest, number) else {
-            unreachable!()
-        };
-        self.changed.reserve(self.slots.len() + other.slots.len())?;
-        join_slots(
-            &mut self.slots,
-            &mut other.slots,
-            place,
-            field,
-            link,
-            base_link,
-        )?;
-        Ok(())
-    }
-}
-
-impl<K: RecordKind + Drop, D: Drop> Members<K, D> {
-    /// Joins two sets as [`Members::join`] does, in memory that was reserved before, so that it
-    /// can't fail.
-    pub fn join_in(
         &mut self,
         room: JoinBuffers<K, D>,
         other: &mut Members<K, D>,
@@ -139,6 +86,9 @@ impl<K: RecordKind + Drop, D: Drop> Members<K, D> {
         requires other_part { IsPart (links_of K.rules other.old.records) }
         requires free { HasFreeLink K.rules self.old.records number field }
         requires to { (t : ℕ) × (named_by (use_of link) ≡ t ∷ []) × IsSome (map.get other.old.records t) }
+
+        // The records are those of both sets, each once, unchanged except for the one link, and so
+        // are the devices.
         ensures shared { AreShared (map.get self.new.records) (map.get (relinked K.rules self.old.records number field link)) (map.get other.old.records) }
         ensures devices { AreShared (map.get self.new.devices) (map.get self.old.devices) (map.get other.old.devices) }
         ensures part { IsPart (links_of K.rules self.new.records) }
@@ -151,7 +101,7 @@ impl<K: RecordKind + Drop, D: Drop> Members<K, D> {
             unreachable!()
         };
         move_in(room, &mut self.slots, &mut self.changed);
-        join_with_room(
+        join_slots(
             &mut self.slots,
             &mut other.slots,
             place,

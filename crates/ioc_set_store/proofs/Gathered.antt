@@ -1,10 +1,8 @@
 -- The puts with notification that stay with some records, or that come from two sets.
-use Rattle.std.proofs.Common.{◌≡◌, ℕ, zero, suc, ◌+◌, ◌^◌, ◌<◌, ◌≤◌, Bool, true, false, cond, not, ◌||◌, eqb, List, [], ◌∷◌, ◌++◌, length, Option, Some, None, refl, sym, ap, subst, ◌∙◌, inl, inr, arith, length-append}
-use Rattle.std.specs.Prelude.{Contains}
+use Rattle.std.proofs.Common.{◌≡◌, ℕ, zero, suc, ◌+◌, ◌^◌, ◌<◌, ◌≤◌, Bool, true, false, cond, not, ◌||◌, eqb, List, [], ◌∷◌, ◌++◌, length, Option, Some, None, refl, sym, ap, subst, ◌∙◌, arith, length-append}
 use Rattle.std.specs.List.{filter}
 use Rattle.std.specs.FinMap.{entries, contains_key, len}
 use Rattle.std.proofs.lemmas.Bool.{eqb-true}
-use Rattle.std.proofs.lemmas.List.Elements.{Contains-append_cases}
 use Rattle.ioc_notify.specs.declared.live_numbers.Live.{Live}
 use Rattle.ioc_notify.specs.declared.waiting_lists.Waiting.{Waiting}
 use Rattle.ioc_notify.specs.Living.{is_live, begun}
@@ -16,39 +14,9 @@ use Rattle.ioc_set_store.specs.Resting.{resting}
 use Rattle.ioc_set_store.specs.Puts.{Puts, puts_of, live_of, waiting_of, AreNone}
 use Rattle.ioc_set_store.specs.Recounting.{begun_each, own_waiting, together, AreLive}
 use Rattle.ioc_events.proofs.Counting.{lives, how_many-append}
+pub use Rattle.ioc_events.proofs.RecordLists.{passes-there, there-passes}
 use Rattle.ioc_set_store.proofs.Counted.{recounted, gained-none, none-begun, each-begun, live-some, some-live, begun-keeps, begun-has, begun-only}
 use Rattle.ioc_set_store.proofs.Fewer.{fewer}
-
--- Lemmas about filtered lists.
-
-one-there : {X : Type 0} (x y : X) → Contains (x ∷ []) y → x ≡ y
-one-there x y (zero, lt, is) = is
-one-there x y (suc i, lt, is) = absurd (omega arith)
-
-later : {X : Type 0} (y : X) (xs : List X) (x : X) → Contains xs x → Contains (y ∷ xs) x
-later y xs x (i, lt, is) = (suc i, omega (arith, lt), is)
-
--- An item is in the filtered list if and only if it is in the list and passes.
-pub passes-there : {X : Type 0} (p : X → Bool) (xs : List X) (x : X) → Contains (filter p xs) x → Contains xs x × (p x ≡ true)
-passes-there p [] x h = absurd (omega (arith, h.1))
-passes-there p (y ∷ xs) x h =
-    elim (p y) as (λ b. p y ≡ b → Contains (cond b (y ∷ filter p xs) (filter p xs)) x → Contains (y ∷ xs) x × (p x ≡ true)) [
-      | true ↦ λ is c. elim (Contains-append_cases (y ∷ []) (filter p xs) x c) [
-        | inl here ↦ let e : y ≡ x = one-there y x here in ((0, omega arith, e), ap p (sym e) ∙ is)
-        | inr there ↦ let rest = passes-there p xs x there in (later y xs x rest.0, rest.1)
-      ]
-      | false ↦ λ is c. let rest = passes-there p xs x c in (later y xs x rest.0, rest.1)
-    ] refl h
-
-pub there-passes : {X : Type 0} (p : X → Bool) (xs : List X) (x : X) → Contains xs x → p x ≡ true → Contains (filter p xs) x
-there-passes p [] x h is = absurd (omega (arith, h.1))
-there-passes p (y ∷ xs) x (zero, lt, here) is = let e : p y ≡ true = ap p here ∙ is in rw e (0, omega arith, here)
-there-passes p (y ∷ xs) x (suc i, lt, there) is =
-    let rest = there-passes p xs x (i, omega (arith, lt), there) is in
-    elim (p y) as (λ b. Contains (cond b (y ∷ filter p xs) (filter p xs)) x) [
-      | true ↦ later y (filter p xs) x rest
-      | false ↦ rest
-    ]
 
 pub fewer_pass : {X : Type 0} (f : X → ℕ) (p : X → Bool) (n : ℕ) (xs : List X) → how_many f n (filter p xs) ≤ how_many f n xs
 fewer_pass f p n [] = omega arith

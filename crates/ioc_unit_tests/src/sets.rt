@@ -10,7 +10,7 @@ use ioc_fields::{CommonField, FieldNo, OwnField};
 use ioc_links::{LinkKind, parse};
 use ioc_names::RecordNo;
 use ioc_record::{Record, RecordKind};
-use ioc_set_records::{Change, Members};
+use ioc_set_records::{Change, JoinBuffers, Members};
 use ioc_values::{Name, Value};
 use rec_numeric::Longin;
 use std::alloc::{AllocError, Global};
@@ -262,7 +262,10 @@ pub fn join<K: RecordKind, D: Device>(
         return Ok(false);
     }
     let base_link = link.copy(alloc)?;
-    set.join(other, number, LINK, link, base_link)?;
+    set.are_few();
+    other.are_few();
+    let room = JoinBuffers::new(alloc, set.len() + other.len())?;
+    set.join(room, other, number, LINK, link, base_link);
     Ok(true)
 }
 

@@ -9,7 +9,8 @@ use Rattle.ioc_set_store.specs.Attached.{attached_in}
 use Rattle.ioc_set_store.specs.Resting.{resting}
 use Rattle.ioc_set_store.proofs.AttachedLaws.{bases_alike, devices_alike}
 use Rattle.ioc_set.proofs.DidLaws.{starts}
-use Rattle.ioc_set.proofs.Rescans.{came_to, rewired-live, rewired-waiting, live_begun, waiting_begun}
+use Rattle.ioc_events.proofs.Rewired.{rewired-leaves}
+use Rattle.ioc_set.proofs.Rescans.{came_to, live_begun, waiting_begun}
 use Rattle.ioc_set.proofs.linking.rescan_on.Goals as goal
 
 pub invariant_of-place : goal.invariant_of-place
@@ -22,8 +23,8 @@ invariant_of-place g c =
     let is = c.rewire.ensures.world ∙ ap (λ (v : World g.row.K.Denot). rewired k c.args.before v c.args.number) start in
     record {
       no_record = ap (λ (m : Contents g.row.K.Denot g.row.D.Denot). len m.records) (c.swap-2.ensures.y_after ∙ c.swap.ensures.y_after) ∙ place.no_record;
-      none_live = ap (λ (v : World g.row.K.Denot). v.live) is ∙ rewired-live k c.args.before w c.args.number ∙ live_begun c.args.moment rs;
-      none_waits = ap (λ (v : World g.row.K.Denot). v.waiting) is ∙ rewired-waiting k c.args.before w c.args.number ∙ waiting_begun c.args.moment rs;
+      none_live = ap (λ (v : World g.row.K.Denot). v.live) is ∙ (rewired-leaves k c.args.before w c.args.number).live ∙ live_begun c.args.moment rs;
+      none_waits = ap (λ (v : World g.row.K.Denot). v.waiting) is ∙ (rewired-leaves k c.args.before w c.args.number).waiting ∙ waiting_begun c.args.moment rs;
       no_frame = place.no_frame;
       no_answer = place.no_answer;
       none_journaled = place.none_journaled;

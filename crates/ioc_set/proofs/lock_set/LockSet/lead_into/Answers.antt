@@ -1,4 +1,4 @@
-use Rattle.std.proofs.Common.{◌≡◌, ap, subst, sym}
+use Rattle.std.proofs.Common.{◌≡◌, ap, subst, sym, ◌∙◌}
 use Rattle.std.specs.Prelude.{IsSome, is_some}
 use Rattle.std.specs.FinMap.{get}
 use Rattle.ioc_set_records.specs.Contents.{Records}
@@ -8,8 +8,11 @@ use Rattle.ioc_set_store.specs.SetStore.{world_of}
 use Rattle.ioc_set.proofs.LeadLaws.{names_none, stays-apart, is-free, both-have, leads, none_stays, still_may}
 use Rattle.ioc_set.proofs.lock_set.LockSet.lead_into.Goals as goal
 
-pub split-requires-clause-within : goal.split-requires-clause-within
-split-requires-clause-within g c t named = absurd (names_none c.empty.result c.empty.ensures t named)
+pub split-requires : goal.split-requires
+split-requires g c =
+    let same : c.fold.new.self.records ≡ c.args.self.now.records = ap (λ (h : SetState g.row.K.Denot g.row.D.Denot). h.records) c.fold.ensures in
+    let has = subst (λ (rs : Records g.row.K.Denot). HasLink g.K.RecordKind.rules rs c.args.number c.args.field) (sym same) c.requires.field in
+    record { link = (has, λ t named. absurd (names_none c.empty.result c.empty.ensures t named), c.empty-2.ensures ∙ sym c.empty.ensures) }
 
 pub unite-requires-clause-apart : goal.unite-requires-clause-apart
 unite-requires-clause-apart g c =

@@ -35,7 +35,7 @@ module _ (g : Over) (c : After-are_few-3 g) where
       omega (arith, few, fewer)
 
   there : IsSome (get c.self.inside.members.records c.args.number)
-  there = subst (λ (rs : Records g.row.K.Denot). IsSome (get rs c.args.number)) (sym cleared.records) (ap is_some c.requires.field.1)
+  there = subst (λ (rs : Records g.row.K.Denot). IsSome (get rs c.args.number)) (sym cleared.records) (ap is_some c.requires.link.0.1)
 
   stays : Within g.K.RecordKind.rules c.self.inside.members.records c.part.new.self.records
   stays = stay_within g.K.RecordKind.rules g.met.K.RecordKind.lawful c.args.number c.args.field c.args.link c.self.inside.members.records c.part.new.self.records c.in_ok-rest.rest.records there c.in_ok-rest.ensures.shared
