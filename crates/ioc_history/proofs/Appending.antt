@@ -25,7 +25,7 @@ use Rattle.ioc_history.proofs.Calls.{below_other, counted}
 use Rattle.ioc_history.proofs.CountsThen.{counts-then}
 use Rattle.ioc_history.proofs.Fitting.{last_fits}
 use Rattle.ioc_history.proofs.TicketsThen.{tickets-then, begun-then}
-use Rattle.ioc_history.proofs.Written.{as_many, one_more_entry}
+use Rattle.ioc_history.proofs.Written.{one_more_entry}
 
 -- What is known of a list with one more call: the next one of desk `n`, stored as `made`.
 pub record IsOneMore {R : Type 0} (k : RecordRules R) (base : World R) (log : List Note) (n next : ℕ) (seen : List Note) (done : Entry) (keys : List Key) (made : JournalEntry)
@@ -99,13 +99,13 @@ module _ {R : Type 0} {k : RecordRules R} {base : World R} {log : List Note} {n 
 module _ {R : Type 0} {k : RecordRules R} {base : World R} {v : View} {n next : ℕ} {seen : List Note} {done : Entry} {keys : List Key} {made : JournalEntry} {sent : ℕ} {share : Option ShareView} {before after : Tally}
     (more : IsOneMore k base v.seen n next seen done keys made sent share before after)
     {table id : TableId} {items : List JournalEntry} {dropped : ℕ} {from : Option (JournalBase R)} {desks : ℕ} {tickets : TicketsView} {book : Tally} (kept : IsKept k base table id v items dropped from desks tickets book) where
-  pub receipt-then : (place : ℕ) (id_then : TableId) (w : View) → place ≡ dropped + length items → id_then ≡ id → w ≡ holder (v.seen ++ noted made keys ∷ []) [] → IsReceipt k base table id_then w place
+  pub receipt-then : (place : ℕ) (id_then : TableId) (w : View) → place ≡ length v.seen → id_then ≡ id → w ≡ holder (v.seen ++ noted made keys ∷ []) [] → IsReceipt k base table id_then w place
   receipt-then place id_then w at same holds =
       let told = sym (ap (λ (x : View). x.seen) holds) in
       record {
         same = same ∙ kept.same;
         holds = holds ∙ ap (λ (l : List Note). holder l []) told;
-        ends = subst (λ (l : List Note). length l ≡ place + 1) told (omega (arith, length-append v.seen (noted made keys ∷ []), as_many items dropped v.seen kept.items_are kept.within, at));
+        ends = subst (λ (l : List Note). length l ≡ place + 1) told (omega (arith, length-append v.seen (noted made keys ∷ []), at));
         account = subst (IsAccount k base) told more.account;
       }
 

@@ -25,7 +25,7 @@ impl<K: RecordKind + Drop, B: EngineName<K>> Journal<K, B> {
         ensures freed { IfSome result (λ free. self.old.dropped + free ≡ length self.old.filled) }
         ensures none { IfNone result ((self.new ≡ self.old) × (2 ^ 63 < length self.old.filled)) }
     {
-        let calls = self.dropped + self.entries.len() as u64;
+        let calls = self.len();
         if calls > MOST_DROPPED {
             return None;
         }

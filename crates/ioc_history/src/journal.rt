@@ -1,5 +1,5 @@
 //! All calls of an engine in one order.
-ghost use Rattle.std.specs.Prelude.{◌≡◌, ◌↔◌, ◌<◌, ◌≤◌, ◌+◌, ◌-◌, ◌^◌, ◌++◌, [], if◌then◌else◌, IfOk, IfErr, OnOk, OnErr};
+ghost use Rattle.std.specs.Prelude.{◌≡◌, ◌↔◌, ◌<◌, ◌≤◌, ◌+◌, ◌-◌, ◌^◌, ◌++◌, [], if◌then◌else◌, length, IfOk, IfErr, OnOk, OnErr};
 ghost use Rattle.crossbeam_utils.specs.Seq.{cell_view};
 ghost use Rattle.ioc_history.specs.Key.{Key, Has};
 ghost use Rattle.ioc_history.specs.Line.{keeper, holder, Continues};
@@ -167,6 +167,15 @@ impl<K: RecordKind, B: EngineName<K>> Journal<K, B> {
         }
     }
 
+    // Returns the number of calls, with those whose entries were dropped.
+    #[inline(always)]
+    pub(crate) fn len(&self) -> u64
+        ensures count { result ≡ length self.now.filled }
+        ensures few { result < 2 ^ 64 - 1 }
+    {
+        self.dropped + self.entries.len() as u64
+    }
+
     /// Opens a desk, which has seen all calls and made none. Its number is the number of desks
     /// opened before.
     ///
@@ -244,7 +253,7 @@ impl<K: RecordKind, B: EngineName<K>> Journal<K, B> {
         ensures set { (set.new.table_id ≡ set.old.table_id) × (cell_view set.new ≡ holder self.new.filled (cell_view set.old).owns) }
         ensures added { Added K.rules B.base (cell_view set.old).seen (cell_view set.old).owns S.entry self.old.filled self.new.filled }
     {
-        let index = self.dropped + self.entries.len() as u64;
+        let index = self.len();
         let is_request = made.is_request();
         let pass = pass::append::<Brand, Brand, R>(
             rt,
@@ -295,7 +304,7 @@ impl<K: RecordKind, B: EngineName<K>> Journal<K, B> {
             (cell_view other.old).owns S.entry self.old.filled self.new.filled }
     {
         let call = desk.next;
-        let index = self.dropped + self.entries.len() as u64;
+        let index = self.len();
         let is_request = made.is_request();
         let pass = deal::<Brand, Brand, Brand, R>(
             rt,

@@ -1,4 +1,4 @@
-use Rattle.std.proofs.Common.{◌≡◌, ◌≢◌, ℕ, List, [], ◌∷◌, ◌++◌, sym, ap, ◌∙◌, subst, ⊎_elim, arith}
+use Rattle.std.proofs.Common.{◌≡◌, ◌≢◌, ℕ, List, [], ◌∷◌, ◌++◌, length, sym, ap, ◌∙◌, subst, ⊎_elim, arith}
 use Rattle.crossbeam_utils.specs.Seq.{cell_view}
 use Rattle.ioc_history.specs.declared.entry.JournalEntry.{JournalEntry}
 use Rattle.ioc_history.specs.declared.entry.Note.{Note}
@@ -8,7 +8,6 @@ use Rattle.ioc_history.specs.KeyLaws.{has_left, has_right, has_either}
 use Rattle.ioc_history.specs.Account.{desk_key, AreNoDesks, AreRecords, AddedByBoth}
 use Rattle.ioc_history.specs.Places.{PlacesOf, JournalOf}
 use Rattle.ioc_history.proofs.Calls.{no_longer}
-use Rattle.ioc_history.proofs.Written.{as_many}
 use Rattle.ioc_history.proofs.CountsThen.{adds}
 use Rattle.ioc_history.proofs.Appending.{two-sets, ends-so, desk-then, call-then, receipt-then, begun-so, kept-then}
 use Rattle.ioc_history.proofs.journal.Journal.append_two.Goals as goal
@@ -46,7 +45,7 @@ deal-pass-requires-clause-apart_desk g c = λ k x y.
 pub new-requires : goal.new-requires
 new-requires g c =
     let e = c.deal-pass.ensures in
-    record { ends = receipt-then (two-sets c.self.invariant c.desk.invariant c.desk.view_is c.args.made c.requires.stored c.requires.may c.deal-pass.ensures.goes_on) c.self.invariant _ _ _ (omega (arith, c.len.ensures.count)) e.receipt.0 e.receipt.2 }
+    record { ends = receipt-then (two-sets c.self.invariant c.desk.invariant c.desk.view_is c.args.made c.requires.stored c.requires.may c.deal-pass.ensures.goes_on) c.self.invariant _ _ _ (c.len-index.ensures.count ∙ sym (ap (λ (j : JournalOf Note). length j.filled) c.self.view_is)) e.receipt.0 e.receipt.2 }
 
 pub invariant_of-self : goal.invariant_of-self
 invariant_of-self g c =
@@ -82,8 +81,5 @@ record_event-share-requires-clause-adds g c =
 pub overflow_add-desk : goal.overflow_add-desk
 overflow_add-desk g c =
     let longer = no_longer (cell_view c.desk.inside.pass).seen (cell_view c.self.inside.pass).seen (cell_view c.desk.inside.pass).owns c.deal-pass.ensures.goes_on.2 in
-    let many = as_many c.self.inside.entries.filled c.self.inside.dropped (cell_view c.self.inside.pass).seen c.self.invariant.items_are c.self.invariant.within in
-    omega (arith, longer, many, c.self.invariant.few, c.desk.invariant.count, c.len.ensures.within, c.len.ensures.few)
-
-pub overflow_add-index : goal.overflow_add-index
-overflow_add-index g c = omega (arith, c.self.invariant.few, c.len.ensures.within, c.len.ensures.few, c.len.ensures.count)
+    let all = ap (λ (j : JournalOf Note). length j.filled) c.self.view_is in
+    omega (arith, longer, all, c.desk.invariant.count, c.len-index.ensures.count, c.len-index.ensures.few)

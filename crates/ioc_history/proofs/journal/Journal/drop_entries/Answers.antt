@@ -1,4 +1,4 @@
-use Rattle.std.proofs.Common.{◌≡◌, ◌+◌, ◌≤◌, ℕ, List, length, refl, sym, ap, ap₂, ◌∙◌, subst, arith}
+use Rattle.std.proofs.Common.{◌≡◌, ◌≤◌, ℕ, List, length, sym, ap, ap₂, ◌∙◌, subst, arith}
 use Rattle.std.proofs.lemmas.List.{take_all, drop_all}
 use Rattle.crossbeam_utils.specs.Seq.{cell_view}
 use Rattle.ioc_history.specs.declared.entry.JournalEntry.{JournalEntry}
@@ -11,32 +11,22 @@ use Rattle.ioc_history.proofs.Calls.{length-calls}
 use Rattle.ioc_history.proofs.Written.{as_many}
 use Rattle.ioc_history.proofs.journal.Journal.drop_entries.Goals as goal
 
-pub returns-then-calls-gt-MOST_DROPPED-clause-none : goal.returns-then-calls-gt-MOST_DROPPED-clause-none
-returns-then-calls-gt-MOST_DROPPED-clause-none g c =
-    let i = c.self.invariant in
-    let many = as_many c.self.inside.entries.filled c.self.inside.dropped (cell_view c.self.inside.pass).seen i.items_are i.within in
-    let count = c.len.ensures.count in
-    let more = c.if-calls-gt-MOST_DROPPED.true in
-    let shown = ap (λ (j : JournalOf Note). length j.filled) c.self.view_is in
-    (refl, omega (arith, many, count, more, shown))
-
 pub invariant_of-self : goal.invariant_of-self
 invariant_of-self g c =
     let i = c.self.invariant in
     let k = g.K.RecordKind.rules in
     let base = g.B.EngineName.base in
     let seen = (cell_view c.self.inside.pass).seen in
-    let all = c.self.inside.dropped + c.len.result in
-    let many = as_many c.self.inside.entries.filled c.self.inside.dropped seen i.items_are i.within in
-    let count = c.len.ensures.count in
+    let all = c.len-calls.result in
+    let is : all ≡ length seen = c.len-calls.ensures.count ∙ sym (ap (λ (j : JournalOf Note). length j.filled) c.self.view_is) in
     let few = c.if-calls-gt-MOST_DROPPED.false in
-    let long : length seen ≤ all = omega (arith, many, count) in
-    let calls_long : length (calls seen) ≤ all = omega (arith, many, count, length-calls seen) in
+    let long : length seen ≤ all = omega arith in
+    let calls_long : length (calls seen) ≤ all = omega (arith, length-calls seen) in
     record {
       same = i.same;
       keeps = i.keeps;
       items_are = ap (λ (p : PlacesOf JournalEntry). p.filled) c.clear-free.ensures.cleared ∙ sym (drop_all all (calls seen) calls_long);
-      within = omega (arith, many, count);
+      within = omega arith;
       few = omega (arith, few);
       leads_from =
           subst (λ (l : List Note). IsBaseOf (map_of k base l) c.args.base.records.items c.args.base.waiting.items)
@@ -51,11 +41,8 @@ invariant_of-self g c =
 
 pub returns-clause-dropped : goal.returns-clause-dropped
 returns-clause-dropped g c =
-    let i = c.self.invariant in
     let seen = (cell_view c.self.inside.pass).seen in
-    let many = as_many c.self.inside.entries.filled c.self.inside.dropped seen i.items_are i.within in
-    let count = c.len.ensures.count in
-    let long : c.self.inside.dropped + c.len.result ≡ length seen = omega (arith, many, count) in
+    let long : c.len-calls.result ≡ length seen = c.len-calls.ensures.count ∙ sym (ap (λ (j : JournalOf Note). length j.filled) c.self.view_is) in
     ap₂ (λ (p : PlacesOf JournalEntry) (n : ℕ). journal_of seen n p.given p.limit c.self.inside.desks c.self.inside.tickets) c.clear-free.ensures.cleared long
     ∙ ap (λ (j : JournalOf Note). journal_of j.filled (length j.filled) j.given j.limit j.desks j.tickets) c.self.view_is
 
