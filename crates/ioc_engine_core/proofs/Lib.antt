@@ -2,7 +2,6 @@ mod Counts
 mod Ending
 mod Marks
 mod Refusals
-mod Beginning
 mod Copies
 mod Keys
 mod DealtParts

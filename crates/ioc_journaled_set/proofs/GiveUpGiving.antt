@@ -1,8 +1,8 @@
 -- A put with notification that is canceled in all held sets with its records: one event of all
 -- records.
 use Rattle.std.proofs.Common.{◌≡◌, ◌≢◌, ℕ, ◌+◌, ◌≤◌, Bool, true, false, cond, not, eqb, nat_eq, ◌||◌, List, [], ◌∷◌, ◌++◌, length, Option, Some, None, refl, sym, ap, subst, ◌∙◌, inl, inr, arith}
-use Rattle.std.specs.Prelude.{is_some, unwrap_or, IsSome, Contains}
-use Rattle.std.specs.List.{filter, AllPairs}
+use Rattle.std.specs.Prelude.{is_some, unwrap_or, IsSome, Contains, option_map}
+use Rattle.std.specs.List.{AllPairs}
 use Rattle.std.specs.FinMap.{get}
 use Rattle.std.proofs.lemmas.Bool.{eqb-true, eq-eqb, ne_eqb}
 use Rattle.ioc_device.specs.declared.Ask.{Ask}
@@ -30,6 +30,7 @@ use Rattle.ioc_events.specs.declared.reply.Reply.TheVariants.{Plain}
 use Rattle.ioc_events.specs.Holding.{how_many, one_if_has, holders}
 use Rattle.ioc_events.specs.Starting.{NoneReady}
 use Rattle.ioc_events.specs.Step.{Stepped, stepped, tallied}
+use Rattle.ioc_events.proofs.RecordLists.{taken-from_each}
 use Rattle.ioc_history.specs.declared.entry.Note.{Note}
 use Rattle.ioc_history.specs.Key.{Key, Has as Has_key}
 use Rattle.ioc_history.specs.Legal.{key_of, notifications_key, done, map_of, Fits, IsLegal, IsUntouched}
@@ -85,26 +86,6 @@ unlisted n (x ∷ xs) none = elim (eqb x.number n) as (λ b. cond b (1 + of-numb
   | false ↦ λ rest. ap (λ (l : List Waiting). x ∷ l) (unlisted n xs rest)
 ] none
 
--- Two filters may be exchanged.
-filter-swap : {X : Type 0} (p q : X → Bool) (xs : List X) → filter p (filter q xs) ≡ filter q (filter p xs)
-filter-swap p q [] = refl
-filter-swap p q (x ∷ xs) =
-    let rest = filter-swap p q xs in
-    elim (p x) as (λ b. p x ≡ b → filter p (cond (q x) (x ∷ filter q xs) (filter q xs)) ≡ filter q (cond b (x ∷ filter p xs) (filter p xs))) [
-      | true ↦ λ is. elim (q x) as (λ b. filter p (cond b (x ∷ filter q xs) (filter q xs)) ≡ cond b (x ∷ filter q (filter p xs)) (filter q (filter p xs))) [
-        | true ↦ ap (λ (b : Bool). cond b (x ∷ filter p (filter q xs)) (filter p (filter q xs))) is ∙ ap (λ (l : List _). x ∷ l) rest
-        | false ↦ rest
-      ]
-      | false ↦ λ isnt. elim (q x) as (λ b. filter p (cond b (x ∷ filter q xs) (filter q xs)) ≡ filter q (filter p xs)) [
-        | true ↦ ap (λ (b : Bool). cond b (x ∷ filter p (filter q xs)) (filter p (filter q xs))) isnt ∙ rest
-        | false ↦ rest
-      ]
-    ] refl
-
-abbrev mapped : {A B : Type 0} → (A → B) → Option A → Option B
-mapped f None = None
-mapped f (Some x) = Some (f x)
-
 module _ {R : Type 0} (k : RecordRules R) where
   -- Lists of notes.
 
@@ -124,7 +105,7 @@ module _ {R : Type 0} (k : RecordRules R) where
     | false ↦ λ _. refl
   ] none
 
-  kept-option : (number : ℕ) (o : Option R) → weight_of (one_if_has k number) o ≡ 0 → mapped (freed k number) o ≡ o
+  kept-option : (number : ℕ) (o : Option R) → weight_of (one_if_has k number) o ≡ 0 → option_map (freed k number) o ≡ o
   kept-option number None none = refl
   kept-option number (Some r) none = ap Some (no-notification number r none)
 
@@ -135,7 +116,7 @@ module _ {R : Type 0} (k : RecordRules R) where
   same-waiting : (number : ℕ) (w : World R) (q : ℕ) → point k number w q ≡ 0 → at_record q (cancelled k number w).waiting ≡ at_record q w.waiting
   unfolding cancelled
   same-waiting number w q none =
-      filter-swap (λ (x : Waiting). nat_eq x.target q) (λ (x : Waiting). not (nat_eq x.number number)) w.waiting
+      taken-from_each number q w.waiting
       ∙ unlisted number (at_record q w.waiting) (omega (arith, none))
 
   same-targets : IsLawful k → (number : ℕ) (w : World R) (q : ℕ) → targets k (at k (cancelled k number w) q) ≡ targets k (at k w q)

@@ -23,7 +23,7 @@ use Rattle.ioc_set.specs.SetState.{SetState, now_of}
 use Rattle.ioc_set.specs.Doing.{with_kept}
 use Rattle.ioc_set.specs.Linking.{FallsApart, BecomeOne}
 use Rattle.ioc_journaled_set.specs.LinkLaws.{SetsLead}
-use Rattle.ioc_journaled_set.proofs.PartedSets.{rewired-waiting}
+use Rattle.ioc_events.proofs.Rewired.{rewired-leaves}
 
 none_some : {A : Type 0} (o : Option A) → o ≡ None → IsSome o → ⊥
 none_some {A = A} o none some = let h : false ≡ true = sym (ap (λ (p : Option A). is_some p) none) ∙ some in cc
@@ -127,7 +127,7 @@ module _ {R D : Type 0} (k : RecordRules R) where
   sent-held alike m before both after moment s come_to same sent holds =
       alike m (rewired k (device_of k (record_at k before.records s)) (begun_at moment (now_of both)) s) (now_of after) holds
       (ap (λ (w : World R). w.records) sent)
-      (same ∙ sym (rewired-waiting k (device_of k (record_at k before.records s)) (begun_at moment (now_of both)) s))
+      (same ∙ sym (rewired-leaves k (device_of k (record_at k before.records s)) (begun_at moment (now_of both)) s).waiting)
 
 pub sets-lead : {R : Type 0} (D : Type 0) (k : RecordRules R) → LinkMoves k → HeldAlike k → SetsLead D k
 sets-lead {R} D k moves alike base log before other after other_then rest come_to desk call moment s field link keys sound legal holds other_holds covers other_covers apart takes to led rest_sound =

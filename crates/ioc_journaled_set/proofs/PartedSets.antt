@@ -4,10 +4,9 @@ use Rattle.ioc_fields.specs.declared.field_no.FieldNo.{FieldNo}
 use Rattle.ioc_dbcommon.specs.declared.link_field.LinkField.{LinkField}
 use Rattle.ioc_notify.specs.Waits.{at_record}
 use Rattle.ioc_record.specs.RecordRules.{RecordRules}
-use Rattle.ioc_store.specs.World.{World, Has, at, begun, begun_at, put, changed, lost}
-use Rattle.ioc_store.specs.Scanning.{device_of, moved, rewired}
-use Rattle.ioc_store.specs.ScanLaws.{rewired-either, moved-either}
-use Rattle.ioc_store.specs.Worlds.{sent_by}
+use Rattle.ioc_store.specs.World.{World, Has, at, begun, begun_at, put}
+use Rattle.ioc_store.specs.Scanning.{device_of}
+use Rattle.ioc_events.proofs.Rewired.{rewired-leaves}
 use Rattle.ioc_history.specs.Key.{Key}
 use Rattle.ioc_history.specs.Legal.{map_of}
 use Rattle.ioc_history.specs.Covering.{Holds, Cover, AreHalves}
@@ -18,13 +17,6 @@ use Rattle.ioc_set.specs.Linking.{FallsApart, link_change_of}
 use Rattle.ioc_journaled_set.specs.LinkLaws.{SetsPart}
 
 module _ {R : Type 0} (k : RecordRules R) where
-  moved-waiting : (w : World R) (s : ℕ) → (moved k w s).waiting ≡ w.waiting
-  unfolding changed put lost
-  moved-waiting w s = moved-either k (λ (x : World R). x.waiting ≡ w.waiting) w s (λ item. ap (λ (x : World R). x.waiting) (sym (sent_by item _))) refl
-
-  pub rewired-waiting : (before : List ℕ) (w : World R) (s : ℕ) → (rewired k before w s).waiting ≡ w.waiting
-  rewired-waiting before w s = rewired-either k (λ (x : World R). x.waiting ≡ w.waiting) before w s refl (moved-waiting w s)
-
   -- A set that is held is held as an event begins.
   pub holds-begun : HeldAlike k → (m w : World R) (moment : ℕ) → Holds k m w → Holds k m (begun_at moment w)
   unfolding begun_at begun
@@ -49,7 +41,7 @@ module _ {R : Type 0} (k : RecordRules R) where
   module _ {D : Type 0} (h : SetState R D) (moment s : ℕ) (field : FieldNo) (link : LinkField) where
     changed-waiting : (link_change_of k h moment s field link).waiting ≡ h.waiting
     unfolding put
-    changed-waiting = rewired-waiting (device_of k (at k (begun_at moment (now_of h)) s)) (put (begun_at moment (now_of h)) s (k.with_link (at k (begun_at moment (now_of h)) s) field link)) s
+    changed-waiting = (rewired-leaves k (device_of k (at k (begun_at moment (now_of h)) s)) (put (begun_at moment (now_of h)) s (k.with_link (at k (begun_at moment (now_of h)) s) field link)) s).waiting
         ∙ waiting-begun (now_of h) moment
 
     pub change-halves : (stay rest : SetState R D) → FallsApart h (link_change_of k h moment s field link).records s stay rest → AreHalves (link_change_of k h moment s field link) (now_of stay) (now_of rest)
