@@ -250,7 +250,7 @@ fn may_join<K: RecordKind, D: Device>(
 }
 
 /// Joins two sets by a link. Returns `false` if that isn't allowed.
-pub fn join<K: RecordKind, D: Device>(
+pub fn join<K: RecordKind + Drop, D: Device>(
     alloc: Global,
     set: &mut Members<K, D>,
     other: &mut Members<K, D>,
