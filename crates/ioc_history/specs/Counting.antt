@@ -130,8 +130,8 @@ module _ {R : Type 0} (k : RecordRules R) where
       pub counts : MayCount pass.seen pass.owns made share before after
       pub backed : IsBacked share before
 
-    -- The same for the owner of two passes. The second has the key of the puts with notification, if
-    -- the event begins one.
+    -- The same for the owner of two passes. The second has the key of the puts with notification,
+    -- if the event begins one.
     pub record BothMayAppend (one other : View) (made : Entry) (sent : ℕ) (share : Option ShareView) (before after : Tally) : Type 0 where
       pub follows : BothMayFollow k base one.seen one.owns other.seen other.owns made
       pub begins : MayBegin other.seen other.owns made.event

@@ -10,8 +10,8 @@ use crate::{Cell, KeyPass, Keys, NoteName, pass};
 use std::sync::Wait;
 
 /// Adds the note of an entry, which has the keys of two passes and a desk, to the list, and returns
-/// the pass of its receipt. Afterwards the first pass owns the keys of `K`, the second those of `L`,
-/// the desk the rest of `L`, and all know the whole list.
+/// the pass of its receipt. Afterwards the first pass owns the keys of `K`, the second those of
+/// `L`, the desk the rest of `L`, and all know the whole list.
 pub(crate) fn deal<K: Keys, L: Keys, S: NoteName, R: Wait>(
     rt: &R,
     cell: &Cell,

@@ -146,9 +146,9 @@ pub fn note_down<S: NoteName, R: Wait>(rt: &R, cell: &Cell, master: &mut KeyPass
     step::<Appends<S>, R>(rt, cell, master);
 }
 
-/// Adds the note of an entry, which has the keys of both passes, to the list, and returns the pass of
-/// its receipt. The caller holds the journal's lock, the pass of a set, which owns the keys of `K`,
-/// and that of a desk, which owns the rest. Afterwards all passes know the whole list.
+/// Adds the note of an entry, which has the keys of both passes, to the list, and returns the pass
+/// of its receipt. The caller holds the journal's lock, the pass of a set, which owns the keys of
+/// `K`, and that of a desk, which owns the rest. Afterwards all passes know the whole list.
 #[inline(always)]
 pub fn append<K: Keys, S: NoteName, R: Wait>(
     rt: &R,
@@ -214,8 +214,8 @@ pub fn claim_key(cell: &Cell, master: &mut KeyPass, kind: u64, number: u64) -> K
     claim_as::<Brand>(cell, master, kind, number)
 }
 
-/// Compares two passes, which own the keys of `K` and the rest: they have no key in common. Afterwards
-/// both know the whole list.
+/// Compares two passes, which own the keys of `K` and the rest: they have no key in common.
+/// Afterwards both know the whole list.
 pub fn compare<K: Keys, R: Wait>(
     rt: &R,
     cell: &Cell,
