@@ -100,35 +100,22 @@ fn complete<B: EngineName<Later>, R: Wait>(
     Ok(matches!(reply, Reply::Plain))
 }
 
-// Puts with notification in each round, and completes the record.
+// Puts with notification in each round, cancels the put in the rounds of such work, and completes
+// the record.
 fn notifications<B: EngineName<Later>, R: Wait>(
     rt: &R,
     engine: &Calls<B>,
     desk: &mut OneDesk<B>,
     channel: Channel,
-    rounds: u64,
-) -> Result<u64, IocError> {
-    let mut held = 0u64;
-    for round in 0..rounds {
-        let _number = put_notify(rt, engine, desk, channel)?;
-        let is_done = complete(rt, engine, desk, channel.record(), round + 1)?;
-        held = held.saturating_add(u64::from(is_done));
-    }
-    Ok(held)
-}
-
-// Puts with notification in each round, cancels the put, and completes the record.
-fn cancels<B: EngineName<Later>, R: Wait>(
-    rt: &R,
-    engine: &Calls<B>,
-    desk: &mut OneDesk<B>,
-    channel: Channel,
+    cancels: bool,
     rounds: u64,
 ) -> Result<u64, IocError> {
     let mut held = 0u64;
     for round in 0..rounds {
         let number = put_notify(rt, engine, desk, channel)?;
-        let (_reply, _receipt) = engine.cancel(rt, desk, number)?;
+        if cancels {
+            let (_reply, _receipt) = engine.cancel(rt, desk, number)?;
+        }
         let is_done = complete(rt, engine, desk, channel.record(), round + 1)?;
         held = held.saturating_add(u64::from(is_done));
     }
@@ -178,9 +165,9 @@ fn rounds<B: EngineName<Later>, R: Wait>(
             let given = Given::from_text(b"3");
             puts(rt, engine, &mut desk, channel, &given, job.rounds)
         }
-        Work::Notify => notifications(rt, engine, &mut desk, channel, job.rounds),
+        Work::Notify => notifications(rt, engine, &mut desk, channel, false, job.rounds),
         Work::Link => link_changes(rt, engine, &mut desk, &target, job.rounds),
-        Work::Cancel => cancels(rt, engine, &mut desk, channel, job.rounds),
+        Work::Cancel => notifications(rt, engine, &mut desk, channel, true, job.rounds),
         Work::Hold => Ok(0),
     }
 }

@@ -1,0 +1,307 @@
+//! Runs an engine from a database text to its end. All tests share one function, because a
+//! function that starts an engine is costly to prove.
+ghost use Rattle.ioc_engine.specs.Named.{IsNamedBy};
+
+use crate::tests::eight::eight;
+use crate::tests::sensor::{Sensor, seen};
+use crate::tests::steps::{Step, follow};
+use ioc_engine::{
+    Clock, CountingClock, Device, DeviceName, Engine, EngineName, FieldText, Input, IocError,
+    Limits, Macros, Numbered, Outcome, Receipt, Reply, Report, Seed, StoppedRecord, Tally,
+    TicketTally, load, with_numbers,
+};
+use ioc_fields::{FieldNo, OwnField};
+use ioc_record::text_of;
+use std::alloc::Global;
+use std::marker::Brand;
+use std::sync::Wait;
+use std::sync::atomic::{AtomicU64, Ordering};
+use std::thread;
+use std::thread::Threads;
+
+const VALUE: FieldNo = FieldNo::Own(OwnField::Val);
+
+/// What is done with an engine.
+#[derive(Clone, Copy)]
+pub enum Work<'a> {
+    /// The calls of one desk.
+    Steps(&'a [Step]),
+    /// The first calls begin, and the others follow once the first flag is raised. The second flag
+    /// is raised once these are answered.
+    Beside {
+        first: &'a [Step],
+        others: &'a [Step],
+        asked: &'a AtomicU64,
+        answered: &'a AtomicU64,
+    },
+    /// The calls of eight threads, and the same calls on one map.
+    Eight,
+    /// Two desks, of which the second learns of the call of the first, and their entries.
+    Learns,
+    /// A call before a checkpoint and one after it, and their entries.
+    Drops,
+}
+
+/// What is found at the end of an engine.
+#[derive(Clone, Copy)]
+pub struct Ended {
+    /// The number of steps with the expected result.
+    pub held: usize,
+    /// The number of lock sets, or 0 if the engine was closed.
+    pub sets: usize,
+    pub records: usize,
+    /// The number of records that await their devices.
+    pub active: usize,
+    /// The number of records that are given back with a device.
+    pub devices: usize,
+    pub tally: Tally,
+    pub tickets: TicketTally,
+    /// The place of the first entry that the journal has.
+    pub first_place: u64,
+    /// The field VAL of the first record at the last checkpoint, and the number of puts with
+    /// notification that waited then.
+    pub base: Option<(FieldText, usize)>,
+}
+
+// Makes calls once the first flag is raised, then raises the second. Returns the number of calls
+// with the expected reply.
+fn follow_then<B: EngineName<D>, D: Device, C: Clock + Drop, R: Wait>(
+    rt: &R,
+    engine: &Engine<B, D, C>,
+    others: &[Step],
+    asked: &AtomicU64,
+    answered: &AtomicU64,
+) -> usize {
+    let began = seen(asked);
+    let held = follow(rt, engine, others);
+    answered.store(1, Ordering::SeqCst);
+    if began { held } else { 0 }
+}
+
+// Returns the number of calls with the expected reply.
+fn done<
+    B: EngineName<D> + Send + Sync,
+    D: Device + Send + Sync,
+    C: Clock + Drop + Send + Sync,
+    R: Threads + Wait + Sync,
+>(rt: &R, alloc: Global, engine: &Engine<B, D, C>, work: Work<'_>) -> usize {
+    match work {
+        Work::Steps(steps) => follow(rt, engine, steps),
+        Work::Beside {
+            first,
+            others,
+            asked,
+            answered,
+        } => {
+            let (one, other) = thread::join(
+                rt,
+                || follow(rt, engine, first),
+                || follow_then(rt, engine, others, asked, answered),
+            );
+            one.saturating_add(other)
+        }
+        Work::Eight => eight(rt, alloc, engine).unwrap_or(0),
+        Work::Learns | Work::Drops => 0,
+    }
+}
+
+// Returns the number of records that await their devices.
+fn awaiting<D>(records: &[StoppedRecord<D>]) -> usize {
+    let mut active = 0usize;
+    for stopped in records {
+        if stopped.fields.common.active {
+            active = active.saturating_add(1);
+        }
+    }
+    active
+}
+
+// Returns the number of records with a device.
+fn with_device<D>(records: &[StoppedRecord<D>]) -> usize {
+    let mut devices = 0usize;
+    for stopped in records {
+        if stopped.device.is_some() {
+            devices = devices.saturating_add(1);
+        }
+    }
+    devices
+}
+
+// Returns the field VAL of the first record at the last checkpoint, and the number of puts with
+// notification that waited then.
+fn base_of<B: EngineName<D>, D: Device>(report: &Report<B, D>) -> Option<(FieldText, usize)> {
+    let base = report.base()?;
+    match base.records.first() {
+        Some(Some(record)) => Some((text_of(record, VALUE), base.waiting.len())),
+        _ => None,
+    }
+}
+
+// Ends an engine in which this many steps had the expected result.
+fn end<B: EngineName<D>, D: Device, C: Clock + Drop, R: Wait>(
+    rt: &R,
+    alloc: Global,
+    engine: Engine<B, D, C>,
+    held: usize,
+) -> Option<Ended> {
+    let sets = match engine.parts(rt) {
+        Ok(parts) => parts.len(),
+        Err(_closed) => 0,
+    };
+    let report = engine.stop(rt);
+    let tally = report.tally();
+    let tickets = report.tickets();
+    let first_place = report.first_place();
+    let base = base_of(&report);
+    let Ok(records) = report.into_records(alloc) else {
+        return None;
+    };
+    Some(Ended {
+        held,
+        sets,
+        records: records.len(),
+        active: awaiting(records.as_slice()),
+        devices: with_device(records.as_slice()),
+        tally,
+        tickets,
+        first_place,
+        base,
+    })
+}
+
+// Puts a value by one desk, and gets it by a second one, which learns of the put before.
+fn put_and_learn<B: EngineName<D>, D: Device, C: Clock + Drop, R: Wait>(
+    rt: &R,
+    engine: &Engine<B, D, C>,
+) -> Result<(Receipt<B>, Receipt<B>), IocError> {
+    let mut first = engine.desk(rt)?;
+    let mut second = engine.desk(rt)?;
+    let channel = engine.channel(b"a")?;
+    let (_, mut receipt) = engine.put(rt, &mut first, channel, Input::from_text(b"5"))?;
+    engine.learn(rt, &mut second, &mut receipt);
+    let (_, shown) = engine.get(rt, &mut second, channel)?;
+    Ok((receipt, shown))
+}
+
+// Returns whether the journal has a call of this desk, its first one, with this reply.
+fn has_entry<B: EngineName<D>, D: Device, R: Wait>(
+    rt: &R,
+    report: &mut Report<B, D>,
+    receipt: &mut Receipt<B>,
+    desk: u64,
+    reply: &Reply,
+) -> bool {
+    match report.entry(rt, receipt) {
+        Some(told) => told.desk() == desk && told.call() == 0 && told.reply() == *reply,
+        None => false,
+    }
+}
+
+// Returns whether the second desk's call came after the first one's, and both are in the journal.
+fn has_learnt<B: EngineName<D>, D: Device, C: Clock + Drop, R: Wait>(
+    rt: &R,
+    engine: Engine<B, D, C>,
+) -> bool {
+    let Ok((mut put, mut shown)) = put_and_learn(rt, &engine) else {
+        return false;
+    };
+    let is_later = put.place() < shown.place();
+    let mut report = engine.stop(rt);
+    let processed = Reply::Outcome(Outcome::Processed);
+    let five = Reply::Shown(FieldText::cut(b"5"));
+    let is_put = has_entry(rt, &mut report, &mut put, 0, &processed);
+    let is_shown = has_entry(rt, &mut report, &mut shown, 1, &five);
+    is_later && is_put && is_shown
+}
+
+// Puts a value before a checkpoint, and gets it after it.
+fn put_and_drop<B: EngineName<D>, D: Device, C: Clock + Drop, R: Wait>(
+    rt: &R,
+    engine: &Engine<B, D, C>,
+) -> Result<(Receipt<B>, Receipt<B>), IocError> {
+    let mut desk = engine.desk(rt)?;
+    let channel = engine.channel(b"a")?;
+    let (_, put) = engine.put(rt, &mut desk, channel, Input::from_text(b"5"))?;
+    engine.checkpoint(rt)?;
+    let (_, shown) = engine.get(rt, &mut desk, channel)?;
+    Ok((put, shown))
+}
+
+// Returns whether the journal has the call after a checkpoint and not the one before it.
+fn has_dropped<B: EngineName<D>, D: Device, C: Clock + Drop, R: Wait>(
+    rt: &R,
+    engine: Engine<B, D, C>,
+) -> bool {
+    let Ok((mut put, mut shown)) = put_and_drop(rt, &engine) else {
+        return false;
+    };
+    let mut report = engine.stop(rt);
+    let is_gone = report.entry(rt, &mut put).is_none();
+    let is_there = match report.entry(rt, &mut shown) {
+        Some(entry) => entry.call() == 1 && entry.reply() == Reply::Shown(FieldText::cut(b"5")),
+        None => false,
+    };
+    is_gone && is_there && shown.place() == 1 && report.first_place() == 1
+}
+
+// Returns whether something was found, as one step or none.
+fn told(is_found: bool) -> Ended {
+    Ended {
+        held: usize::from(is_found),
+        sets: 0,
+        records: 0,
+        active: 0,
+        devices: 0,
+        tally: Tally::default(),
+        tickets: TicketTally::default(),
+        first_place: 0,
+        base: None,
+    }
+}
+
+// Runs an engine of any name, and returns the result, or `None` if it can't be started.
+fn run<B: EngineName<D> + Send + Sync, D: Device + Send + Sync, R: Threads + Wait + Sync>(
+    rt: &R,
+    alloc: Global,
+    seed: Seed<D>,
+    limits: Limits,
+    work: Work<'_>,
+) -> Option<Ended>
+    requires named { IsNamedBy B.table B.base B.devices B.places B.tickets B.counts seed }
+{
+    let clock = CountingClock::new();
+    let Ok(engine) = Engine::<B, D, CountingClock>::start(alloc, seed, clock, limits) else {
+        return None;
+    };
+    match work {
+        Work::Learns => return Some(told(has_learnt(rt, engine))),
+        Work::Drops => return Some(told(has_dropped(rt, engine))),
+        _ => (),
+    }
+    let held = done(rt, alloc, &engine, work);
+    end(rt, alloc, engine, held)
+}
+
+// Returns the seed of a text, with these devices.
+fn seed_of(
+    alloc: Global,
+    text: &[u8],
+    devices: Vec<(DeviceName, Sensor)>,
+) -> Result<Seed<Numbered<Sensor>>, IocError> {
+    let database = load(alloc, text, &Macros::new(alloc))?;
+    Seed::new(alloc, database, with_numbers(alloc, devices)?)
+}
+
+/// Runs an engine with the records of a text and these devices. Returns `None` if it can't be
+/// started.
+pub fn run_text<R: Threads + Wait + Sync>(
+    rt: &R,
+    alloc: Global,
+    text: &[u8],
+    devices: Vec<(DeviceName, Sensor)>,
+    limits: Limits,
+    work: Work<'_>,
+) -> Result<Option<Ended>, IocError> {
+    let seed = seed_of(alloc, text, devices)?;
+    Ok(run::<Brand, Numbered<Sensor>, R>(rt, alloc, seed, limits, work))
+}

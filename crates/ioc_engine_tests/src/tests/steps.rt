@@ -1,0 +1,200 @@
+//! The calls of one desk as lists of steps, each with its expected result.
+use crate::tests::calling::{Answered, Call, make};
+use ioc_engine::{
+    Clock, Desk, Device, Engine, EngineName, FieldText, IocError, NotifyId, Outcome, RecordNo,
+    Reply,
+};
+use std::sync::Wait;
+
+/// A reply.
+#[derive(Clone, Copy)]
+pub enum Says {
+    Plain,
+    Processed,
+    Reprocess,
+    Shown(&'static [u8]),
+    Notify(u64),
+    Live(bool),
+    Refused(IocError),
+}
+
+/// The expected result of a call.
+#[derive(Clone, Copy)]
+pub enum Wanted {
+    /// Any reply.
+    Answered,
+    Says(Says),
+    /// A reply with this text of a field.
+    Shows(&'static [u8]),
+    /// This reply, with this place in the journal.
+    At(u64, Says),
+    /// A plain reply, with this many records moved.
+    Moves(usize),
+    /// The call fails, and has no place in the journal.
+    Fails(IocError),
+}
+
+/// A step of a test.
+#[derive(Clone, Copy)]
+pub enum Step {
+    /// The call has this result, and ends no put with notification.
+    Makes(Call, Wanted),
+    /// The call has this result, and ends the puts with notification with these numbers, in order.
+    Ends(Call, Wanted, &'static [u64]),
+    /// The lock sets have the records with these names.
+    Parts(&'static [&'static [&'static [u8]]]),
+    /// A checkpoint of the journal is made.
+    Checkpoint,
+    /// The engine is closed, which it wasn't before. It shows no sets, opens no desk and makes no
+    /// checkpoint any more.
+    Closes,
+}
+
+fn reply(says: Says) -> Reply {
+    match says {
+        Says::Plain => Reply::Plain,
+        Says::Processed => Reply::Outcome(Outcome::Processed),
+        Says::Reprocess => Reply::Outcome(Outcome::Reprocess),
+        Says::Shown(text) => Reply::Shown(FieldText::cut(text)),
+        Says::Notify(number) => Reply::Notify(NotifyId::new(number)),
+        Says::Live(live) => Reply::Live(live),
+        Says::Refused(error) => Reply::Refused(error),
+    }
+}
+
+// Returns whether the reply is the expected one.
+fn is_as_wanted(told: &Answered, wanted: Wanted) -> bool {
+    match wanted {
+        Wanted::Answered => true,
+        Wanted::Says(says) => told.reply == reply(says),
+        Wanted::Shows(text) => told.reply == reply(Says::Shown(text)),
+        Wanted::At(place, says) => told.place == place && told.reply == reply(says),
+        Wanted::Moves(moved) => told.moved == moved && told.reply == Reply::Plain,
+        Wanted::Fails(_) => false,
+    }
+}
+
+// Returns whether these puts with notification have these numbers.
+fn are_numbered(ended: &[NotifyId], numbers: &[u64]) -> bool {
+    for (id, number) in ended.iter().zip(numbers) {
+        if *id != NotifyId::new(*number) {
+            return false;
+        }
+    }
+    ended.len() == numbers.len()
+}
+
+// Makes a call, and returns whether it has the expected result and ends these puts with
+// notification.
+fn answers<B: EngineName<D>, D: Device, C: Clock + Drop, R: Wait>(
+    rt: &R,
+    engine: &Engine<B, D, C>,
+    desk: &mut Desk<B, D>,
+    call: Call,
+    wanted: Wanted,
+    ended: &[u64],
+) -> bool {
+    match (make(rt, engine, desk, call), wanted) {
+        (Ok(told), wanted) => { is_as_wanted(&told, wanted) && are_numbered(desk.ended(), ended) }
+        (Err(error), Wanted::Fails(expected)) => error == expected,
+        (Err(_), _) => false,
+    }
+}
+
+// Returns whether a part has exactly the records with these names.
+fn is_part<B: EngineName<D>, D: Device, C: Clock + Drop>(
+    engine: &Engine<B, D, C>,
+    part: &[RecordNo],
+    names: &[&[u8]],
+) -> bool {
+    for name in names {
+        let Ok(number) = engine.record(name) else {
+            return false;
+        };
+        if !part.contains(&number) {
+            return false;
+        }
+    }
+    part.len() == names.len()
+}
+
+// Returns whether one of the parts has exactly the records with these names.
+fn is_found<B: EngineName<D>, D: Device, C: Clock + Drop>(
+    engine: &Engine<B, D, C>,
+    parts: &[Vec<RecordNo>],
+    names: &[&[u8]],
+) -> bool {
+    for part in parts {
+        if is_part(engine, part.as_slice(), names) {
+            return true;
+        }
+    }
+    false
+}
+
+// Returns whether the lock sets have the records with these names.
+fn are_parts<B: EngineName<D>, D: Device, C: Clock + Drop, R: Wait>(
+    rt: &R,
+    engine: &Engine<B, D, C>,
+    wanted: &[&[&[u8]]],
+) -> bool {
+    let Ok(parts) = engine.parts(rt) else {
+        return false;
+    };
+    for names in wanted {
+        if !is_found(engine, parts.as_slice(), names) {
+            return false;
+        }
+    }
+    parts.len() == wanted.len()
+}
+
+// Closes an engine that isn't closed, and returns whether it shows no sets, opens no desk and makes
+// no checkpoint then.
+fn closes<B: EngineName<D>, D: Device, C: Clock + Drop, R: Wait>(
+    rt: &R,
+    engine: &Engine<B, D, C>,
+) -> bool {
+    let was_closed = engine.is_closed();
+    engine.close();
+    let is_silent = matches!(engine.parts(rt), Err(IocError::Stopped))
+        && matches!(engine.desk(rt), Err(IocError::Stopped))
+        && matches!(engine.checkpoint(rt), Err(IocError::Stopped));
+    !was_closed && engine.is_closed() && is_silent
+}
+
+// Carries out a step, and returns whether it has the expected result.
+fn holds<B: EngineName<D>, D: Device, C: Clock + Drop, R: Wait>(
+    rt: &R,
+    engine: &Engine<B, D, C>,
+    desk: &mut Desk<B, D>,
+    step: Step,
+) -> bool {
+    match step {
+        Step::Makes(call, wanted) => answers(rt, engine, desk, call, wanted, &[]),
+        Step::Ends(call, wanted, ended) => answers(rt, engine, desk, call, wanted, ended),
+        Step::Parts(wanted) => are_parts(rt, engine, wanted),
+        Step::Checkpoint => engine.checkpoint(rt).is_ok(),
+        Step::Closes => closes(rt, engine),
+    }
+}
+
+/// Carries out steps with a desk of their own, up to the first with another result. Returns the
+/// number of steps with the expected result.
+pub fn follow<B: EngineName<D>, D: Device, C: Clock + Drop, R: Wait>(
+    rt: &R,
+    engine: &Engine<B, D, C>,
+    steps: &[Step],
+) -> usize {
+    let Ok(mut desk) = engine.desk(rt) else {
+        return 0;
+    };
+    let mut held = 0usize;
+    for step in steps {
+        if !holds(rt, engine, &mut desk, *step) {
+            return held;
+        }
+        held = held.saturating_add(1);
+    }
+    held
+}

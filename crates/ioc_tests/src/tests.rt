@@ -1,0 +1,21 @@
+//! The tests, by what they test, and what they share.
+mod devices;
+mod directory;
+mod endings;
+mod facts;
+mod hostile;
+mod language;
+mod lines;
+mod loads;
+mod lock_sets;
+mod long;
+mod macros;
+mod notifications;
+mod numbers;
+mod parts;
+mod programs;
+mod relinks;
+mod rows;
+mod scans;
+mod streams;
+mod types;

@@ -1,0 +1,111 @@
+//! A single longin record.
+use crate::tests::acts::Act;
+use crate::tests::steps::Step::{
+    Answer, AnswerFault, Begin, Converts, Copied, Do, Has, HasAll, Load, OwnsDevice, Put, Raised,
+    Raises, Reaches, Set, SetAll, Shows, Take, Test,
+};
+use crate::tests::steps::{Came, Does, Step, TAKE_FAULT, TAKE_NOTHING, Wants};
+use ioc_dbcommon::InputKind;
+use ioc_fields::{FieldNo, OwnField};
+use ioc_menus::{Severity, Status};
+use ioc_values::Range;
+
+pub static TESTS: [Step<'static>; 75] = [
+    Test("limit alarms"),
+    SetAll(&[
+        ("HIHI", "100"),
+        ("HIGH", "50"),
+        ("LOW", "-50"),
+        ("LOLO", "-100"),
+        ("HHSV", "MAJOR"),
+    ]),
+    SetAll(&[
+        ("HSV", "MINOR"),
+        ("LSV", "MINOR"),
+        ("LLSV", "MAJOR"),
+        ("HYST", "10"),
+        ("VAL", "0"),
+    ]),
+    Load,
+    // The hysteresis is relative to the limit that was reached last.
+    Reaches(Came::Long(0), "NO_ALARM", "NO_ALARM", "0"),
+    Reaches(Came::Long(49), "NO_ALARM", "NO_ALARM", "49"),
+    Reaches(Came::Long(50), "HIGH", "MINOR", "50"),
+    Reaches(Came::Long(40), "HIGH", "MINOR", "50"),
+    Reaches(Came::Long(39), "NO_ALARM", "NO_ALARM", "39"),
+    Reaches(Came::Long(45), "NO_ALARM", "NO_ALARM", "45"),
+    Reaches(Came::Long(100), "HIHI", "MAJOR", "100"),
+    Reaches(Came::Long(90), "HIHI", "MAJOR", "100"),
+    Reaches(Came::Long(89), "HIGH", "MINOR", "50"),
+    Reaches(Came::Long(-100), "LOLO", "MAJOR", "-100"),
+    Reaches(Came::Long(-90), "LOLO", "MAJOR", "-100"),
+    Reaches(Came::Long(-89), "LOW", "MINOR", "-50"),
+    Reaches(Came::Long(-40), "LOW", "MINOR", "-50"),
+    Reaches(Came::Long(-39), "NO_ALARM", "NO_ALARM", "-39"),
+    // A limit without severity isn't tested, and the sums of hysteresis don't wrap.
+    Test("limits at the ends"),
+    SetAll(&[
+        ("HIHI", "-2147483648"),
+        ("HIGH", "-2147483000"),
+        ("HSV", "MINOR"),
+    ]),
+    SetAll(&[("HYST", "2147483647"), ("VAL", "-2147483000")]),
+    Load,
+    Raises(Came::Long(-2_147_483_648), "HIGH", "MINOR"),
+    Has("LALM", "-2147483000"),
+    Test("limit reached after a graver alarm"),
+    SetAll(&[("HIGH", "50"), ("HSV", "MAJOR"), ("VAL", "60")]),
+    Load,
+    Put("VAL", "70"),
+    Copied,
+    Do(Act::Raise(Status::Link, Severity::Invalid)),
+    // The alarm of the limit has no effect, and LALM is unchanged.
+    TAKE_FAULT,
+    Has("VAL", "70"),
+    Raised("LINK", "INVALID"),
+    Has("LALM", "60"),
+    // An undefined value raises UDF, and no limit is tested. An input makes it defined.
+    Test("undefined value first"),
+    SetAll(&[("HIGH", "-1"), ("HSV", "MAJOR"), ("UDFS", "MINOR")]),
+    Load,
+    HasAll(&[("STAT", "UDF"), ("SEVR", "MINOR"), ("LALM", "0")]),
+    TAKE_FAULT,
+    Shows("UDF", "MINOR"),
+    HasAll(&[("UDF", "1"), ("LALM", "0")]),
+    Take(Came::Long(3), Does::Nothing),
+    Shows("HIGH", "MAJOR"),
+    HasAll(&[("UDF", "0"), ("LALM", "-1")]),
+    Put("UDF", "7"),
+    TAKE_NOTHING,
+    Has("NSTA", "UDF"),
+    Put("VAL", "4"),
+    Has("UDF", "0"),
+    // A constant of INP is put at load, after the first alarm; then LALM becomes VAL.
+    Test("constant at load"),
+    Set("INP", "-0x10"),
+    Load,
+    HasAll(&[("VAL", "-16"), ("UDF", "0"), ("LALM", "-16")]),
+    HasAll(&[("STAT", "UDF"), ("SEVR", "INVALID"), ("INP", "-16")]),
+    Begin(Wants::Unused),
+    Test("value set"),
+    Set("VAL", "5"),
+    Load,
+    HasAll(&[("LALM", "5"), ("STAT", "UDF"), ("SEVR", "NO_ALARM")]),
+    // A value from the device that can't be converted acts like a fault of the device.
+    Test("device of its own"),
+    Set("INP", "@card 3"),
+    Load,
+    Begin(Wants::Absent),
+    OwnsDevice(FieldNo::Own(OwnField::Inp)),
+    Begin(Wants::Device),
+    Answer(9),
+    HasAll(&[("VAL", "9"), ("NSTA", "NO_ALARM")]),
+    Answer(2_147_483_648),
+    Has("VAL", "9"),
+    Raised("READ", "INVALID"),
+    Converts(InputKind::Number(Range::Long)),
+    Test("fault of the device"),
+    AnswerFault,
+    Raised("READ", "INVALID"),
+    Has("UDF", "1"),
+];
