@@ -65,7 +65,7 @@ fn numeric_output_row(range: Range, field: OwnField) -> Option<Row>
     let kind = FieldKind::Number(range);
     match field {
         OwnField::Drvh | OwnField::Drvl => Some(Row::passive(kind)),
-        _ => output_row_with(kind, field).or(numeric_row(range, field)),
+        _ => output_row_with(kind, field).or_else(|| numeric_row(range, field)),
     }
 }
 
@@ -146,16 +146,18 @@ pub fn own_row(record_type: RecordType, field: OwnField) -> Option<Row>
 {
     let state = FieldKind::Number(Range::UShort);
     match record_type {
-        RecordType::Longin => input_row(field).or(numeric_row(Range::Long, field)),
+        RecordType::Longin => input_row(field).or_else(|| numeric_row(Range::Long, field)),
         RecordType::Longout => numeric_output_row(Range::Long, field),
-        RecordType::Int64in => input_row(field).or(numeric_row(Range::Int64, field)),
+        RecordType::Int64in => input_row(field).or_else(|| numeric_row(Range::Int64, field)),
         RecordType::Int64out => numeric_output_row(Range::Int64, field),
-        RecordType::Bi => input_row(field).or(two_state_row(field)),
-        RecordType::Bo => output_row_with(state, field).or(two_state_row(field)),
-        RecordType::Mbbi => input_row(field).or(multi_state_row(field)),
-        RecordType::Mbbo => output_row_with(state, field).or(multi_state_row(field)),
-        RecordType::Stringin | RecordType::Event => input_row(field).or(text_row(field)),
-        RecordType::Stringout => output_row_with(FieldKind::Text, field).or(text_row(field)),
+        RecordType::Bi => input_row(field).or_else(|| two_state_row(field)),
+        RecordType::Bo => output_row_with(state, field).or_else(|| two_state_row(field)),
+        RecordType::Mbbi => input_row(field).or_else(|| multi_state_row(field)),
+        RecordType::Mbbo => output_row_with(state, field).or_else(|| multi_state_row(field)),
+        RecordType::Stringin | RecordType::Event => input_row(field).or_else(|| text_row(field)),
+        RecordType::Stringout => output_row_with(FieldKind::Text, field).or_else(|| text_row(
+            field,
+        )),
         RecordType::Fanout => fanout_row(field),
     }
 }
