@@ -23,7 +23,7 @@ use std::alloc::Global;
 /// ```
 #[derive(Drop)]
 pub struct Desk<B: EngineName<D>, D: Device> {
-    pub(crate) account: ioc_history::Desk<Record, B>,
+    pub(crate) account: ioc_history::DeskAccount<Record, B>,
     pub(crate) buffers: EventBuffers<Record, D>,
     pub(crate) alloc: Global,
     pub(crate) moved: usize,

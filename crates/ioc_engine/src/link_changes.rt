@@ -21,7 +21,7 @@ use ioc_dbcommon::{LinkBox, LinkField};
 use ioc_device::Device;
 use ioc_events::Reply;
 use ioc_fields::{FieldKind, kind_of};
-use ioc_journaled_set::Changed;
+use ioc_journaled_set::{Changed, LinkChange};
 use ioc_links::{Link, LinkKind, parse};
 use ioc_values::IocError;
 use rec_types::Record;
@@ -113,22 +113,20 @@ impl<B: EngineName<D>, D: Device, C: Clock + Drop> Engine<B, D, C> {
         let Ok(base_link) = kept.copy(alloc) else {
             return Err(IocError::NoMemory);
         };
-        let moment = self.clock.now();
+        let change = LinkChange {
+            number,
+            field: channel.field,
+            link: kept,
+            base_link,
+            moment: self.clock.now(),
+        };
         let Changed {
             reply,
             moved,
             receipt,
-        } = self.core.set_link(
-            rt,
-            alloc,
-            &mut desk.account,
-            &mut desk.buffers,
-            number,
-            channel.field,
-            kept,
-            base_link,
-            moment,
-        )?;
+        } = self
+            .core
+            .set_link(rt, alloc, &mut desk.account, &mut desk.buffers, change)?;
         desk.moved = moved;
         Ok((reply, receipt))
     }

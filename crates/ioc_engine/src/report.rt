@@ -14,7 +14,7 @@ use crate::Receipt;
 use crate::engine::Engine;
 use crate::engine_name::EngineName;
 use ioc_device::Device;
-use ioc_engine_core::{JournaledSet, Report as CoreReport};
+use ioc_engine_core::{CoreReport, JournaledSet};
 use ioc_history::{JournalBase, StoredEntry, TicketTally};
 use ioc_ledger::Tally;
 use ioc_names::RecordNo;

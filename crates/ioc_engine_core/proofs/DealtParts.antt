@@ -24,7 +24,7 @@ use Rattle.ioc_set_records.specs.declared.loaded.Loaded.{Loaded}
 use Rattle.ioc_set_records.specs.Dealing.{HasPart}
 use Rattle.ioc_set_records.specs.Linked.{AreParts, links_in}
 use Rattle.ioc_engine_core.specs.Loading.{loaded_world, device_in, AreOfPartsBelow, IsIdle, IsAtRest, IsSetOf, AreSetsFrom}
-use Rattle.ioc_engine_core.proofs.Keys.{record_contains, key_there}
+use Rattle.ioc_journaled_set.proofs.Keys.{record_contains, key_there}
 
 none_in : {A : Type 0} (x : A) → Contains [] x → ⊥
 none_in x c = let l = c.1 in omega arith

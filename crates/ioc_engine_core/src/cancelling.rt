@@ -9,7 +9,7 @@ ghost use Rattle.ioc_engine_core.specs.Cancelled.{WasCancelled, WasGivenUp, WasN
 use crate::engine::EngineCore;
 use ioc_device::Device;
 use ioc_events::Reply;
-use ioc_history::{Desk, Receipt};
+use ioc_history::{DeskAccount, Receipt};
 use ioc_journaled_set::{JournaledSet, SetsName, cancel_on};
 use ioc_notify::NotifyId;
 use ioc_record::RecordKind;
@@ -37,7 +37,7 @@ impl<K: RecordKind + Drop, B: SetsName<K, D>, D: Device> EngineCore<K, B, D> {
         &self,
         rt: &R,
         alloc: Global,
-        desk: &mut Desk<K, B>,
+        desk: &mut DeskAccount<K, B>,
         number: NotifyId,
         moment: u64,
     ) -> Result<Option<(Reply, Receipt<K, B>)>, IocError>
@@ -61,7 +61,7 @@ impl<K: RecordKind + Drop, B: SetsName<K, D>, D: Device> EngineCore<K, B, D> {
         &self,
         rt: &R,
         alloc: Global,
-        desk: &mut Desk<K, B>,
+        desk: &mut DeskAccount<K, B>,
         buffers: &mut EventBuffers<K, D>,
         number: NotifyId,
         moment: u64,
@@ -104,7 +104,7 @@ impl<K: RecordKind + Drop, B: SetsName<K, D>, D: Device> EngineCore<K, B, D> {
         &self,
         rt: &R,
         alloc: Global,
-        desk: &mut Desk<K, B>,
+        desk: &mut DeskAccount<K, B>,
         buffers: &mut EventBuffers<K, D>,
         number: NotifyId,
         moment: u64,

@@ -4,7 +4,7 @@ ghost use Rattle.ioc_history.specs.Account.{IsEntryOf};
 ghost use Rattle.ioc_history.specs.Base.{IsBaseOf};
 ghost use Rattle.ioc_history.specs.Legal.{IsLegal, map_of};
 
-use ioc_history::{Cell, EngineName, Journal, JournalBase, Receipt, StoredEntry};
+use ioc_history::{Cell, Journal, JournalBase, JournalName, Receipt, StoredEntry};
 use ioc_record::RecordKind;
 use std::marker::Model;
 use std::sync::Wait;
@@ -12,12 +12,12 @@ use std::sync::Wait;
 /// The journal of an engine that has ended, with the cell that ties receipts to it. Contracts see the
 /// journal.
 #[derive(Drop)]
-pub struct EndedJournal<K: RecordKind, B: EngineName<K>> {
+pub struct EndedJournal<K: RecordKind, B: JournalName<K>> {
     journal: Journal<K, B>,
     cell: Cell,
 }
 
-impl<K: RecordKind, B: EngineName<K>> Model for EndedJournal<K, B> {
+impl<K: RecordKind, B: JournalName<K>> Model for EndedJournal<K, B> {
     ghost use Rattle.std.specs.Prelude.{◌≡◌};
     ghost use Rattle.ioc_history.specs.declared.entry.Note.{Note};
     ghost use Rattle.ioc_history.specs.Places.{JournalOf};
@@ -32,7 +32,7 @@ impl<K: RecordKind, B: EngineName<K>> Model for EndedJournal<K, B> {
     ghost invariant = { λ e. e.cell.table.shared.table_id ≡ B.table };
 }
 
-impl<K: RecordKind, B: EngineName<K>> EndedJournal<K, B> {
+impl<K: RecordKind, B: JournalName<K>> EndedJournal<K, B> {
     /// Creates it from the journal and the cell of an engine.
     pub fn new(journal: Journal<K, B>, cell: Cell) -> Self
         requires table { cell.table.shared.table_id ≡ B.table }

@@ -18,7 +18,7 @@ use ioc_callback::OnceQueue;
 use ioc_device::Device;
 use ioc_events::{Event, Reply};
 use ioc_fields::FieldNo;
-use ioc_history::{Desk, EngineCounts, Receipt, RequestTickets, SharedJournal};
+use ioc_history::{DeskAccount, EngineCounts, Receipt, RequestTickets, SharedJournal};
 use ioc_journaled_set::{JournaledSet, Served, SetsName, SharedNotifications};
 use ioc_ledger::TallyShare;
 use ioc_names::RecordNo;
@@ -120,7 +120,7 @@ impl<K: RecordKind + Drop, B: SetsName<K, D>, D: Device> EngineCore<K, B, D> {
     ///
     /// [`IocError::Stopped`] if the engine was closed. [`IocError::JournalFull`] if no number is
     /// left for a desk.
-    pub fn open_desk<R: Wait>(&self, rt: &R) -> Result<Desk<K, B>, IocError>
+    pub fn open_desk<R: Wait>(&self, rt: &R) -> Result<DeskAccount<K, B>, IocError>
         ensures new { IfOk result (λ d. (d.next ≡ 0) × (calls_by d.number (calls d.seen) ≡ [])) }
         ensures refused { IfErr result (λ error. (error ≡ Stopped) ⊎ (error ≡ JournalFull)) }
     {
@@ -132,7 +132,7 @@ impl<K: RecordKind + Drop, B: SetsName<K, D>, D: Device> EngineCore<K, B, D> {
 
     /// Moves a desk on to the list of a receipt, if that is longer than the list that the desk has
     /// seen.
-    pub fn learn<R: Wait>(&self, rt: &R, desk: &mut Desk<K, B>, receipt: &mut Receipt<K, B>)
+    pub fn learn<R: Wait>(&self, rt: &R, desk: &mut DeskAccount<K, B>, receipt: &mut Receipt<K, B>)
         ensures desk { (desk.new.number ≡ desk.old.number) × (desk.new.next ≡ desk.old.next) }
         ensures learnt { desk.new.seen ≡ longer desk.old.seen receipt.old }
         ensures own { Begins desk.old.seen desk.new.seen }
@@ -162,7 +162,7 @@ impl<K: RecordKind + Drop, B: SetsName<K, D>, D: Device> EngineCore<K, B, D> {
         &self,
         rt: &R,
         alloc: Global,
-        desk: &mut Desk<K, B>,
+        desk: &mut DeskAccount<K, B>,
         buffers: &mut EventBuffers<K, D>,
         number: RecordNo,
         event: &Event,
@@ -211,7 +211,7 @@ impl<K: RecordKind + Drop, B: SetsName<K, D>, D: Device> EngineCore<K, B, D> {
         &self,
         rt: &R,
         alloc: Global,
-        desk: &mut Desk<K, B>,
+        desk: &mut DeskAccount<K, B>,
         number: RecordNo,
         field: FieldNo,
         moment: u64,

@@ -28,7 +28,7 @@ use std::marker::Brand;
 use std::mem;
 
 // A journaled set of these members, with a pass that owns the keys of `P` and with this share.
-fn hold_as<P: Keys, K: RecordKind, B: SetsName<K, D>, D: Device>(
+fn hold<P: Keys, K: RecordKind, B: SetsName<K, D>, D: Device>(
     alloc: Global,
     cell: &Cell,
     master: &mut KeyPass,
@@ -55,32 +55,6 @@ fn hold_as<P: Keys, K: RecordKind, B: SetsName<K, D>, D: Device>(
     JournaledSet::new(set, pass, Some(share))
 }
 
-/// A journaled set of these members, with a pass that owns the keys of their records and has seen
-/// no call, and with a share of the engine's counts.
-pub fn hold<K: RecordKind, B: SetsName<K, D>, D: Device>(
-    alloc: Global,
-    cell: &Cell,
-    master: &mut KeyPass,
-    share: TallyShare<EngineCounts<K, B>>,
-    members: Members<K, D>,
-) -> JournaledSet<K, B, D>
-    requires table { (cell.now.table.shared.table_id ≡ B.table) × (master.old.table_id ≡ B.table) }
-    requires share { share ≡ share_view (map.len members.records) no_counts }
-    requires master { cell_view master.old ≡ keeper [] (cell_view master.old).born }
-    requires fresh { (key : Key) → Has key (record_keys (map.keys members.records)) → Has key (cell_view master.old).born → ⊥ }
-    requires base { members.base ≡ members.records }
-    requires part { IsPart (links_of K.rules members.records) }
-    requires calm { AreCalm K.rules members.records }
-    requires idle { NoneAwaits K.rules members.records }
-    requires holds { Holds K.rules B.base (resting members.records [] []) }
-    requires devices { KeepsDevices (IsDeviceOf D.gives B.devices) (with_empty_history members.records members.devices [] [] no_counts) }
-    ensures table { master.new.table_id ≡ B.table }
-    ensures master { cell_view master.new ≡ keeper [] (record_keys (map.keys members.records) ++ (cell_view master.old).born) }
-    ensures held { result ≡ held_view (with_empty_history members.records members.devices [] [] no_counts) [] }
-{
-    hold_as::<Brand, K, B, D>(alloc, cell, master, share, members)
-}
-
 // A journaled set of the records of one part, with a pass that owns the keys of these records and
 // has seen no call, and with a share of the engine's counts.
 fn hold_part<K: RecordKind, B: SetsName<K, D>, D: Device>(
@@ -102,7 +76,7 @@ fn hold_part<K: RecordKind, B: SetsName<K, D>, D: Device>(
     ensures born { AreOfPartsBelow parts.now (part + 1) (cell_view master.new).born }
     ensures held { result ≡ held_view (with_empty_history members.records members.devices [] [] no_counts) [] }
 {
-    hold(alloc, cell, master, share, members)
+    hold::<Brand, K, B, D>(alloc, cell, master, share, members)
 }
 
 /// Moves the sets of all parts into a directory for these records, each with a part of `spare` for

@@ -31,5 +31,5 @@ pub use engine::EngineCore;
 pub use ioc_journaled_set::{JournaledSet, SharedNotifications};
 pub use loading::with_copies;
 pub use opening::new_cell;
-pub use report::Report;
+pub use report::CoreReport;
 pub use starting::{StartError, start};

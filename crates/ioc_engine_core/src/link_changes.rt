@@ -6,12 +6,9 @@ ghost use Rattle.ioc_journaled_set.specs.Holding.{numbers_of};
 ghost use Rattle.ioc_engine_core.specs.Linked.{other_of, WasLinked, LinkWasRefused};
 
 use crate::engine::EngineCore;
-use ioc_dbcommon::LinkBox;
 use ioc_device::Device;
-use ioc_fields::FieldNo;
-use ioc_history::Desk;
-use ioc_journaled_set::{Changed, JournaledSet, SetsName, change_link};
-use ioc_names::RecordNo;
+use ioc_history::DeskAccount;
+use ioc_journaled_set::{Changed, JournaledSet, LinkChange, SetsName, change_link};
 use ioc_record::RecordKind;
 use ioc_set_store::EventBuffers;
 use ioc_topology::{NewCells, all_sound, are_lent};
@@ -25,30 +22,25 @@ impl<K: RecordKind + Drop, B: SetsName<K, D>, D: Device> EngineCore<K, B, D> {
         &self,
         rt: &R,
         alloc: Global,
-        desk: &mut Desk<K, B>,
+        desk: &mut DeskAccount<K, B>,
         buffers: &mut EventBuffers<K, D>,
         first: &mut JournaledSet<K, B, D>,
         second: &mut JournaledSet<K, B, D>,
         spare: &mut JournaledSet<K, B, D>,
-        number: RecordNo,
-        field: FieldNo,
-        link: LinkBox,
-        base_link: LinkBox,
-        moment: u64,
+        change: LinkChange,
     ) -> Result<Changed<K, B>, IocError>
-        requires base_link { base_link ≡ link }
-        requires lent { AreLent numbers_of number (other_of link) first.old second.old spare.old }
-        ensures changed { IfOk result (λ c. WasLinked D K.rules B.base number field link desk.old moment c.reply c.moved desk.new
+        requires base_link { change.base_link ≡ change.link }
+        requires lent { AreLent numbers_of change.number (other_of change.link) first.old second.old spare.old }
+        ensures changed { IfOk result (λ c. WasLinked D K.rules B.base change.number change.field change.link desk.old change.moment c.reply c.moved desk.new
             (world_of buffers.new.store)) }
         ensures receipt { IfOk result (λ c. c.receipt ≡ desk.new.seen) }
         ensures ended { OnOk result (buffers.new.ended_everywhere.items ≡ []) }
-        ensures refused { IfErr result (LinkWasRefused D K.rules B.base self.now number field link) }
+        ensures refused { IfErr result (LinkWasRefused D K.rules B.base self.now change.number change.field change.link) }
         ensures err { OnErr result (desk.new ≡ desk.old) }
     {
         all_sound(first, second, spare);
         let changed = change_link(
-            rt, alloc, &self.book, desk, buffers, first, second, spare, number, field, link,
-            base_link, moment,
+            rt, alloc, &self.book, desk, buffers, first, second, spare, change,
         );
         all_sound(first, second, spare);
         changed
@@ -56,8 +48,7 @@ impl<K: RecordKind + Drop, B: SetsName<K, D>, D: Device> EngineCore<K, B, D> {
 
     /// Changes a link of a record, under the topology guard and the locks of the sets that it
     /// concerns. The set of the record may part in two, or its part joins the set of the record
-    /// that the link leads to. Each record is found in its set afterwards. `link` and `base_link`
-    /// are equal.
+    /// that the link leads to. Each record is found in its set afterwards.
     ///
     /// # Errors
     ///
@@ -70,21 +61,17 @@ impl<K: RecordKind + Drop, B: SetsName<K, D>, D: Device> EngineCore<K, B, D> {
         &self,
         rt: &R,
         alloc: Global,
-        desk: &mut Desk<K, B>,
+        desk: &mut DeskAccount<K, B>,
         buffers: &mut EventBuffers<K, D>,
-        number: RecordNo,
-        field: FieldNo,
-        link: LinkBox,
-        base_link: LinkBox,
-        moment: u64,
+        change: LinkChange,
     ) -> Result<Changed<K, B>, IocError>
-        requires base_link { base_link ≡ link }
-        ensures changed { IfOk result (λ c. WasLinked D K.rules B.base number field link desk.old moment c.reply c.moved desk.new
+        requires base_link { change.base_link ≡ change.link }
+        ensures changed { IfOk result (λ c. WasLinked D K.rules B.base change.number change.field change.link desk.old change.moment c.reply c.moved desk.new
             (world_of buffers.new.store)) }
         ensures receipt { IfOk result (λ c. c.receipt ≡ desk.new.seen) }
         ensures ended { OnOk result (buffers.new.ended_everywhere.items ≡ []) }
-        ensures known { OnOk result (AreKnown self.now number (other_of link)) }
-        ensures refused { IfErr result (LinkWasRefused D K.rules B.base self.now number field link) }
+        ensures known { OnOk result (AreKnown self.now change.number (other_of change.link)) }
+        ensures refused { IfErr result (LinkWasRefused D K.rules B.base self.now change.number change.field change.link) }
         ensures err { OnErr result (desk.new ≡ desk.old) }
     {
         if !self.may_begin(rt, alloc) {
@@ -92,9 +79,7 @@ impl<K: RecordKind + Drop, B: SetsName<K, D>, D: Device> EngineCore<K, B, D> {
         }
         let _guard = self.sets.guard_topology(rt);
         let new = self.sets.new_cells(rt, alloc)?;
-        let changed = self.relink(
-            rt, alloc, desk, buffers, &new, number, field, link, base_link, moment,
-        )?;
+        let changed = self.relink(rt, alloc, desk, buffers, &new, change)?;
         self.count_dropped(buffers);
         Ok(changed)
     }
@@ -105,25 +90,22 @@ impl<K: RecordKind + Drop, B: SetsName<K, D>, D: Device> EngineCore<K, B, D> {
         &'a self,
         rt: &R,
         alloc: Global,
-        desk: &mut Desk<K, B>,
+        desk: &mut DeskAccount<K, B>,
         buffers: &mut EventBuffers<K, D>,
         new: &NewCells<'a, JournaledSet<K, B, D>>,
-        number: RecordNo,
-        field: FieldNo,
-        link: LinkBox,
-        base_link: LinkBox,
-        moment: u64,
+        change: LinkChange,
     ) -> Result<Changed<K, B>, IocError>
-        requires base_link { base_link ≡ link }
-        ensures changed { IfOk result (λ c. WasLinked D K.rules B.base number field link desk.old moment c.reply c.moved desk.new
+        requires base_link { change.base_link ≡ change.link }
+        ensures changed { IfOk result (λ c. WasLinked D K.rules B.base change.number change.field change.link desk.old change.moment c.reply c.moved desk.new
             (world_of buffers.new.store)) }
         ensures receipt { IfOk result (λ c. c.receipt ≡ desk.new.seen) }
         ensures ended { OnOk result (buffers.new.ended_everywhere.items ≡ []) }
-        ensures known { OnOk result (AreKnown self.now number (other_of link)) }
-        ensures refused { IfErr result (LinkWasRefused D K.rules B.base self.now number field link) }
+        ensures known { OnOk result (AreKnown self.now change.number (other_of change.link)) }
+        ensures refused { IfErr result (LinkWasRefused D K.rules B.base self.now change.number change.field change.link) }
         ensures err { OnErr result (desk.new ≡ desk.old) }
     {
-        let other = link.record_named();
+        let number = change.number;
+        let other = change.link.record_named();
         for _ in rt.forever() {
             let both = match self.sets.link_cells(new, number, &other) {
                 Ok(Some(both)) => both,
@@ -140,8 +122,7 @@ impl<K: RecordKind + Drop, B: SetsName<K, D>, D: Device> EngineCore<K, B, D> {
             let spare = &mut *spare_guard;
             if are_lent(first, second, spare, number, &other) {
                 let changed = self.change_lent(
-                    rt, alloc, desk, buffers, first, second, spare, number, field, link, base_link,
-                    moment,
+                    rt, alloc, desk, buffers, first, second, spare, change,
                 );
                 self.sets.settle_all(rt, &both, new, first, second, spare);
                 return changed;

@@ -11,7 +11,7 @@ use crate::engine::EngineCore;
 use ioc_device::Device;
 use ioc_events::Reply;
 use ioc_fields::FieldNo;
-use ioc_history::{Desk, Receipt};
+use ioc_history::{DeskAccount, Receipt};
 use ioc_journaled_set::{Served, SetsName};
 use ioc_names::RecordNo;
 use ioc_notify::NotifyId;
@@ -39,7 +39,7 @@ impl<K: RecordKind + Drop, B: SetsName<K, D>, D: Device> EngineCore<K, B, D> {
         &self,
         rt: &R,
         alloc: Global,
-        desk: &mut Desk<K, B>,
+        desk: &mut DeskAccount<K, B>,
         buffers: &mut EventBuffers<K, D>,
         number: RecordNo,
         field: FieldNo,
@@ -85,7 +85,7 @@ impl<K: RecordKind + Drop, B: SetsName<K, D>, D: Device> EngineCore<K, B, D> {
         &self,
         rt: &R,
         alloc: Global,
-        desk: &mut Desk<K, B>,
+        desk: &mut DeskAccount<K, B>,
         number: NotifyId,
         moment: u64,
     ) -> Result<(Reply, Receipt<K, B>), IocError>

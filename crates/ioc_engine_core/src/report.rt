@@ -21,7 +21,7 @@ use crate::engine::EngineCore;
 use ioc_callback::OnceQueue;
 use ioc_device::Device;
 use ioc_history::legal_laws::lists_leave_sound;
-use ioc_history::{Cell, EngineCounts, EngineName, Journal, RequestTickets, TicketTally};
+use ioc_history::{Cell, EngineCounts, Journal, JournalName, RequestTickets, TicketTally};
 use ioc_journaled_set::{JournaledSet, SetsName, move_all_on};
 use ioc_ledger::{Tally, TallyShare};
 use ioc_record::RecordKind;
@@ -31,7 +31,7 @@ use std::sync::Wait;
 
 /// What is left of an engine when it ends.
 #[derive(Drop)]
-pub struct Report<K: RecordKind + Drop, B: SetsName<K, D>, D: Device> {
+pub struct CoreReport<K: RecordKind + Drop, B: SetsName<K, D>, D: Device> {
     /// The lock sets, each with its records and their devices.
     pub sets: Vec<JournaledSet<K, B, D>>,
     /// All calls, in one order.
@@ -46,7 +46,7 @@ pub struct Report<K: RecordKind + Drop, B: SetsName<K, D>, D: Device> {
 
 // Hands back the tickets of the requests that wait, and returns the number of those that were
 // dropped.
-fn give_up_all<K: RecordKind, B: EngineName<K>>(
+fn give_up_all<K: RecordKind, B: JournalName<K>>(
     once: OnceQueue<RequestTickets<K, B>>,
     journal: &mut Journal<K, B>,
 ) -> u64
@@ -128,7 +128,7 @@ fn all_keep_devices<K: RecordKind + Drop, B: SetsName<K, D>, D: Device>(
 
 impl<K: RecordKind + Drop, B: SetsName<K, D>, D: Device> EngineCore<K, B, D> {
     /// Ends the engine. Allocates nothing. Waits forever if a record is in no set.
-    pub fn stop<R: Wait>(self, rt: &R, alloc: Global) -> Report<K, B, D>
+    pub fn stop<R: Wait>(self, rt: &R, alloc: Global) -> CoreReport<K, B, D>
         ensures end { IsEnd K.rules B.base (IsDeviceOf D.gives B.devices) self result.journal.filled result.sets.items }
         ensures tickets { AreTicketed K.rules B.base result.journal.filled result.tickets }
         ensures tally { counts_in result.sets.items ≡ counts_of K.rules B.base result.journal.filled }
@@ -150,7 +150,7 @@ impl<K: RecordKind + Drop, B: SetsName<K, D>, D: Device> EngineCore<K, B, D> {
         all_keep_devices(all.as_slice());
         let once_dropped = give_up_all(once.into_inner(), &mut journal);
         let tickets = journal.tickets();
-        Report {
+        CoreReport {
             sets: all,
             journal: EndedJournal::new(journal, cell),
             tickets,
@@ -160,7 +160,7 @@ impl<K: RecordKind + Drop, B: SetsName<K, D>, D: Device> EngineCore<K, B, D> {
     }
 }
 
-impl<K: RecordKind + Drop, B: SetsName<K, D>, D: Device> Report<K, B, D> {
+impl<K: RecordKind + Drop, B: SetsName<K, D>, D: Device> CoreReport<K, B, D> {
     /// Returns the counts of requests and of asynchronous answers of all sets together.
     pub fn tally(&self) -> Tally
         ensures { result ≡ counts_in self.now.sets.items }

@@ -2,7 +2,7 @@
 ghost use Rattle.std.specs.FinMap.{len};
 ghost use Rattle.ioc_engine_core.specs.Loading.{IsSpare};
 
-use ioc_history::{EngineCounts, EngineName};
+use ioc_history::{EngineCounts, JournalName};
 use ioc_ledger::TallyShare;
 use ioc_record::RecordKind;
 use std::marker::Model;
@@ -10,11 +10,11 @@ use std::marker::Model;
 /// The parts of the ledgers of counts that no set has, since each set has one for each of its
 /// records. They have no counts, and take no bytes.
 #[derive(Drop)]
-pub struct SpareParts<K: RecordKind, B: EngineName<K>> {
+pub struct SpareParts<K: RecordKind, B: JournalName<K>> {
     share: TallyShare<EngineCounts<K, B>>,
 }
 
-impl<K: RecordKind, B: EngineName<K>> Model for SpareParts<K, B> {
+impl<K: RecordKind, B: JournalName<K>> Model for SpareParts<K, B> {
     ghost use Rattle.std.specs.FinMap.{len};
     ghost use Rattle.ioc_ledger.specs.Shared.{ShareView};
     ghost use Rattle.ioc_engine_core.specs.Loading.{IsSpare};
@@ -26,7 +26,7 @@ impl<K: RecordKind, B: EngineName<K>> Model for SpareParts<K, B> {
     ghost invariant = { λ s. IsSpare s.share (len B.base.records) };
 }
 
-impl<K: RecordKind, B: EngineName<K>> SpareParts<K, B> {
+impl<K: RecordKind, B: JournalName<K>> SpareParts<K, B> {
     /// Keeps these parts, which are all but one for each record of the load.
     pub fn new(share: TallyShare<EngineCounts<K, B>>) -> Self
         requires spare { IsSpare share (len B.base.records) }

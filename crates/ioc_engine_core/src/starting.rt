@@ -20,7 +20,7 @@ use ioc_callback::OnceQueue;
 use ioc_device::Device;
 use ioc_history::legal_laws::lists_leave_sound;
 use ioc_history::{
-    Cell, EngineCounts, EngineName, Journal, KeyPass, Limits, RequestTickets, SharedJournal,
+    Cell, EngineCounts, Journal, JournalName, KeyPass, Limits, RequestTickets, SharedJournal,
     TicketCounts, pass,
 };
 use ioc_journaled_set::{JournaledSet, SetsName, SharedNotifications};
@@ -62,7 +62,7 @@ fn are_at_rest<K: RecordKind, D>(all: &[Loaded<K, D>]) -> bool
 
 // Creates the table of puts with notification, whose pass gets their key, and the list of once
 // requests. Both are empty.
-fn new_lists<K: RecordKind, B: EngineName<K>>(
+fn new_lists<K: RecordKind, B: JournalName<K>>(
     alloc: Global,
     cell: &Cell,
     master: &mut KeyPass,

@@ -3,7 +3,7 @@ pub mod Base
 pub mod CountLaws
 pub mod Counting
 pub mod Covering
-pub mod DeskCode
+pub mod DeskAccountCode
 pub mod Desks
 pub mod EventLaws
 pub mod Key

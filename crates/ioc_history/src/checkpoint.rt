@@ -5,15 +5,15 @@ ghost use Rattle.ioc_history.specs.Legal.{IsLegal, map_of};
 ghost use Rattle.ioc_history.specs.Places.{journal_of};
 
 use crate::base::JournalBase;
-use crate::engine_name::EngineName;
 use crate::free_places::FreePlaces;
 use crate::journal::Journal;
+use crate::journal_name::JournalName;
 use ioc_record::RecordKind;
 
 // The number of calls after which no more entries are dropped, so that places stay below 2^64.
 const MOST_DROPPED: u64 = 1 << 63;
 
-impl<K: RecordKind + Drop, B: EngineName<K>> Journal<K, B> {
+impl<K: RecordKind + Drop, B: JournalName<K>> Journal<K, B> {
     /// Drops the entries of all calls, and keeps the records that the calls lead to, from which
     /// later entries lead on. The places of the dropped entries are free then, with their memory.
     /// Returns `None` if there were more than 2^63 calls; nothing has changed then. It allocates
@@ -36,7 +36,7 @@ impl<K: RecordKind + Drop, B: EngineName<K>> Journal<K, B> {
     }
 }
 
-impl<K: RecordKind, B: EngineName<K>> Journal<K, B> {
+impl<K: RecordKind, B: JournalName<K>> Journal<K, B> {
     /// Returns the number of calls whose entries were dropped.
     pub fn dropped(&self) -> u64
         ensures { result ≡ self.now.dropped }

@@ -3,17 +3,17 @@ ghost use Rattle.std.specs.Prelude.{◌≡◌};
 ghost use Rattle.ioc_history.specs.Line.{longer, Begins};
 ghost use Rattle.ioc_history.specs.Account.{IsAccount, calls, calls_by};
 
-use crate::engine_name::EngineName;
+use crate::journal_name::JournalName;
 use crate::receipt::Receipt;
 use crate::{Cell, KeyPass, pass};
 use ioc_record::RecordKind;
 use std::marker::{Model, PhantomData};
 use std::sync::Wait;
 
-/// A caller of an engine. Contracts see its number, the number of its next call, and the beginning
-/// of the journal's list that it has seen.
+/// The account of a desk, a caller of an engine. Contracts see its number, the number of its next
+/// call, and the beginning of the journal's list that it has seen.
 #[derive(Drop)]
-pub struct Desk<K: RecordKind, B: EngineName<K>> {
+pub struct DeskAccount<K: RecordKind, B: JournalName<K>> {
     pub(crate) number: u64,
     pub(crate) next: u64,
     pub(crate) pass: KeyPass,
@@ -21,9 +21,9 @@ pub struct Desk<K: RecordKind, B: EngineName<K>> {
     pub(crate) kind: PhantomData<K>,
 }
 
-impl<K: RecordKind, B: EngineName<K>> Model for Desk<K, B> {
+impl<K: RecordKind, B: JournalName<K>> Model for DeskAccount<K, B> {
     ghost use Rattle.ioc_history.specs.Account.{DeskView};
-    ghost use Rattle.ioc_history.specs.DeskCode.{desk_code};
+    ghost use Rattle.ioc_history.specs.DeskAccountCode.{desk_code};
 
     ghost Value = { DeskView };
 
@@ -38,7 +38,7 @@ impl<K: RecordKind, B: EngineName<K>> Model for Desk<K, B> {
     ghost invariant = { λ d. IsDesk K.rules B.base B.table d.pass.table_id (cell_view d.pass) d.number d.next };
 }
 
-impl<K: RecordKind, B: EngineName<K>> Desk<K, B> {
+impl<K: RecordKind, B: JournalName<K>> DeskAccount<K, B> {
     /// Moves on to the list of a receipt, if that is longer than the list that the desk has seen.
     /// Afterwards both lists are beginnings of the one that the desk knows.
     pub fn learn<R: Wait>(&mut self, rt: &R, cell: &Cell, receipt: &mut Receipt<K, B>)

@@ -5,8 +5,8 @@ ghost use Rattle.ioc_history.specs.Line.{keeper, holder, Continues};
 ghost use Rattle.ioc_history.specs.Legal.{IsLegal, IsSound};
 ghost use Rattle.ioc_history.specs.Account.{IsAccount, IsHolder};
 
-use crate::engine_name::EngineName;
 use crate::journal::Journal;
+use crate::journal_name::JournalName;
 use crate::shared_journal::SharedJournal;
 use crate::{Cell, KeyPass, pass};
 use ioc_record::RecordKind;
@@ -27,7 +27,7 @@ fn learn_whole<R: Wait>(rt: &R, cell: &Cell, master: &mut KeyPass, set: &mut Key
     *set = pass::give_all(cell, master);
 }
 
-impl<K: RecordKind, B: EngineName<K>> Journal<K, B> {
+impl<K: RecordKind, B: JournalName<K>> Journal<K, B> {
     /// Moves the pass of a set on to the whole list, which continues from what the pass had seen
     /// without its keys.
     pub fn tell_all<R: Wait>(&mut self, rt: &R, cell: &Cell, set: &mut KeyPass)
@@ -50,7 +50,7 @@ impl<K: RecordKind, B: EngineName<K>> Journal<K, B> {
     }
 }
 
-impl<K: RecordKind, B: EngineName<K>> SharedJournal<K, B> {
+impl<K: RecordKind, B: JournalName<K>> SharedJournal<K, B> {
     /// Returns the cell and the journal, without their lock.
     pub fn into_parts(self) -> (Cell, Journal<K, B>)
         ensures { result.0.table.shared.table_id ≡ B.table }

@@ -5,8 +5,8 @@ ghost use Rattle.ioc_history.specs.Places.{AreAllowed, places_of};
 ghost use Rattle.std.specs.Vec.{vec_len, vec_capacity};
 ghost use Rattle.ioc_history.specs.Pieces.{IsSpare, ArePieces, items_in};
 
-use crate::engine_name::EngineName;
 use crate::free_places::{FreePlaces, Place, Places};
+use crate::journal_name::JournalName;
 use crate::limits::Limits;
 use crate::stored_entry::StoredEntry;
 use ioc_events::{Entry, Event, KeptAnswers, Reply};
@@ -63,7 +63,7 @@ fn write_to(alloc: Global, items: &mut Vec<StoredEntry>, count: u64)
 /// see the list of the entries, the number of places that have memory, and the limit of that
 /// number.
 #[derive(Drop)]
-pub struct Entries<K, B: EngineName<K>> {
+pub struct Entries<K, B: JournalName<K>> {
     // First, so that it lies beside the lock of the journal: each call changes both.
     current: Vec<StoredEntry>,
     full: Vec<Vec<StoredEntry>>,
@@ -74,7 +74,7 @@ pub struct Entries<K, B: EngineName<K>> {
     filled: Share<Places<K, B>>,
 }
 
-impl<K, B: EngineName<K>> Model for Entries<K, B> {
+impl<K, B: JournalName<K>> Model for Entries<K, B> {
     ghost use Rattle.ioc_history.specs.declared.entry.JournalEntry.{JournalEntry};
     ghost use Rattle.ioc_history.specs.Places.{PlacesOf};
     ghost use Rattle.ioc_history.specs.PlacesCode.{entries_code};
@@ -94,7 +94,7 @@ impl<K, B: EngineName<K>> Model for Entries<K, B> {
         × (e.filled.parts + e.given ≡ 18446744073709551615 + e.filled.amount) };
 }
 
-impl<K, B: EngineName<K>> Entries<K, B> {
+impl<K, B: JournalName<K>> Entries<K, B> {
     /// Allocates the first piece and the lists of pieces. There are no entries yet, and the places
     /// of the first piece are free. `blank` has [`PLACES`](crate::PLACES) parts.
     ///

@@ -2,23 +2,23 @@
 ghost use Rattle.std.specs.Prelude.{◌≡◌, None, IfSome};
 ghost use Rattle.ioc_history.specs.Counting.{IsBacked, IsCountedOn, IsGivenBack, IsRecorded};
 
-use crate::engine_name::EngineName;
+use crate::journal_name::JournalName;
 use ioc_ledger::{CountNames, Tally, TallyBook, TallyShare};
 use std::marker::PhantomData;
 
 /// Names the ledgers of an engine's counts.
-pub struct EngineCounts<K, B: EngineName<K>> {
+pub struct EngineCounts<K, B: JournalName<K>> {
     of: PhantomData<B>,
     kind: PhantomData<K>,
 }
 
-impl<K, B: EngineName<K>> CountNames for EngineCounts<K, B> {
+impl<K, B: JournalName<K>> CountNames for EngineCounts<K, B> {
     ghost counts = { B.counts };
 }
 
 /// What an event counts.
 #[derive(Drop)]
-pub struct EventCounts<K, B: EngineName<K>> {
+pub struct EventCounts<K, B: JournalName<K>> {
     /// The number of once requests that it sends.
     pub sent: u64,
     /// The share of the set on which the event was done, or `None` if the event counts nothing.
@@ -29,7 +29,7 @@ pub struct EventCounts<K, B: EngineName<K>> {
     pub after: Tally,
 }
 
-impl<K, B: EngineName<K>> EventCounts<K, B> {
+impl<K, B: JournalName<K>> EventCounts<K, B> {
     /// The counts of an event that counts nothing and sends no once request.
     pub fn none() -> Self
         ensures share { result.share ≡ None }
@@ -46,7 +46,7 @@ impl<K, B: EngineName<K>> EventCounts<K, B> {
 
 // Records what an event counts in the book, and returns the share of its set.
 #[inline(always)]
-pub(crate) fn record_event<K, B: EngineName<K>>(
+pub(crate) fn record_event<K, B: JournalName<K>>(
     book: &mut TallyBook<EngineCounts<K, B>>,
     counts: EventCounts<K, B>,
 ) -> Option<TallyShare<EngineCounts<K, B>>>

@@ -1,7 +1,7 @@
 //! Places of a journal that are neither filled nor held.
 ghost use Rattle.std.specs.Prelude.{◌≡◌, ◌≤◌, ◌+◌, ◌⊎◌, IfSome, IfNone};
 
-use crate::engine_name::EngineName;
+use crate::journal_name::JournalName;
 use std::marker::{Model, PhantomData};
 use std::sync::ledger::{Book, Ledger, Share};
 
@@ -10,31 +10,31 @@ pub const PLACES: u64 = u64::MAX;
 
 /// The ledger of the places of an engine's journal, whether they are free, held or filled. Its
 /// total is their number.
-pub struct Places<K, B: EngineName<K>> {
+pub struct Places<K, B: JournalName<K>> {
     of: PhantomData<B>,
     kind: PhantomData<K>,
 }
 
-impl<K, B: EngineName<K>> Ledger for Places<K, B> {
+impl<K, B: JournalName<K>> Ledger for Places<K, B> {
     ghost name = { B.places };
 
     ghost parts = { 18446744073709551615 };
 }
 
 /// A held place of a journal. It can't be dropped: it has to be filled or given back.
-pub struct Place<K, B: EngineName<K>> {
+pub struct Place<K, B: JournalName<K>> {
     pub(crate) share: Share<Places<K, B>>,
     ghost one: { (share.parts ≡ 1) × (share.amount ≡ 1) },
 }
 
 /// Some of the free places of a journal. Contracts see their number.
 #[derive(Drop)]
-pub struct FreePlaces<K, B: EngineName<K>> {
+pub struct FreePlaces<K, B: JournalName<K>> {
     count: u64,
     share: Share<Places<K, B>>,
 }
 
-impl<K, B: EngineName<K>> Model for FreePlaces<K, B> {
+impl<K, B: JournalName<K>> Model for FreePlaces<K, B> {
     ghost use Rattle.std.specs.Prelude.{ℕ, ◌≡◌};
 
     ghost Value = { ℕ };
@@ -44,7 +44,7 @@ impl<K, B: EngineName<K>> Model for FreePlaces<K, B> {
     ghost invariant = { λ f. (f.share.parts ≡ f.count) × (f.share.amount ≡ f.count) };
 }
 
-impl<K, B: EngineName<K>> FreePlaces<K, B> {
+impl<K, B: JournalName<K>> FreePlaces<K, B> {
     /// The free places that a share of the ledger stands for.
     pub(crate) fn new(count: u64, share: Share<Places<K, B>>) -> Self
         requires parts { share.parts ≡ count }

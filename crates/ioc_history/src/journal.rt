@@ -16,11 +16,11 @@ ghost use Rattle.ioc_ledger.specs.Counts.{counts};
 ghost use Rattle.ioc_history.specs.Places.{AreAllowed, journal_of, one_more_desk, with_tickets};
 
 use crate::base::JournalBase;
-use crate::desk::Desk;
-use crate::engine_name::EngineName;
+use crate::desk::DeskAccount;
 use crate::entries::{Entries, Piece};
 use crate::event_counts::{EngineCounts, EventCounts, record_event};
 use crate::free_places::{FreePlaces, Place};
+use crate::journal_name::JournalName;
 use crate::key_division::{deal, take_over};
 use crate::limits::Limits;
 use crate::receipt::Receipt;
@@ -40,7 +40,7 @@ use std::sync::ledger::Blank;
 /// number of places that have memory, the limit of that number, and the number of desks that were
 /// opened.
 #[derive(Drop)]
-pub struct Journal<K: RecordKind, B: EngineName<K>> {
+pub struct Journal<K: RecordKind, B: JournalName<K>> {
     pub(crate) entries: Entries<K, B>,
     // The number of calls whose entries were dropped, and where these lead.
     pub(crate) dropped: u64,
@@ -52,7 +52,7 @@ pub struct Journal<K: RecordKind, B: EngineName<K>> {
     pub(crate) pass: KeyPass,
 }
 
-impl<K: RecordKind, B: EngineName<K>> Model for Journal<K, B> {
+impl<K: RecordKind, B: JournalName<K>> Model for Journal<K, B> {
     ghost use Rattle.ioc_history.specs.declared.entry.Note.{Note};
     ghost use Rattle.ioc_history.specs.Places.{JournalOf};
     ghost use Rattle.ioc_history.specs.PlacesCode.{journal_code};
@@ -72,7 +72,7 @@ impl<K: RecordKind, B: EngineName<K>> Model for Journal<K, B> {
 
 /// A call that was added to the journal.
 #[derive(Drop)]
-pub struct Appended<K: RecordKind, B: EngineName<K>> {
+pub struct Appended<K: RecordKind, B: JournalName<K>> {
     pub receipt: Receipt<K, B>,
     /// The tickets of the once requests that the event has sent.
     pub tickets: Tickets<RequestTickets<K, B>>,
@@ -80,7 +80,7 @@ pub struct Appended<K: RecordKind, B: EngineName<K>> {
     pub share: Option<TallyShare<EngineCounts<K, B>>>,
 }
 
-impl<K: RecordKind, B: EngineName<K>> Appended<K, B> {
+impl<K: RecordKind, B: JournalName<K>> Appended<K, B> {
     // The call at this place, from a pass that knows the list up to it.
     #[inline(always)]
     fn new(
@@ -108,7 +108,7 @@ impl<K: RecordKind, B: EngineName<K>> Appended<K, B> {
     }
 }
 
-impl<K: RecordKind, B: EngineName<K>> Journal<K, B> {
+impl<K: RecordKind, B: JournalName<K>> Journal<K, B> {
     /// Creates a journal without calls, with the tickets of their requests and the book of their
     /// counts, and the free places that it has memory for. The keeper's pass has created only keys of
     /// records.
@@ -182,7 +182,7 @@ impl<K: RecordKind, B: EngineName<K>> Journal<K, B> {
     /// # Errors
     ///
     /// [`IocError::JournalFull`] exactly if no number is left for a desk.
-    pub fn open_desk(&mut self, cell: &Cell) -> Result<Desk<K, B>, IocError>
+    pub fn open_desk(&mut self, cell: &Cell) -> Result<DeskAccount<K, B>, IocError>
         requires table { cell.now.table.shared.table_id ≡ B.table }
         ensures desk { IfOk result (λ d. (d.number ≡ self.old.desks) × (d.next ≡ 0) × (d.seen ≡ self.old.filled)
             × (calls_by d.number (calls d.seen) ≡ [])) }
@@ -196,7 +196,7 @@ impl<K: RecordKind, B: EngineName<K>> Journal<K, B> {
         let number = self.desks;
         let pass = pass::claim_key(cell, &mut self.pass, 1, number);
         self.desks += 1;
-        Ok(Desk {
+        Ok(DeskAccount {
             number,
             next: 0,
             pass,
@@ -237,7 +237,7 @@ impl<K: RecordKind, B: EngineName<K>> Journal<K, B> {
         cell: &Cell,
         place: Place<K, B>,
         set: &mut KeyPass,
-        desk: &mut Desk<K, B>,
+        desk: &mut DeskAccount<K, B>,
         made: StoredEntry,
         counts: EventCounts<K, B>,
     ) -> Appended<K, B>
@@ -281,7 +281,7 @@ impl<K: RecordKind, B: EngineName<K>> Journal<K, B> {
         place: Place<K, B>,
         one: &mut KeyPass,
         other: &mut KeyPass,
-        desk: &mut Desk<K, B>,
+        desk: &mut DeskAccount<K, B>,
         made: StoredEntry,
         counts: EventCounts<K, B>,
     ) -> Appended<K, B>

@@ -10,8 +10,8 @@ use ioc_events::notification_rules::{
 };
 use ioc_record::RecordKind;
 
-// The laws of events that the laws below rest on.
-pub(crate) fn events_have_laws<K: RecordKind>()
+/// The laws of events that the laws of held records rest on.
+pub fn events_have_laws<K: RecordKind>()
     ensures { EventLaws K.rules }
 {
     rules_are_steps::<K>();

@@ -4,9 +4,9 @@ ghost use Rattle.crossbeam_utils.specs.Seq.{cell_view};
 ghost use Rattle.ioc_history.specs.Line.{keeper, Begins};
 ghost use Rattle.ioc_history.specs.Account.{IsEntryOf};
 
-use crate::engine_name::EngineName;
 use crate::free_places::FreePlaces;
 use crate::journal::Journal;
+use crate::journal_name::JournalName;
 use crate::receipt::Receipt;
 use crate::stored_entry::StoredEntry;
 use crate::{Cell, KeyPass, pass};
@@ -25,7 +25,7 @@ fn compare_one<R: Wait>(rt: &R, cell: &Cell, master: &mut KeyPass, one: &mut Key
     pass::take_in(rt, cell, master, copy);
 }
 
-impl<K: RecordKind, B: EngineName<K>> Journal<K, B> {
+impl<K: RecordKind, B: JournalName<K>> Journal<K, B> {
     /// Compares the entries with free places: together they are no more than have memory.
     pub fn compare_free(&mut self, free: &mut FreePlaces<K, B>)
         ensures within { length self.old.filled + free.old ≤ self.old.dropped + self.old.given }

@@ -100,6 +100,7 @@ fn step_with<O: Outcome<[u64; 1], View>, R: Wait>(
 
 /// Moves the keys of a pass into the keeper's. No note since what that pass had seen has any of its
 /// keys.
+#[inline(always)]
 pub fn take_in<R: Wait>(rt: &R, cell: &Cell, master: &mut KeyPass, other: KeyPass)
     requires table { (master.old.table_id ≡ cell.now.table.shared.table_id) × (other.table_id ≡ master.old.table_id) × (other.me.1 ≡ []) }
     requires keeps { ((cell_view master.old).keeps ≡ true) × ((cell_view master.old).mark ≡ []) × ((cell_view master.old).asks ≡ []) }
@@ -149,7 +150,6 @@ pub fn note_down<S: NoteName, R: Wait>(rt: &R, cell: &Cell, master: &mut KeyPass
 /// Adds the note of an entry, which has the keys of both passes, to the list, and returns the pass
 /// of its receipt. The caller holds the journal's lock, the pass of a set, which owns the keys of
 /// `K`, and that of a desk, which owns the rest. Afterwards all passes know the whole list.
-#[inline(always)]
 pub fn append<K: Keys, S: NoteName, R: Wait>(
     rt: &R,
     cell: &Cell,

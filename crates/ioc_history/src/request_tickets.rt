@@ -4,19 +4,19 @@ ghost use Rattle.ioc_ledger.specs.Counts.{counts};
 ghost use Rattle.ioc_history.specs.Counting.{AreTickets};
 ghost use Rattle.ioc_history.specs.Ticketed.{tickets_view, AreBack};
 
-use crate::engine_name::EngineName;
+use crate::journal_name::JournalName;
 use ioc_ledger::{Ledger, Ticket, Tickets};
 use std::marker::{Model, PhantomData};
 use std::sync::ledger;
 use std::sync::ledger::Blank;
 
 /// The ledger of the tickets of an engine's requests.
-pub struct RequestTickets<K, B: EngineName<K>> {
+pub struct RequestTickets<K, B: JournalName<K>> {
     of: PhantomData<B>,
     kind: PhantomData<K>,
 }
 
-impl<K, B: EngineName<K>> ledger::Ledger for RequestTickets<K, B> {
+impl<K, B: JournalName<K>> ledger::Ledger for RequestTickets<K, B> {
     ghost name = { B.tickets };
 
     ghost parts = { 18446744073709551615 };
@@ -26,12 +26,12 @@ impl<K, B: EngineName<K>> ledger::Ledger for RequestTickets<K, B> {
 /// one, and one was begun for each once request that the events of these calls have sent. Contracts
 /// see the counts of the ledger, and how many tickets were begun for once requests.
 #[derive(Drop)]
-pub struct TicketCounts<K, B: EngineName<K>> {
+pub struct TicketCounts<K, B: JournalName<K>> {
     ledger: Ledger<RequestTickets<K, B>>,
     sent: u64,
 }
 
-impl<K, B: EngineName<K>> Model for TicketCounts<K, B> {
+impl<K, B: JournalName<K>> Model for TicketCounts<K, B> {
     ghost use Rattle.ioc_history.specs.Ticketed.{TicketsView, tickets_view};
 
     ghost Value = { TicketsView };
@@ -56,7 +56,7 @@ pub struct TicketTally {
     pub out: u64,
 }
 
-impl<K, B: EngineName<K>> TicketCounts<K, B> {
+impl<K, B: JournalName<K>> TicketCounts<K, B> {
     /// Opens the ledger. No ticket was begun.
     pub fn new(tickets: Blank) -> Self
         requires name { tickets.name ≡ B.tickets }

@@ -10,13 +10,13 @@ ghost use Rattle.ioc_history.specs.Counting.{MayAppend, BothMayAppend, MaySend, 
 ghost use Rattle.ioc_ledger.specs.Shared.{MayDivide, AreDivided};
 ghost use Rattle.ioc_values.specs.declared.error.IocError.TheVariants.{JournalFull};
 
-use crate::desk::Desk;
-use crate::engine_name::EngineName;
+use crate::desk::DeskAccount;
 use crate::entries::Piece;
 use crate::event_counts::{EngineCounts, EventCounts};
 use crate::free_places::{FreePlaces, Place};
 use crate::gate::Gate;
 use crate::journal::{Appended, Journal};
+use crate::journal_name::JournalName;
 use crate::request_tickets::RequestTickets;
 use crate::shared_places::SharedPlaces;
 use crate::short_lock::lock_soon;
@@ -36,7 +36,7 @@ use std::sync::{Mutex, MutexGuard, Wait};
 /// fill it. The lock is held briefly, but for a checkpoint, and no other lock is awaited meanwhile.
 /// Contracts see the identity of the cell.
 #[derive(Drop)]
-pub struct SharedJournal<K: RecordKind, B: EngineName<K>> {
+pub struct SharedJournal<K: RecordKind, B: JournalName<K>> {
     pub(crate) cell: Cell,
     // Boxed, because an array in a type bounds the type's size in each contract that has it. Padded,
     // as is the gate, because each call reads them, and calls on other threads write to the journal's
@@ -48,7 +48,7 @@ pub struct SharedJournal<K: RecordKind, B: EngineName<K>> {
     pub(crate) journal: CachePadded<Mutex<Journal<K, B>>>,
 }
 
-impl<K: RecordKind, B: EngineName<K>> Model for SharedJournal<K, B> {
+impl<K: RecordKind, B: JournalName<K>> Model for SharedJournal<K, B> {
     ghost use Rattle.std.specs.Prelude.{◌≡◌};
     ghost use Rattle.atomic_table.specs.Seated.{TableId, table_id_coded};
 
@@ -61,7 +61,7 @@ impl<K: RecordKind, B: EngineName<K>> Model for SharedJournal<K, B> {
     ghost invariant = { λ b. b.cell.table.shared.table_id ≡ B.table };
 }
 
-impl<K: RecordKind + Drop, B: EngineName<K>> SharedJournal<K, B> {
+impl<K: RecordKind + Drop, B: JournalName<K>> SharedJournal<K, B> {
     /// Puts a journal under a lock, with its cell and its free places. A checkpoint is wanted if
     /// fewer than `checkpoint_at` are free.
     ///
@@ -88,13 +88,13 @@ impl<K: RecordKind + Drop, B: EngineName<K>> SharedJournal<K, B> {
     }
 }
 
-impl<K: RecordKind, B: EngineName<K>> SharedJournal<K, B> {
+impl<K: RecordKind, B: JournalName<K>> SharedJournal<K, B> {
     /// Opens a desk, which has seen all calls and made none.
     ///
     /// # Errors
     ///
     /// [`IocError::JournalFull`] if no number is left for a desk.
-    pub fn open_desk<R: Wait>(&self, rt: &R) -> Result<Desk<K, B>, IocError>
+    pub fn open_desk<R: Wait>(&self, rt: &R) -> Result<DeskAccount<K, B>, IocError>
         ensures new { IfOk result (λ d. (d.next ≡ 0) × (calls_by d.number (calls d.seen) ≡ [])) }
         ensures refused { IfErr result (λ error. error ≡ JournalFull) }
     {
@@ -129,7 +129,7 @@ impl<K: RecordKind, B: EngineName<K>> SharedJournal<K, B> {
         &self,
         rt: &R,
         alloc: Global,
-        desk: &Desk<K, B>,
+        desk: &DeskAccount<K, B>,
     ) -> Result<Place<K, B>, IocError>
         ensures refused { IfErr result IsNoPlace }
     {
@@ -206,7 +206,7 @@ impl<K: RecordKind, B: EngineName<K>> SharedJournal<K, B> {
     }
 
     /// Frees a place whose call wasn't made.
-    pub fn give_back<R: Wait>(&self, rt: &R, desk: &Desk<K, B>, place: Place<K, B>) {
+    pub fn give_back<R: Wait>(&self, rt: &R, desk: &DeskAccount<K, B>, place: Place<K, B>) {
         self.places.give_back(rt, desk.number, place);
     }
 
@@ -217,7 +217,7 @@ impl<K: RecordKind, B: EngineName<K>> SharedJournal<K, B> {
         rt: &R,
         place: Place<K, B>,
         set: &mut KeyPass,
-        desk: &mut Desk<K, B>,
+        desk: &mut DeskAccount<K, B>,
         entry: Entry,
         counts: EventCounts<K, B>,
     ) -> Appended<K, B>
@@ -246,7 +246,7 @@ impl<K: RecordKind, B: EngineName<K>> SharedJournal<K, B> {
         rt: &R,
         place: Place<K, B>,
         set: &mut KeyPass,
-        desk: &mut Desk<K, B>,
+        desk: &mut DeskAccount<K, B>,
         entry: Entry,
         counts: EventCounts<K, B>,
     ) -> Appended<K, B>
@@ -276,7 +276,7 @@ impl<K: RecordKind, B: EngineName<K>> SharedJournal<K, B> {
         place: Place<K, B>,
         one: &mut KeyPass,
         other: &mut KeyPass,
-        desk: &mut Desk<K, B>,
+        desk: &mut DeskAccount<K, B>,
         entry: Entry,
         counts: EventCounts<K, B>,
     ) -> Appended<K, B>
@@ -315,7 +315,7 @@ impl<K: RecordKind, B: EngineName<K>> SharedJournal<K, B> {
         place: Place<K, B>,
         one: &mut KeyPass,
         other: &mut KeyPass,
-        desk: &mut Desk<K, B>,
+        desk: &mut DeskAccount<K, B>,
         entry: Entry,
         counts: EventCounts<K, B>,
     ) -> Appended<K, B>

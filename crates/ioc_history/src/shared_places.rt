@@ -1,8 +1,8 @@
 //! The free places of a journal, which callers take without the journal's lock.
 ghost use Rattle.std.specs.Prelude.{◌<◌};
 
-use crate::engine_name::EngineName;
 use crate::free_places::{FreePlaces, Place};
+use crate::journal_name::JournalName;
 use crate::short_lock::lock_soon;
 use crossbeam_utils::CachePadded;
 use std::sync::{Mutex, MutexGuard, Wait};
@@ -16,11 +16,11 @@ const BATCH: u64 = 64;
 /// The free places of a journal, in stripes under their own locks, so that callers on several
 /// threads seldom meet. A caller takes places from its own stripe.
 #[derive(Drop)]
-pub struct SharedPlaces<K, B: EngineName<K>> {
+pub struct SharedPlaces<K, B: JournalName<K>> {
     stripes: [CachePadded<Mutex<FreePlaces<K, B>>>; STRIPES],
 }
 
-fn stripe<K, B: EngineName<K>>(free: FreePlaces<K, B>) -> CachePadded<Mutex<FreePlaces<K, B>>> {
+fn stripe<K, B: JournalName<K>>(free: FreePlaces<K, B>) -> CachePadded<Mutex<FreePlaces<K, B>>> {
     CachePadded::new(Mutex::new(free))
 }
 
@@ -31,7 +31,7 @@ fn stripe_of(caller: u64) -> usize
     (caller % STRIPES as u64) as usize
 }
 
-impl<K, B: EngineName<K>> SharedPlaces<K, B> {
+impl<K, B: JournalName<K>> SharedPlaces<K, B> {
     /// Puts free places under locks.
     pub fn new(free: FreePlaces<K, B>) -> Self {
         let mut free = free;

@@ -21,18 +21,7 @@ use Rattle.ioc_history.specs.Account.{IsHolder, AreRecords, BothMayFollow, Added
 use Rattle.ioc_set.specs.SetState.{SetState, now_of}
 use Rattle.ioc_journaled_set.specs.Holding.{IsOwner}
 use Rattle.ioc_journaled_set.specs.LinkChanges.{keys_of, link_change}
-use Rattle.ioc_journaled_set.proofs.Keys.{key_there, there_key}
-
-record_contains : (key : Key) (ns : List ℕ) → Has key (record_keys ns) → Contains ns key.1
-record_contains key [] h = absurd h
-record_contains key (x ∷ xs) h =
-    ⊎_elim (λ (e : (0, x) ≡ key). (zero, omega arith, ap (λ (p : Key). p.1) e))
-    (λ (t : Has key (record_keys xs)). let c = record_contains key xs t in (suc c.0, (let lt = c.1 in omega (arith, lt)), c.2)) h
-
-contains_record : (n : ℕ) (ns : List ℕ) → Contains ns n → Has (0, n) (record_keys ns)
-contains_record n [] (i, lt, is) = absurd (omega (arith, lt))
-contains_record n (x ∷ xs) (zero, lt, is) = inl (ap (λ (m : ℕ). (0, m)) is)
-contains_record n (x ∷ xs) (suc i, lt, is) = inr (contains_record n xs (i, omega (arith, lt), is))
+use Rattle.ioc_journaled_set.proofs.Keys.{key_there, there_key, record_contains, contains_record}
 
 pub none_some : {A : Type 0} (o : Option A) → o ≡ None → IsSome o → ⊥
 none_some {A = A} o none some = let h : false ≡ true = sym (ap (λ (p : Option A). is_some p) none) ∙ some in cc

@@ -13,33 +13,8 @@ use Rattle.ioc_history.specs.Legal.{notifications_key}
 use Rattle.ioc_history.specs.Covering.{Cover}
 use Rattle.ioc_set.specs.SetState.{SetState, now_of}
 use Rattle.ioc_journaled_set.specs.GiveUpLaws.{ShareNone}
+use Rattle.ioc_journaled_set.proofs.Keys.{key_there, there_key, record_contains, contains_record}
 use Rattle.ioc_journaled_set.specs.Passes.{keys_of, is_key_of, other_keys}
-
-equal_of : (o : Ordering) → is_eq o ≡ true → o ≡ Equal
-equal_of Less e = cc
-equal_of Equal e = refl
-equal_of Greater e = cc
-
-tie : (x y : ℕ) → eq_by_cmp nat_cmp x y ≡ true → x ≡ y
-tie x y e = nat_cmp-IsAntisymmetric x y (equal_of (nat_cmp x y) e)
-
-module _ {X : Type 0} (m : FinMap nat_cmp X) where
-  key_there : (n : ℕ) → Contains (keys m) n → contains_key m n ≡ true
-  key_there n c = contains_key-keys m n ∙ list_any-from_Contains (eq_by_cmp_equiv nat_cmp_total) n (keys m) c
-
-  there_key : (n : ℕ) → contains_key m n ≡ true → Contains (keys m) n
-  there_key n has = Contains-from_any tie n (keys m) (sym (contains_key-keys m n) ∙ has)
-
-record_contains : (key : Key) (ns : List ℕ) → Has key (record_keys ns) → Contains ns key.1
-record_contains key [] h = absurd h
-record_contains key (x ∷ xs) h =
-    ⊎_elim (λ (e : (0, x) ≡ key). (zero, omega arith, ap (λ (p : Key). p.1) e))
-    (λ (t : Has key (record_keys xs)). let c = record_contains key xs t in (suc c.0, (let lt = c.1 in omega (arith, lt)), c.2)) h
-
-contains_record : (n : ℕ) (ns : List ℕ) → Contains ns n → Has (0, n) (record_keys ns)
-contains_record n [] (i, lt, is) = absurd (omega (arith, lt))
-contains_record n (x ∷ xs) (zero, lt, is) = inl (ap (λ (m : ℕ). (0, m)) is)
-contains_record n (x ∷ xs) (suc i, lt, is) = inr (contains_record n xs (i, omega (arith, lt), is))
 
 -- The keys that pass a test.
 

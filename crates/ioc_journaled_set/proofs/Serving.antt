@@ -33,6 +33,7 @@ use Rattle.ioc_store.specs.declared.outbox.OutboxItem.{OutboxItem}
 use Rattle.ioc_history.specs.Covering.{Holds, Cover, CancelsWithin, AreHeldAlike, IsOf, IsDone, question_note}
 use Rattle.ioc_history.specs.Laws.{Lasts, OneMore, HoldersMove, MovesAlike, EndsOver, Asks, HeldAlike, GoesOn}
 use Rattle.ioc_history.specs.Account.{journalled, number_given, AreRecords, IsHolder, MayFollow, Added}
+use Rattle.ioc_journaled_set.specs.CallLaws.{CallLaws}
 use Rattle.ioc_journaled_set.specs.Holding.{IsOwner}
 use Rattle.ioc_set.specs.SetState.{SetState, NoneIsLive, now_of, folded, done_by, held_after}
 use Rattle.ioc_set.specs.Doing.{is_ordinary, with_place, Does}
@@ -260,58 +261,80 @@ module _ {R D : Type 0} (k : RecordRules R) (gives : D → Ask → ℕ → Answe
       ap (λ (rs : FinMap nat_cmp R). len rs) records_then
       ∙ (kept (listed e.answers) (begun_at e.moment (now_of h)) after e.event (done_by k (now_of h) e).reply (done_by k (now_of h) e).requests step (closed_begun k (now_of h) e.moment shut)).count
 
-  -- An event that asks nothing of all puts with notification, and leaves the counts of the set as
-  -- they were.
-  module _ (lasts : Lasts k) (one_more : OneMore k) (moves : HoldersMove k) (alike : HeldAlike k) (ordinary : is_ordinary event ≡ true) (same : AreHeldAlike k (now_of h) after)
-      (base : World R) (seen : List Note) (owned : List Key) (covers : Cover owned (now_of h)) (holds : Holds k (map_of k base seen) (now_of h)) where
-    goes_on : (log : List Note) (desk call : ℕ) (own : List Key) → IsSound k base → Continues seen owned log → IsLegal k base log
-        → GoesOn k base log (noted (journalled desk call e) (owned ++ own)) (λ m. Holds k m after)
-    goes_on log desk call own sound go legal =
-        noted_on one_more moves base log desk call (owned ++ own) sound legal (holds_on k lasts base (now_of h) seen owned covers holds log go legal)
-        (λ r s. has_left (key_of r) owned own (covers r s)) (no_cancel k (map_of k base log) (now_of h) event ordinary)
-        (asks_nothing k (begun_at moment (now_of h)) (begun_at moment (map_of k base log)) event ordinary) (λ out. same)
+-- An event was done on a set. It asks nothing of all puts with notification, and leaves the counts
+-- of the set as they were.
+module _ {R D : Type 0} (k : RecordRules R) (gives : D → Ask → ℕ → Answer → D → Type 0) (h h' : SetState R D) (moment : ℕ) (event : Event) (reply : Reply) (come_to base : World R) (seen : List Note) (owned : List Key) (entry : Entry) where
+  pub record IsDoneAlone : Type 0 where
+    pub does : Does k gives h moment event reply h' come_to
+    pub there : (n : ℕ) → Contains (names event) n → Has (now_of h) n
+    pub laws : CallLaws k
+    pub ordinary : is_ordinary event ≡ true
+    pub same : AreHeldAlike k (now_of h) (done_by k (now_of h) does.entry).world
+    pub covers : Cover owned (now_of h)
+    pub holds : Holds k (map_of k base seen) (now_of h)
+    pub entry_is : does.entry ≡ entry
 
-    -- The event may follow any legal list.
-    pub may_follow : (done_entry : Entry) → e ≡ done_entry → MayFollow k base seen owned done_entry
-    may_follow done_entry is = subst (λ (x : Entry). MayFollow k base seen owned x) is (λ log desk call own sound go legal. (goes_on log desk call own sound go legal).legal)
+module _ {R D : Type 0} {k : RecordRules R} {gives : D → Ask → ℕ → Answer → D → Type 0} {h h' : SetState R D} {moment : ℕ} {event : Event} {reply : Reply} {come_to base : World R} {seen : List Note} {owned : List Key} {entry : Entry}
+    (d : IsDoneAlone k gives h h' moment event reply come_to base seen owned entry) where
+  abbrev alone : (desk call : ℕ) → List Key → Note
+  alone desk call own = noted (journalled desk call d.does.entry) (owned ++ own)
 
-    -- The event sends as many once requests after any legal list as on the set.
-    pub may_send : PartsCountAlike k → (done_entry : Entry) → e ≡ done_entry → MaySend k base seen owned done_entry (length (once_in come_to.outbox))
-    may_send law done_entry is = subst (λ (x : Entry). MaySend k base seen owned x (length (once_in come_to.outbox))) is
-        (λ log desk call own sound go legal.
-        sent_on one_more moves base log desk call (owned ++ own) sound legal (holds_on k lasts base (now_of h) seen owned covers holds log go legal)
-        (λ r s. has_left (key_of r) owned own (covers r s)) (no_cancel k (map_of k base log) (now_of h) event ordinary)
-        (asks_nothing k (begun_at moment (now_of h)) (begun_at moment (map_of k base log)) event ordinary) (λ out. same) law)
+  module _ (log : List Note) (desk call : ℕ) (own : List Key) (sound : IsSound k base) (go : Continues seen owned log) (legal : IsLegal k base log) where
+    held_on : Holds k (map_of k base log) (now_of h)
+    held_on = holds_on k d.laws.lasts base (now_of h) seen owned d.covers d.holds log go legal
 
-    -- The event counts as much after any legal list as on the set.
-    pub may_count : PartsCountAlike k → (done_entry : Entry) → e ≡ done_entry → (share : Option ShareView) (before then : Tally) → (share ≡ None → ⊥) → before ≡ h.tally → then ≡ h'.tally → MayCount k base seen owned done_entry share before then
-    may_count law done_entry is share before then there was now = subst (λ (x : Entry). MayCount k base seen owned x share before then) is
-        (λ log desk call own sound go legal.
-        counts_with k (map_of k base log) (noted (journalled desk call e) (owned ++ own)) share before then there
-        (now
-        ∙ counted_on one_more moves base log desk call (owned ++ own) sound legal (holds_on k lasts base (now_of h) seen owned covers holds log go legal)
-        (λ r s. has_left (key_of r) owned own (covers r s)) (no_cancel k (map_of k base log) (now_of h) event ordinary)
-        (asks_nothing k (begun_at moment (now_of h)) (begun_at moment (map_of k base log)) event ordinary) (λ out. same) law
-        ∙ ap (λ (t : Tally). tallied_by k t (map_of k base log) (noted (journalled desk call e) (owned ++ own))) (sym was)))
+    covers_on : Cover (owned ++ own) (now_of h)
+    covers_on r s = has_left (key_of r) owned own (d.covers r s)
+
+    goes_on : GoesOn k base log (alone desk call own) (λ m. Holds k m (done_by k (now_of h) d.does.entry).world)
+    goes_on =
+        noted_on k gives h h' moment event reply come_to d.does d.there d.laws.one_more d.laws.moves base log desk call (owned ++ own) sound legal held_on covers_on
+        (no_cancel k (map_of k base log) (now_of h) event d.ordinary) (asks_nothing k (begun_at moment (now_of h)) (begun_at moment (map_of k base log)) event d.ordinary) (λ out. d.same)
+
+  -- The event may follow any legal list.
+  pub may_follow : MayFollow k base seen owned entry
+  may_follow = subst (λ (x : Entry). MayFollow k base seen owned x) d.entry_is (λ log desk call own sound go legal. (goes_on log desk call own sound go legal).legal)
+
+  -- The event sends as many once requests after any legal list as on the set.
+  pub may_send : MaySend k base seen owned entry (length (once_in come_to.outbox))
+  may_send = subst (λ (x : Entry). MaySend k base seen owned x (length (once_in come_to.outbox))) d.entry_is
+      (λ log desk call own sound go legal.
+      sent_on k gives h h' moment event reply come_to d.does d.there d.laws.one_more d.laws.moves base log desk call (owned ++ own) sound legal (held_on log desk call own sound go legal) (covers_on log desk call own sound go legal)
+      (no_cancel k (map_of k base log) (now_of h) event d.ordinary) (asks_nothing k (begun_at moment (now_of h)) (begun_at moment (map_of k base log)) event d.ordinary) (λ out. d.same) d.laws.counts)
+
+  -- The event counts as much after any legal list as on the set.
+  pub may_count : (share : Option ShareView) (before then : Tally) → (share ≡ None → ⊥) → before ≡ h.tally → then ≡ h'.tally → MayCount k base seen owned entry share before then
+  may_count share before then there was now = subst (λ (x : Entry). MayCount k base seen owned x share before then) d.entry_is
+      (λ log desk call own sound go legal.
+      counts_with k (map_of k base log) (alone desk call own) share before then there
+      (now
+      ∙ counted_on k gives h h' moment event reply come_to d.does d.there d.laws.one_more d.laws.moves base log desk call (owned ++ own) sound legal (held_on log desk call own sound go legal) (covers_on log desk call own sound go legal)
+      (no_cancel k (map_of k base log) (now_of h) event d.ordinary) (asks_nothing k (begun_at moment (now_of h)) (begun_at moment (map_of k base log)) event d.ordinary) (λ out. d.same) d.laws.counts
+      ∙ ap (λ (t : Tally). tallied_by k t (map_of k base log) (alone desk call own)) (sym was)))
+
+  module _ (log longer : List Note) (added : Added k base seen owned entry log longer) where
+    as_done : Added k base seen owned d.does.entry log longer
+    as_done = subst (λ (x : Entry). Added k base seen owned x log longer) (sym d.entry_is) added
 
     -- If nothing has ended on the set, nothing has among all records.
-    pub none_ended : EndsOver k → IsCounted k (now_of h) → come_to.ended ≡ [] → (done_entry : Entry) → e ≡ done_entry → (log longer : List Note) → Added k base seen owned done_entry log longer
-        → (n : ℕ) → Contains (map_of k base longer).ended n → ⊥
-    none_ended ends counted none done_entry is log longer added n has =
-        let a = subst (λ (x : Entry). Added k base seen owned x log longer) (sym is) added in
+    pub none_ended : IsCounted k (now_of h) → come_to.ended ≡ [] → (n : ℕ) → Contains (map_of k base longer).ended n → ⊥
+    none_ended counted none n has =
+        let a = as_done in
         let over =
-        ended_on one_more moves base log a.desk a.call (owned ++ a.own) a.sound a.legal (holds_on k lasts base (now_of h) seen owned covers holds log a.goes_on a.legal)
-        (λ r s. has_left (key_of r) owned a.own (covers r s)) (no_cancel k (map_of k base log) (now_of h) event ordinary)
-        (asks_nothing k (begun_at moment (now_of h)) (begun_at moment (map_of k base log)) event ordinary) (λ out. same) ends counted n in
+        ended_on k gives h h' moment event reply come_to d.does d.there d.laws.one_more d.laws.moves base log a.desk a.call (owned ++ a.own) a.sound a.legal (held_on log a.desk a.call a.own a.sound a.goes_on a.legal)
+        (covers_on log a.desk a.call a.own a.sound a.goes_on a.legal) (no_cancel k (map_of k base log) (now_of h) event d.ordinary)
+        (asks_nothing k (begun_at moment (now_of h)) (begun_at moment (map_of k base log)) event d.ordinary) (λ out. d.same) d.laws.over counted n in
         let here = (over.0 (subst (λ (l : List Note). Contains (map_of k base l).ended n) a.ends has)).0 in
-        nothing_there n (subst (λ (ls : List ℕ). Contains ls n) (sym ended_then ∙ none) here)
+        nothing_there n (subst (λ (ls : List ℕ). Contains ls n) (sym (ended_then k gives h h' moment event reply come_to d.does d.there) ∙ none) here)
 
     -- The set is held after the event.
-    pub held_then : (done_entry : Entry) → e ≡ done_entry → (log longer : List Note) → Added k base seen owned done_entry log longer → Holds k (map_of k base longer) (now_of h')
-    held_then done_entry is log longer added =
-        let a = subst (λ (x : Entry). Added k base seen owned x log longer) (sym is) added in
+    pub held_then : Holds k (map_of k base longer) (now_of h')
+    held_then =
+        let a = as_done in
+        let after = (done_by k (now_of h) d.does.entry).world in
         let known = (goes_on log a.desk a.call a.own a.sound a.goes_on a.legal).known in
-        alike (map_of k base longer) after (now_of h') (subst (λ (l : List Note). Holds k (map_of k base l) after) (sym a.ends) known) records_then waiting_then
+        d.laws.alike (map_of k base longer) after (now_of h') (subst (λ (l : List Note). Holds k (map_of k base l) after) (sym a.ends) known)
+        (records_then k gives h h' moment event reply come_to d.does d.there) (waiting_then k gives h h' moment event reply come_to d.does d.there)
 
 -- A get on a held set.
 module _ {R : Type 0} (k : RecordRules R) (lasts : Lasts k) (asks : Asks k) (base v : World R) (moment s : ℕ) (field : FieldNo) (reply : Reply)

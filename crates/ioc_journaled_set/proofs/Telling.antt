@@ -83,7 +83,7 @@ module _ {R : Type 0} (k : RecordRules R) where
   live_begun m moment number = refl
 
   -- The beginning of an event leaves the live puts with notification as they are.
-  pub live_at : (m : World R) (moment number : ℕ) → is_live number m.live ≡ is_live number (begun_at moment m).live
+  live_at : (m : World R) (moment number : ℕ) → is_live number m.live ≡ is_live number (begun_at moment m).live
   unfolding begun begun_at
   live_at m moment number = refl
 
@@ -158,3 +158,9 @@ module _ {R : Type 0} (k : RecordRules R) where
   pub stale_comes : (answers : Answers) (w : World R) (number : ℕ) → is_live number w.live ≡ false → stepped k answers w (Cancel number) ≡ refused w Stale
   unfolding stepped done_alone done_there
   stale_comes answers w number none = stale answers w number _ (is_live number w.live) none
+
+-- A put with notification is live when the next event begins exactly if it is live in a table with
+-- the counts of the world before.
+pub live_now : {R : Type 0} (k : RecordRules R) (live_lines : (ls : List Live) (n : ℕ) → IsTrue (is_live n ls) ↔ (0 < lines_of n ls)) (held : (ls : List Live) (m : ℕ) → IsTable ls → IsTrue (is_live m ls) ↔ (0 < holders_in m ls))
+    (lines : List Live) (w : World R) (moment n : ℕ) → IsTable lines → IsCounted k w → holders_in n lines ≡ holders_of n w.live → is_live n (begun_at moment w).live ≡ is_live n lines
+live_now k live_lines held lines w moment n table counted same = sym (live_at k w moment n) ∙ sym (same_live k live_lines lines w n table held counted same)

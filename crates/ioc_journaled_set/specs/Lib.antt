@@ -1,3 +1,4 @@
+pub mod CallLaws
 pub mod Changing
 pub mod Copies
 pub mod GiveUpLaws

@@ -8,7 +8,9 @@ use Rattle.crossbeam_utils.specs.Seq.{cell_view}
 use Rattle.ioc_notify.specs.declared.live_numbers.Live.{Live}
 use Rattle.ioc_notify.specs.Living.{holders_of, is_live}
 use Rattle.ioc_record.specs.RecordRules.{RecordRules}
-use Rattle.ioc_store.specs.World.{World}
+use Rattle.ioc_store.specs.World.{World, begun_at}
+use Rattle.ioc_store.specs.Given.{Answers}
+use Rattle.ioc_ledger.specs.Requests.{None}
 use Rattle.ioc_notify.specs.Counts.{Table, IsTable, holders_in}
 use Rattle.ioc_values.specs.declared.error.IocError.TheVariants.{Stale}
 use Rattle.ioc_events.specs.declared.event.Event.{Event}
@@ -19,8 +21,9 @@ use Rattle.ioc_events.specs.declared.reply.Reply.TheVariants.{Live as Live-reply
 use Rattle.ioc_history.specs.Account.{DeskView, Call, Pass, puts_key, calls, numbers_given}
 use Rattle.ioc_history.specs.declared.entry.Note.{Note}
 use Rattle.ioc_history.specs.declared.cell.View.{View}
-use Rattle.ioc_history.specs.Line.{holder}
-use Rattle.ioc_history.specs.Legal.{map_of}
+use Rattle.ioc_history.specs.Line.{holder, Continues}
+use Rattle.ioc_history.specs.Legal.{map_of, IsLegal, IsSound}
+use Rattle.ioc_events.specs.Step.{stepped}
 use Rattle.ioc_journaled_set.specs.PutPlaces.{Places}
 
 -- The live puts with notification, each with its count, the numbers that were taken for calls whose
@@ -70,6 +73,12 @@ module _ {R : Type 0} (k : RecordRules R) (base : World R) where
   -- Holds if the counts of the lines are those of the world of all records after these notes.
   abbrev pub AreCounted : List Live → List Note → Type 0
   AreCounted live seen = (n : ℕ) → holders_in n live ≡ holders_of n (map_of k base seen).live
+
+  -- Holds if an event changes nothing but the moment, and has this reply, after any legal list that
+  -- continues from one that was seen without the key of the puts with notification.
+  abbrev pub ChangesNothing : List Note → Entry → Type 0
+  ChangesNothing seen entry = (log : List Note) → IsSound k base → Continues seen puts_key log → IsLegal k base log → (answers : Answers)
+      → stepped k answers (begun_at entry.moment (map_of k base log)) entry.event ≡ record { world = begun_at entry.moment (map_of k base log); reply = entry.reply; requests = None }
 
   -- What is true of the table whenever its lock is free: its lines are the live puts with
   -- notification of the world of all records, each with its count there, none began under a number

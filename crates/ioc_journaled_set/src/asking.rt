@@ -1,18 +1,15 @@
 //! Calls that concern puts with notification but no set.
-ghost use Rattle.std.specs.Prelude.{◌≡◌, ◌∷◌, false, List, None, IfOk, IfErr, OnErr};
-ghost use Rattle.ioc_events.specs.declared.event.Event.TheVariants.{Cancel, IsLive};
+ghost use Rattle.std.specs.Prelude.{◌≡◌, false, [], None, IfOk, IfErr, OnErr};
 ghost use Rattle.ioc_notify.specs.Living.{is_live};
-ghost use Rattle.ioc_history.specs.declared.entry.Note.{Note};
-ghost use Rattle.ioc_history.specs.Legal.{AreLiveAlike, map_of};
-ghost use Rattle.ioc_history.specs.Account.{Call, MayFollow, Added, number_given, puts_key};
-ghost use Rattle.ioc_journaled_set.specs.Sent.{MayCountNothing};
+ghost use Rattle.ioc_events.specs.Step.{completes};
+ghost use Rattle.ioc_history.specs.Account.{Call, number_given};
 ghost use Rattle.ioc_history.specs.Places.{IsNoPlace};
-ghost use Rattle.ioc_journaled_set.specs.Puts.{puts_view, WasAsked, WasStale};
+ghost use Rattle.ioc_journaled_set.specs.Puts.{puts_view, ChangesNothing, WasAsked, WasStale};
 
 use crate::shared_notifications::SharedNotifications;
 use ioc_events::{Entry, Event, KeptAnswers, Reply};
 use ioc_history::legal_laws::{lists_leave_sound, live_lasts};
-use ioc_history::{Desk, EngineName, EventCounts, Place, Receipt, SharedJournal};
+use ioc_history::{DeskAccount, EventCounts, JournalName, Place, Receipt, SharedJournal};
 use ioc_notify::NotifyId;
 use ioc_notify::table_laws::lines_tell_holders;
 use ioc_record::RecordKind;
@@ -20,7 +17,7 @@ use ioc_values::IocError;
 use std::alloc::Global;
 use std::sync::Wait;
 
-impl<K: RecordKind, B: EngineName<K>> SharedNotifications<K, B> {
+impl<K: RecordKind, B: JournalName<K>> SharedNotifications<K, B> {
     /// Returns whether the put with notification with this number is live.
     pub fn is_live(&self, number: NotifyId) -> bool
         ensures { result ≡ is_live number self.now.live }
@@ -28,20 +25,19 @@ impl<K: RecordKind, B: EngineName<K>> SharedNotifications<K, B> {
         self.table.is_live(number)
     }
 
-    // Adds an event to the journal that leaves all puts with notification as they are.
+    // Adds an event to the journal that changes nothing but the moment, and that no device answers.
     fn keep_told<R: Wait>(
         &mut self,
         rt: &R,
         book: &SharedJournal<K, B>,
         place: Place<K, B>,
-        desk: &mut Desk<K, B>,
+        desk: &mut DeskAccount<K, B>,
         entry: Entry,
     ) -> Receipt<K, B>
-        requires follows { MayFollow K.rules B.base self.old.seen puts_key entry }
+        requires nothing { ChangesNothing K.rules B.base self.old.seen entry }
+        requires unanswered { entry.answers ≡ [] }
         requires begins_none { number_given entry.event ≡ None }
-        requires alike { (log longer : List Note) → Added K.rules B.base self.old.seen puts_key entry log longer
-            → AreLiveAlike (map_of K.rules B.base log) (map_of K.rules B.base longer) }
-        requires none_counted { MayCountNothing K.rules B.base self.old.seen puts_key entry }
+        requires completes_none { completes entry.event entry.reply ≡ false }
         ensures call { Call K.rules B.base desk.old entry desk.new }
         ensures receipt { result ≡ desk.new.seen }
         ensures kept { self.new ≡ puts_view self.old.live self.old.taken self.old.last desk.new.seen }
@@ -62,7 +58,7 @@ impl<K: RecordKind, B: EngineName<K>> SharedNotifications<K, B> {
         rt: &R,
         alloc: Global,
         book: &SharedJournal<K, B>,
-        desk: &mut Desk<K, B>,
+        desk: &mut DeskAccount<K, B>,
         number: NotifyId,
         moment: u64,
     ) -> Result<(Reply, Receipt<K, B>), IocError>
@@ -99,7 +95,7 @@ impl<K: RecordKind, B: EngineName<K>> SharedNotifications<K, B> {
         rt: &R,
         alloc: Global,
         book: &SharedJournal<K, B>,
-        desk: &mut Desk<K, B>,
+        desk: &mut DeskAccount<K, B>,
         number: NotifyId,
         moment: u64,
     ) -> Result<(Reply, Receipt<K, B>), IocError>

@@ -10,6 +10,7 @@ ghost use Rattle.ioc_set.specs.NoCalls.{no_call};
 ghost use Rattle.ioc_journaled_set.specs.Holding.{numbers_of, Begins, IsNoCall};
 ghost use Rattle.ioc_journaled_set.specs.Puts.{NoneMayBegin, HaveEnded};
 
+use crate::call_laws::calls_have_laws;
 use crate::counts::{counts_since, wait_forever};
 use crate::journaled_set::JournaledSet;
 use crate::running::{Ran, Served, run_counted};
@@ -17,14 +18,8 @@ use crate::sets_name::SetsName;
 use crate::shared_notifications::{SharedNotifications, keep_beside, lock_taken, take_number};
 use ioc_device::Device;
 use ioc_events::Event;
-use ioc_events::event_rules::{events_keep_records, rules_are_steps};
 use ioc_fields::FieldNo;
-use ioc_history::count_laws::parts_count_alike;
-use ioc_history::legal_laws::{
-    events_are_held, holders_move, holding_lasts, lists_leave_sound, live_lasts,
-    one_more_has_a_place, parts_share_what_is_held, those_ended_are_over,
-};
-use ioc_history::{Desk, SharedJournal};
+use ioc_history::{DeskAccount, SharedJournal};
 use ioc_names::RecordNo;
 use ioc_notify::NotifyId;
 use ioc_notify::table_laws::lines_tell_holders;
@@ -42,7 +37,7 @@ impl<K: RecordKind + Drop, B: SetsName<K, D>, D: Device> JournaledSet<K, B, D> {
         alloc: Global,
         book: &SharedJournal<K, B>,
         puts: &Mutex<SharedNotifications<K, B>>,
-        desk: &mut Desk<K, B>,
+        desk: &mut DeskAccount<K, B>,
         buffers: &mut EventBuffers<K, D>,
         notification: NotifyId,
         target: RecordNo,
@@ -61,17 +56,7 @@ impl<K: RecordKind + Drop, B: SetsName<K, D>, D: Device> JournaledSet<K, B, D> {
         ensures refused { IfErr result IsNoPlace }
         ensures err { OnErr result ((self.new ≡ self.old) × (desk.new ≡ desk.old)) }
     {
-        rules_are_steps::<K>();
-        events_keep_records::<K>();
-        holding_lasts::<K>();
-        live_lasts::<K>();
-        events_are_held::<K>();
-        holders_move::<K>();
-        one_more_has_a_place::<K>();
-        lists_leave_sound::<K>();
-        parts_share_what_is_held::<K>();
-        those_ended_are_over::<K>();
-        parts_count_alike::<K>();
+        calls_have_laws::<K>();
         lines_tell_holders();
         self.set.is_sound();
         let tally = self.set.tally();
@@ -134,7 +119,7 @@ impl<K: RecordKind + Drop, B: SetsName<K, D>, D: Device> JournaledSet<K, B, D> {
         alloc: Global,
         book: &SharedJournal<K, B>,
         puts: &Mutex<SharedNotifications<K, B>>,
-        desk: &mut Desk<K, B>,
+        desk: &mut DeskAccount<K, B>,
         buffers: &mut EventBuffers<K, D>,
         target: RecordNo,
         field: FieldNo,

@@ -14,13 +14,11 @@ ghost use Rattle.ioc_journaled_set.specs.Holding.{HeldView, numbers_of};
 ghost use Rattle.ioc_journaled_set.specs.Changing.{size_of, KeepsLarger, KeepsLargest, FellApart, WasLed, Relinks};
 
 use crate::JournaledSet;
+use crate::link_change::LinkChange;
 use crate::sets_name::SetsName;
-use ioc_dbcommon::LinkBox;
 use ioc_device::Device;
 use ioc_events::Reply;
-use ioc_fields::FieldNo;
-use ioc_history::{Desk, EngineName, Receipt, SharedJournal};
-use ioc_names::RecordNo;
+use ioc_history::{DeskAccount, JournalName, Receipt, SharedJournal};
 use ioc_record::RecordKind;
 use ioc_set_store::EventBuffers;
 use ioc_topology::Locked;
@@ -31,7 +29,7 @@ use std::sync::Wait;
 
 /// The result of a link change.
 #[derive(Drop)]
-pub struct Changed<K: RecordKind, B: EngineName<K>> {
+pub struct Changed<K: RecordKind, B: JournalName<K>> {
     /// The reply, as in the journal.
     pub reply: Reply,
     /// The receipt of the call.
@@ -95,22 +93,18 @@ fn part_first<K: RecordKind + Drop, B: SetsName<K, D>, D: Device, R: Wait>(
     rt: &R,
     alloc: Global,
     book: &SharedJournal<K, B>,
-    desk: &mut Desk<K, B>,
+    desk: &mut DeskAccount<K, B>,
     buffers: &mut EventBuffers<K, D>,
     first: &mut JournaledSet<K, B, D>,
     spare: &mut JournaledSet<K, B, D>,
-    number: RecordNo,
-    field: FieldNo,
-    link: LinkBox,
-    base_link: LinkBox,
-    moment: u64,
+    change: LinkChange,
 ) -> Result<Changed<K, B>, IocError>
-    requires base_link { base_link ≡ link }
-    requires field { HasLink K.rules first.old.set.records number field }
-    requires allowed { stops_put (common_at K.rules (now_of first.old.set) number) field ≡ false }
-    requires within { (t : ℕ) → Contains (named_by (use_of link)) t → IsSome (get first.old.set.records t) }
+    requires base_link { change.base_link ≡ change.link }
+    requires field { HasLink K.rules first.old.set.records change.number change.field }
+    requires allowed { stops_put (common_at K.rules (now_of first.old.set) change.number) change.field ≡ false }
+    requires within { (t : ℕ) → Contains (named_by (use_of change.link)) t → IsSome (get first.old.set.records t) }
     ensures parts { (second : HeldView K D)
-        → IfOk result (λ c. FellApart K.rules B.base first.old second spare.old desk.old moment number field link
+        → IfOk result (λ c. FellApart K.rules B.base first.old second spare.old desk.old change.moment change.number change.field change.link
         c.reply c.moved first.new second spare.new desk.new (world_of buffers.new.store)) }
     ensures receipt { IfOk result (λ c. c.receipt ≡ desk.new.seen) }
     ensures ended { OnOk result (buffers.new.ended_everywhere.items ≡ []) }
@@ -118,9 +112,7 @@ fn part_first<K: RecordKind + Drop, B: SetsName<K, D>, D: Device, R: Wait>(
     ensures kept { OnErr result ((folded first.new.set ≡ folded first.old.set) × (spare.new ≡ spare.old)) }
     ensures desk { OnErr result (desk.new ≡ desk.old) }
 {
-    let (rest, receipt) = first.part(
-        rt, alloc, book, desk, buffers, number, field, link, base_link, moment,
-    )?;
+    let (rest, receipt) = first.part(rt, alloc, book, desk, buffers, change)?;
     *spare = rest;
     buffers.ended_everywhere.clear();
     let moved = keep_larger(first, spare);
@@ -136,22 +128,18 @@ fn lead_first<K: RecordKind + Drop, B: SetsName<K, D>, D: Device, R: Wait>(
     rt: &R,
     alloc: Global,
     book: &SharedJournal<K, B>,
-    desk: &mut Desk<K, B>,
+    desk: &mut DeskAccount<K, B>,
     buffers: &mut EventBuffers<K, D>,
     first: &mut JournaledSet<K, B, D>,
     second: &mut JournaledSet<K, B, D>,
     spare: &mut JournaledSet<K, B, D>,
-    number: RecordNo,
-    field: FieldNo,
-    link: LinkBox,
-    base_link: LinkBox,
-    moment: u64,
+    change: LinkChange,
 ) -> Result<Changed<K, B>, IocError>
-    requires base_link { base_link ≡ link }
-    requires field { HasLink K.rules first.old.set.records number field }
-    requires allowed { stops_put (common_at K.rules (now_of first.old.set) number) field ≡ false }
-    requires to { (t : ℕ) × (named_by (use_of link) ≡ t ∷ []) × IsSome (get second.old.set.records t) }
-    ensures leads { IfOk result (λ c. WasLed K.rules B.base first.old second.old spare.old desk.old moment number field link
+    requires base_link { change.base_link ≡ change.link }
+    requires field { HasLink K.rules first.old.set.records change.number change.field }
+    requires allowed { stops_put (common_at K.rules (now_of first.old.set) change.number) change.field ≡ false }
+    requires to { (t : ℕ) × (named_by (use_of change.link) ≡ t ∷ []) × IsSome (get second.old.set.records t) }
+    ensures leads { IfOk result (λ c. WasLed K.rules B.base first.old second.old spare.old desk.old change.moment change.number change.field change.link
         c.reply c.moved first.new second.new spare.new desk.new (world_of buffers.new.store)) }
     ensures receipt { IfOk result (λ c. c.receipt ≡ desk.new.seen) }
     ensures ended { OnOk result (buffers.new.ended_everywhere.items ≡ []) }
@@ -162,9 +150,7 @@ fn lead_first<K: RecordKind + Drop, B: SetsName<K, D>, D: Device, R: Wait>(
 {
     let before = size(first);
     let other = size(second);
-    let (rest, receipt) = first.lead_into(
-        rt, alloc, book, desk, buffers, second, number, field, link, base_link, moment,
-    )?;
+    let (rest, receipt) = first.lead_into(rt, alloc, book, desk, buffers, second, change)?;
     *spare = rest;
     buffers.ended_everywhere.clear();
     let moved = keep_largest(first, second, spare, before, other);
@@ -178,7 +164,7 @@ fn lead_first<K: RecordKind + Drop, B: SetsName<K, D>, D: Device, R: Wait>(
 /// Changes a link of a record of the first set, and adds the change to the journal. If the link
 /// leads to a record of the first set then, or to none, this set may part in two; otherwise the
 /// record's part joins the second set, and the rest is a set of its own. The larger part of a set
-/// keeps its place. `link` and `base_link` are equal.
+/// keeps its place.
 ///
 /// # Errors
 ///
@@ -190,62 +176,44 @@ pub fn change_link<K: RecordKind + Drop, B: SetsName<K, D>, D: Device, R: Wait>(
     rt: &R,
     alloc: Global,
     book: &SharedJournal<K, B>,
-    desk: &mut Desk<K, B>,
+    desk: &mut DeskAccount<K, B>,
     buffers: &mut EventBuffers<K, D>,
     first: &mut JournaledSet<K, B, D>,
     second: &mut JournaledSet<K, B, D>,
     spare: &mut JournaledSet<K, B, D>,
-    number: RecordNo,
-    field: FieldNo,
-    link: LinkBox,
-    base_link: LinkBox,
-    moment: u64,
+    change: LinkChange,
 ) -> Result<Changed<K, B>, IocError>
-    requires base_link { base_link ≡ link }
-    requires lent { AreLent numbers_of number (record_named (use_of link)) first.old second.old spare.old }
-    ensures relinks { IfOk result (λ c. Relinks K.rules B.base first.old second.old spare.old desk.old moment number field link
+    requires base_link { change.base_link ≡ change.link }
+    requires lent { AreLent numbers_of change.number (record_named (use_of change.link)) first.old second.old spare.old }
+    ensures relinks { IfOk result (λ c. Relinks K.rules B.base first.old second.old spare.old desk.old change.moment change.number change.field change.link
         c.reply c.moved first.new second.new spare.new desk.new (world_of buffers.new.store)) }
     ensures receipt { IfOk result (λ c. c.receipt ≡ desk.new.seen) }
     ensures ended { OnOk result (buffers.new.ended_everywhere.items ≡ []) }
     ensures refused { IfErr result (λ error. IsNoPlace error
-        ⊎ ((error ≡ NoField) × (HasLink K.rules first.old.set.records number field
+        ⊎ ((error ≡ NoField) × (HasLink K.rules first.old.set.records change.number change.field
         → ⊥))) }
     ensures kept { OnErr result ((folded first.new.set ≡ folded first.old.set) × (second.new.set ≡ second.old.set)
         × (spare.new ≡ spare.old)) }
     ensures desk { OnErr result (desk.new ≡ desk.old) }
 {
-    if !first.set.has_link(number, field) {
+    if !first.set.has_link(change.number, change.field) {
         return Err(IocError::NoField);
     }
-    if first.set.forbids(number, field) {
+    if first.set.forbids(change.number, change.field) {
         first.is_sound();
         second.is_sound();
         buffers.ended_everywhere.clear();
-        let (reply, receipt) = first.refuse_link(
-            rt,
-            alloc,
-            book,
-            desk,
-            number,
-            field,
-            link.get(),
-            moment,
-        )?;
+        let (reply, receipt) = first.refuse_link(rt, alloc, book, desk, &change)?;
         return Ok(Changed {
             reply,
             receipt,
             moved: 0,
         });
     }
-    if first.set.leads_within(&link) {
-        let changed = part_first(
-            rt, alloc, book, desk, buffers, first, spare, number, field, link, base_link, moment,
-        )?;
+    if first.set.leads_within(&change.link) {
+        let changed = part_first(rt, alloc, book, desk, buffers, first, spare, change)?;
         return Ok(changed);
     }
-    let changed = lead_first(
-        rt, alloc, book, desk, buffers, first, second, spare, number, field, link, base_link,
-        moment,
-    )?;
+    let changed = lead_first(rt, alloc, book, desk, buffers, first, second, spare, change)?;
     Ok(changed)
 }

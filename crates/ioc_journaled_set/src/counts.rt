@@ -6,7 +6,7 @@ ghost use Rattle.ioc_ledger.specs.Shared.{share_view, less_awaited};
 ghost use Rattle.ioc_set.specs.Linking.{awaited_alone};
 ghost use Rattle.ioc_set_store.specs.SetStore.{world_of};
 
-use ioc_history::{EngineCounts, EngineName, EventCounts, SharedJournal};
+use ioc_history::{EngineCounts, EventCounts, JournalName, SharedJournal};
 use ioc_ledger::{Tally, TallyShare};
 use ioc_record::RecordKind;
 use ioc_set::LockSet;
@@ -38,7 +38,7 @@ pub(crate) fn wait_forever<R: Wait>(rt: &R)
 
 /// Takes the share of a set with records. It is there until the engine has ended, and nothing is
 /// done on a set after that: waits forever if it is taken already.
-pub(crate) fn take_share<K: RecordKind, B: EngineName<K>, R: Wait>(
+pub(crate) fn take_share<K: RecordKind, B: JournalName<K>, R: Wait>(
     rt: &R,
     share: &mut Option<TallyShare<EngineCounts<K, B>>>,
 ) -> TallyShare<EngineCounts<K, B>>
@@ -55,7 +55,7 @@ pub(crate) fn take_share<K: RecordKind, B: EngineName<K>, R: Wait>(
 /// Returns what an event on a set has counted: the set's share, with its counts before and after the
 /// event, and the number of once requests that the event has sent.
 #[inline(always)]
-pub(crate) fn counts_since<K: RecordKind, B: EngineName<K>, D>(
+pub(crate) fn counts_since<K: RecordKind, B: JournalName<K>, D>(
     share: TallyShare<EngineCounts<K, B>>,
     before: Tally,
     set: &LockSet<K, D>,
@@ -75,7 +75,7 @@ pub(crate) fn counts_since<K: RecordKind, B: EngineName<K>, D>(
 
 /// Divides the share of a set that was divided, and had `started` calls that are answered later: the
 /// rest gets a part for each of its records, and the answers that these await.
-pub(crate) fn divide_share<K: RecordKind, B: EngineName<K>, D, R: Wait>(
+pub(crate) fn divide_share<K: RecordKind, B: JournalName<K>, D, R: Wait>(
     rt: &R,
     book: &SharedJournal<K, B>,
     share: &mut TallyShare<EngineCounts<K, B>>,

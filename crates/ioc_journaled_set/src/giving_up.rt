@@ -20,7 +20,7 @@ use crate::together::giving_up::give_up_all;
 use crate::{JournaledSet, SharedNotifications};
 use ioc_device::Device;
 use ioc_events::Reply;
-use ioc_history::{Cell, Desk, EngineCounts, KeyPass, Receipt, SharedJournal};
+use ioc_history::{Cell, DeskAccount, EngineCounts, KeyPass, Receipt, SharedJournal};
 use ioc_ledger::TallyShare;
 use ioc_notify::table_laws::lines_tell_holders;
 use ioc_notify::{Live, NotifyId};
@@ -91,7 +91,7 @@ fn give_up_lent<K: RecordKind + Drop, B: SetsName<K, D>, D: Device, R: Wait>(
     rt: &R,
     alloc: Global,
     book: &SharedJournal<K, B>,
-    desk: &mut Desk<K, B>,
+    desk: &mut DeskAccount<K, B>,
     buffers: &mut EventBuffers<K, D>,
     keeper: &mut KeyPass,
     held: &mut [JournaledSet<K, B, D>],
@@ -138,7 +138,7 @@ pub fn cancel_on<K: RecordKind + Drop, B: SetsName<K, D>, D: Device, R: Wait>(
     rt: &R,
     alloc: Global,
     book: &SharedJournal<K, B>,
-    desk: &mut Desk<K, B>,
+    desk: &mut DeskAccount<K, B>,
     buffers: &mut EventBuffers<K, D>,
     all: &mut SharedNotifications<K, B>,
     held: &mut [JournaledSet<K, B, D>],

@@ -17,21 +17,19 @@ ghost use Rattle.ioc_journaled_set.specs.Puts.{HaveEnded};
 ghost use Rattle.ioc_journaled_set.specs.Holding.{IsCounted, IsLent, IsOwner, KeepsDevices, held_view, numbers_of, Serves, Tells, IsNoCall};
 ghost use Rattle.ioc_journaled_set.specs.SameDevice.{IsDeviceOf};
 
+use crate::call_laws::calls_have_laws;
 use crate::counts::{counts_since, wait_forever};
 use crate::running::{Ran, Served, run_counted, run_with_answers};
 use crate::sets_name::SetsName;
 use crate::shared_notifications::{SharedNotifications, keep_beside};
 use ioc_device::Device;
-use ioc_events::event_rules::{events_keep_records, rules_are_steps};
-use ioc_events::notification_rules::events_count_holders;
 use ioc_events::{Entry, Event, KeptAnswers, Reply};
 use ioc_fields::FieldNo;
-use ioc_history::count_laws::{parts_count_alike, questions_count_nothing};
-use ioc_history::legal_laws::{
-    events_are_held, holders_move, holding_lasts, lists_leave_sound, parts_share_what_is_held,
-    those_ended_are_over,
+use ioc_history::count_laws::questions_count_nothing;
+use ioc_history::legal_laws::{events_are_held, holding_lasts};
+use ioc_history::{
+    Cell, DeskAccount, EngineCounts, EventCounts, KeyPass, Receipt, SharedJournal, pass,
 };
-use ioc_history::{Cell, Desk, EngineCounts, EventCounts, KeyPass, Receipt, SharedJournal, pass};
 use ioc_ledger::TallyShare;
 use ioc_names::RecordNo;
 use ioc_notify::NotifyId;
@@ -183,7 +181,7 @@ impl<K: RecordKind + Drop, B: SetsName<K, D>, D: Device> JournaledSet<K, B, D> {
         rt: &R,
         alloc: Global,
         book: &SharedJournal<K, B>,
-        desk: &mut Desk<K, B>,
+        desk: &mut DeskAccount<K, B>,
         buffers: &mut EventBuffers<K, D>,
         event: &Event,
         moment: u64,
@@ -201,15 +199,7 @@ impl<K: RecordKind + Drop, B: SetsName<K, D>, D: Device> JournaledSet<K, B, D> {
         ensures refused { IfErr result IsNoPlace }
         ensures err { OnErr result ((self.new ≡ self.old) × (desk.new ≡ desk.old)) }
     {
-        rules_are_steps::<K>();
-        events_keep_records::<K>();
-        events_count_holders::<K>();
-        holding_lasts::<K>();
-        events_are_held::<K>();
-        holders_move::<K>();
-        parts_share_what_is_held::<K>();
-        those_ended_are_over::<K>();
-        parts_count_alike::<K>();
+        calls_have_laws::<K>();
         sets_stay_without_puts::<K, D>();
         self.set.is_sound();
         let before = self.set.tally();
@@ -262,7 +252,7 @@ impl<K: RecordKind + Drop, B: SetsName<K, D>, D: Device> JournaledSet<K, B, D> {
         alloc: Global,
         book: &SharedJournal<K, B>,
         puts: &Mutex<SharedNotifications<K, B>>,
-        desk: &mut Desk<K, B>,
+        desk: &mut DeskAccount<K, B>,
         buffers: &mut EventBuffers<K, D>,
         event: &Event,
         moment: u64,
@@ -279,16 +269,7 @@ impl<K: RecordKind + Drop, B: SetsName<K, D>, D: Device> JournaledSet<K, B, D> {
         ensures refused { IfErr result IsNoPlace }
         ensures err { OnErr result ((self.new ≡ self.old) × (desk.new ≡ desk.old)) }
     {
-        rules_are_steps::<K>();
-        events_keep_records::<K>();
-        events_count_holders::<K>();
-        holding_lasts::<K>();
-        events_are_held::<K>();
-        holders_move::<K>();
-        lists_leave_sound::<K>();
-        parts_share_what_is_held::<K>();
-        those_ended_are_over::<K>();
-        parts_count_alike::<K>();
+        calls_have_laws::<K>();
         lines_tell_holders();
         self.set.is_sound();
         let tally = self.set.tally();
@@ -337,7 +318,7 @@ impl<K: RecordKind + Drop, B: SetsName<K, D>, D: Device> JournaledSet<K, B, D> {
         alloc: Global,
         book: &SharedJournal<K, B>,
         puts: &Mutex<SharedNotifications<K, B>>,
-        desk: &mut Desk<K, B>,
+        desk: &mut DeskAccount<K, B>,
         buffers: &mut EventBuffers<K, D>,
         event: &Event,
         moment: u64,
@@ -372,7 +353,7 @@ impl<K: RecordKind + Drop, B: SetsName<K, D>, D: Device> JournaledSet<K, B, D> {
         rt: &R,
         alloc: Global,
         book: &SharedJournal<K, B>,
-        desk: &mut Desk<K, B>,
+        desk: &mut DeskAccount<K, B>,
         number: RecordNo,
         field: FieldNo,
         moment: u64,

@@ -10,6 +10,7 @@
 
 mod asking;
 mod beginning;
+mod call_laws;
 pub mod changing;
 mod checkpoint;
 mod copying;
@@ -18,6 +19,7 @@ mod ending;
 pub mod give_up_laws;
 mod giving_up;
 pub mod journaled_set;
+pub mod link_change;
 mod link_changes;
 pub mod link_laws;
 mod locked;
@@ -31,6 +33,7 @@ pub use changing::{Changed, change_link};
 pub use checkpoint::{checkpoint_on, move_all_on};
 pub use giving_up::cancel_on;
 pub use journaled_set::JournaledSet;
+pub use link_change::LinkChange;
 pub use running::Served;
 pub use sets_name::SetsName;
 pub use shared_notifications::SharedNotifications;

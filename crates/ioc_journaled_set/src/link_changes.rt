@@ -20,16 +20,17 @@ ghost use Rattle.ioc_journaled_set.specs.LinkChanges.{link_change, keys_of, IsKn
 
 use crate::counts::{divide_share, take_share};
 use crate::journaled_set::JournaledSet;
+use crate::link_change::LinkChange;
 use crate::link_laws::{held_sets_may_be_one, led_sets_are_held, parted_sets_are_held};
 use crate::sets_name::SetsName;
-use ioc_dbcommon::{LinkBox, LinkField};
+use ioc_dbcommon::LinkField;
 use ioc_device::Device;
 use ioc_events::{Entry, Event, KeptAnswers, Reply};
 use ioc_fields::FieldNo;
 use ioc_history::count_laws::questions_count_nothing;
 use ioc_history::legal_laws::{holding_lasts, lists_leave_sound};
 use ioc_history::{
-    Desk, EngineName, EventCounts, KeyPass, Keys, Place, Receipt, SharedJournal, pass,
+    DeskAccount, EventCounts, JournalName, KeyPass, Keys, Place, Receipt, SharedJournal, pass,
 };
 use ioc_names::RecordNo;
 use ioc_record::RecordKind;
@@ -42,12 +43,12 @@ use std::sync::Wait;
 
 // Adds a link change to the journal, and assigns the keys of the records to the passes of the two
 // sets after it.
-fn keep_change<P: Keys, K: RecordKind, B: EngineName<K>, D, R: Wait>(
+fn keep_change<P: Keys, K: RecordKind, B: JournalName<K>, D, R: Wait>(
     rt: &R,
     alloc: Global,
     book: &SharedJournal<K, B>,
     place: Place<K, B>,
-    desk: &mut Desk<K, B>,
+    desk: &mut DeskAccount<K, B>,
     one: &mut KeyPass,
     other: &mut KeyPass,
     stay: &LockSet<K, D>,
@@ -102,19 +103,15 @@ impl<K: RecordKind + Drop, B: SetsName<K, D>, D: Device> JournaledSet<K, B, D> {
         rt: &R,
         alloc: Global,
         book: &SharedJournal<K, B>,
-        desk: &mut Desk<K, B>,
+        desk: &mut DeskAccount<K, B>,
         buffers: &mut EventBuffers<K, D>,
-        number: RecordNo,
-        field: FieldNo,
-        link: LinkBox,
-        base_link: LinkBox,
-        moment: u64,
+        change: LinkChange,
     ) -> Result<(JournaledSet<K, B, D>, Receipt<K, B>), IocError>
-        requires base_link { base_link ≡ link }
-        requires field { HasLink K.rules self.old.set.records number field }
-        requires allowed { stops_put (common_at K.rules (now_of self.old.set) number) field ≡ false }
-        requires within { (t : ℕ) → Contains (named_by (use_of link)) t → IsSome (get self.old.set.records t) }
-        ensures parts { IfOk result (λ x. Parts K.rules B.base self.old desk.old moment number field link self.new x.0 desk.new
+        requires base_link { change.base_link ≡ change.link }
+        requires field { HasLink K.rules self.old.set.records change.number change.field }
+        requires allowed { stops_put (common_at K.rules (now_of self.old.set) change.number) change.field ≡ false }
+        requires within { (t : ℕ) → Contains (named_by (use_of change.link)) t → IsSome (get self.old.set.records t) }
+        ensures parts { IfOk result (λ x. Parts K.rules B.base self.old desk.old change.moment change.number change.field change.link self.new x.0 desk.new
             (world_of buffers.new.store)) }
         ensures receipt { IfOk result (λ x. x.1 ≡ desk.new.seen) }
         ensures refused { IfErr result IsNoPlace }
@@ -124,6 +121,13 @@ impl<K: RecordKind + Drop, B: SetsName<K, D>, D: Device> JournaledSet<K, B, D> {
     {
         holding_lasts::<K>();
         parted_sets_are_held::<K, D>();
+        let LinkChange {
+            number,
+            field,
+            link,
+            base_link,
+            moment,
+        } = change;
         let chosen = link.get();
         let started = self.set.tally().started;
         let place = book.reserve(rt, alloc, desk)?;
@@ -206,20 +210,16 @@ impl<K: RecordKind + Drop, B: SetsName<K, D>, D: Device> JournaledSet<K, B, D> {
         rt: &R,
         alloc: Global,
         book: &SharedJournal<K, B>,
-        desk: &mut Desk<K, B>,
+        desk: &mut DeskAccount<K, B>,
         buffers: &mut EventBuffers<K, D>,
         other: &mut JournaledSet<K, B, D>,
-        number: RecordNo,
-        field: FieldNo,
-        link: LinkBox,
-        base_link: LinkBox,
-        moment: u64,
+        change: LinkChange,
     ) -> Result<(JournaledSet<K, B, D>, Receipt<K, B>), IocError>
-        requires base_link { base_link ≡ link }
-        requires field { HasLink K.rules self.old.set.records number field }
-        requires allowed { stops_put (common_at K.rules (now_of self.old.set) number) field ≡ false }
-        requires to { (t : ℕ) × (named_by (use_of link) ≡ t ∷ []) × IsSome (get other.old.set.records t) }
-        ensures leads { IfOk result (λ x. Leads K.rules B.base self.old other.old desk.old moment number field link self.new other.new
+        requires base_link { change.base_link ≡ change.link }
+        requires field { HasLink K.rules self.old.set.records change.number change.field }
+        requires allowed { stops_put (common_at K.rules (now_of self.old.set) change.number) change.field ≡ false }
+        requires to { (t : ℕ) × (named_by (use_of change.link) ≡ t ∷ []) × IsSome (get other.old.set.records t) }
+        ensures leads { IfOk result (λ x. Leads K.rules B.base self.old other.old desk.old change.moment change.number change.field change.link self.new other.new
             x.0 desk.new (world_of buffers.new.store)) }
         ensures receipt { IfOk result (λ x. x.1 ≡ desk.new.seen) }
         ensures refused { IfErr result IsNoPlace }
@@ -229,6 +229,13 @@ impl<K: RecordKind + Drop, B: SetsName<K, D>, D: Device> JournaledSet<K, B, D> {
         holding_lasts::<K>();
         led_sets_are_held::<K, D>();
         self.compare(rt, book, other);
+        let LinkChange {
+            number,
+            field,
+            link,
+            base_link,
+            moment,
+        } = change;
         let chosen = link.get();
         self.set.devices_are_owned();
         other.set.devices_are_owned();
@@ -300,16 +307,13 @@ impl<K: RecordKind + Drop, B: SetsName<K, D>, D: Device> JournaledSet<K, B, D> {
         rt: &R,
         alloc: Global,
         book: &SharedJournal<K, B>,
-        desk: &mut Desk<K, B>,
-        number: RecordNo,
-        field: FieldNo,
-        link: LinkField,
-        moment: u64,
+        desk: &mut DeskAccount<K, B>,
+        change: &LinkChange,
     ) -> Result<(Reply, Receipt<K, B>), IocError>
-        requires field { HasLink K.rules self.old.set.records number field }
-        requires forbidden { stops_put (common_at K.rules (now_of self.old.set) number) field ≡ true }
-        requires known { (t : ℕ) → Contains (named_by (use_of link)) t → IsKnown K.rules B.base t }
-        ensures refuses { IfOk result (λ x. Refuses K.rules B.base self.old desk.old moment number field link self.new desk.new) }
+        requires field { HasLink K.rules self.old.set.records change.now.number change.now.field }
+        requires forbidden { stops_put (common_at K.rules (now_of self.old.set) change.now.number) change.now.field ≡ true }
+        requires known { (t : ℕ) → Contains (named_by (use_of change.now.link)) t → IsKnown K.rules B.base t }
+        ensures refuses { IfOk result (λ x. Refuses K.rules B.base self.old desk.old change.now.moment change.now.number change.now.field change.now.link self.new desk.new) }
         ensures reply { IfOk result (λ x. x.0 ≡ Refused PutDisabled) }
         ensures receipt { IfOk result (λ x. x.1 ≡ desk.new.seen) }
         ensures refused { IfErr result IsNoPlace }
@@ -319,9 +323,9 @@ impl<K: RecordKind + Drop, B: SetsName<K, D>, D: Device> JournaledSet<K, B, D> {
         lists_leave_sound::<K>();
         questions_count_nothing::<K>();
         let place = book.reserve(rt, alloc, desk)?;
-        let event = Event::Link(number, field, link);
+        let event = Event::Link(change.number, change.field, change.link.get());
         let entry = Entry {
-            moment,
+            moment: change.moment,
             event,
             answers: KeptAnswers::new(Vec::new(alloc)),
             reply: Reply::Refused(IocError::PutDisabled),

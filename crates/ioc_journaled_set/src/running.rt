@@ -9,7 +9,7 @@ ghost use Rattle.ioc_set.specs.Sound.{IsSound};
 
 use ioc_device::Device;
 use ioc_events::{Entry, Event, KeptAnswers, Reply, SetReply};
-use ioc_history::{Desk, EngineName, Place, Receipt, RequestTickets, SharedJournal};
+use ioc_history::{DeskAccount, JournalName, Place, Receipt, RequestTickets, SharedJournal};
 use ioc_ledger::Tickets;
 use ioc_notify::Live;
 use ioc_record::RecordKind;
@@ -23,7 +23,7 @@ use std::sync::Wait;
 
 /// The result of an event that was done on a set with live puts with notification, and isn't in the
 /// journal yet. Its place has to be filled.
-pub(crate) struct Ran<K: RecordKind, B: EngineName<K>> {
+pub(crate) struct Ran<K: RecordKind, B: JournalName<K>> {
     /// The held place of the event.
     pub place: Place<K, B>,
     /// The puts with notification that were live on the set before the event.
@@ -34,7 +34,7 @@ pub(crate) struct Ran<K: RecordKind, B: EngineName<K>> {
 
 /// An event that was done on a journaled set and added to the journal.
 #[derive(Drop)]
-pub struct Served<K: RecordKind, B: EngineName<K>> {
+pub struct Served<K: RecordKind, B: JournalName<K>> {
     /// The reply, as in the journal.
     pub reply: Reply,
     /// The receipt of the call.
@@ -101,18 +101,18 @@ pub(crate) fn run_with_answers<K: RecordKind + Drop, D: Device>(
     Ok((told.reply(), answers))
 }
 
-/// Reserves a place in the journal for an event of a desk, and performs the event on a set. The result has
-/// the set's live puts with notification before the event.
+/// Reserves a place in the journal for an event of a desk, and performs the event on a set. The
+/// result has the set's live puts with notification before the event.
 ///
 /// # Errors
 ///
 /// [`IocError::JournalFull`] if the journal has no place left. [`IocError::NoMemory`] if allocation
 /// fails. Nothing has changed then.
-pub(crate) fn run_counted<K: RecordKind + Drop, B: EngineName<K>, D: Device, R: Wait>(
+pub(crate) fn run_counted<K: RecordKind + Drop, B: JournalName<K>, D: Device, R: Wait>(
     rt: &R,
     alloc: Global,
     book: &SharedJournal<K, B>,
-    desk: &Desk<K, B>,
+    desk: &DeskAccount<K, B>,
     set: &mut LockSet<K, D>,
     buffers: &mut EventBuffers<K, D>,
     event: &Event,

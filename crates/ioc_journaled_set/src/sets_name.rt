@@ -1,10 +1,10 @@
 //! Names the lock sets of an engine.
-use ioc_history::EngineName;
+use ioc_history::JournalName;
 use std::marker::Brand;
 
 /// Names an engine and the devices that its records have at the load. Its records are of kind `K`,
 /// and its devices of type `D`.
-pub trait SetsName<K, D>: EngineName<K> {
+pub trait SetsName<K, D>: JournalName<K> {
     ghost use Rattle.std.specs.Prelude.{ℕ, Option};
 
     /// The device that each record has at the load.

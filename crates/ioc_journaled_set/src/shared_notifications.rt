@@ -18,7 +18,7 @@ ghost use Rattle.ioc_journaled_set.specs.PutPlaces.{without};
 use crate::put_places::PutPlaces;
 use ioc_events::{Entry, Event};
 use ioc_history::legal_laws::{lists_leave_sound, live_lasts, one_may_begin};
-use ioc_history::{Appended, Desk, EngineName, EventCounts, KeyPass, Place, SharedJournal};
+use ioc_history::{Appended, DeskAccount, EventCounts, JournalName, KeyPass, Place, SharedJournal};
 use ioc_notify::table_laws::{lines_tell_holders, tables_are_short};
 use ioc_notify::{Live, NotificationCounts, NotifyId};
 use ioc_record::RecordKind;
@@ -34,7 +34,7 @@ use std::sync::{Mutex, MutexGuard, Wait};
 /// beginning of the journal's list that the pass has seen. The lines are the live puts with
 /// notification of the world of all records after that list.
 #[derive(Drop)]
-pub struct SharedNotifications<K: RecordKind, B: EngineName<K>> {
+pub struct SharedNotifications<K: RecordKind, B: JournalName<K>> {
     pub table: NotificationCounts,
     pub(crate) places: PutPlaces,
     pub(crate) last: u64,
@@ -43,7 +43,7 @@ pub struct SharedNotifications<K: RecordKind, B: EngineName<K>> {
     kind: PhantomData<K>,
 }
 
-impl<K: RecordKind, B: EngineName<K>> Model for SharedNotifications<K, B> {
+impl<K: RecordKind, B: JournalName<K>> Model for SharedNotifications<K, B> {
     ghost use Rattle.ioc_journaled_set.specs.Puts.{PutsView};
     ghost use Rattle.ioc_journaled_set.specs.PutsViewCode.{puts_code};
 
@@ -59,7 +59,7 @@ impl<K: RecordKind, B: EngineName<K>> Model for SharedNotifications<K, B> {
     ghost invariant = { λ p. AreKept K.rules B.base B.table p.pass p.table p.places p.last };
 }
 
-impl<K: RecordKind, B: EngineName<K>> SharedNotifications<K, B> {
+impl<K: RecordKind, B: JournalName<K>> SharedNotifications<K, B> {
     /// An empty table: no put with notification is live, and no number is taken. The pass owns the
     /// key of the puts with notification, and has seen no call.
     ///
@@ -144,7 +144,7 @@ impl<K: RecordKind, B: EngineName<K>> SharedNotifications<K, B> {
 
 // Takes the next number for a put with notification that is about to begin. Returns `None` if none
 // may begin.
-pub(crate) fn take_number<K: RecordKind, B: EngineName<K>, R: Wait>(
+pub(crate) fn take_number<K: RecordKind, B: JournalName<K>, R: Wait>(
     rt: &R,
     puts: &Mutex<SharedNotifications<K, B>>,
 ) -> Option<NotifyId>
@@ -159,7 +159,7 @@ pub(crate) fn take_number<K: RecordKind, B: EngineName<K>, R: Wait>(
 // Locks the table, in which a number was taken, for a put with notification that begins under it.
 // The first turn finds the number: it stays taken until its call begins or gives it back. No clause
 // says so, because the table was free meanwhile.
-pub(crate) fn lock_taken<'a, K: RecordKind, B: EngineName<K>, R: Wait>(
+pub(crate) fn lock_taken<'a, K: RecordKind, B: JournalName<K>, R: Wait>(
     rt: &R,
     puts: &'a Mutex<SharedNotifications<K, B>>,
     number: NotifyId,
@@ -229,13 +229,13 @@ fn recount(table: &mut NotificationCounts, before: &[Live], after: &[Live])
 /// Adds an event that was done on a set to the journal, with the keys of the set's records and the
 /// key of the puts with notification, and updates the table by the set's counts before and after
 /// it. The buffers of the event then tell what has ended among all sets.
-pub(crate) fn keep_beside<K: RecordKind, B: EngineName<K>, D, R: Wait>(
+pub(crate) fn keep_beside<K: RecordKind, B: JournalName<K>, D, R: Wait>(
     rt: &R,
     book: &SharedJournal<K, B>,
     place: Place<K, B>,
     pass: &mut KeyPass,
     all: &mut SharedNotifications<K, B>,
-    desk: &mut Desk<K, B>,
+    desk: &mut DeskAccount<K, B>,
     buffers: &mut EventBuffers<K, D>,
     entry: Entry,
     counts: EventCounts<K, B>,

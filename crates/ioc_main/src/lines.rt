@@ -14,7 +14,7 @@ use std::alloc::Global;
 use std::io::{Read, Write};
 
 // The beginning of the current line, long enough to recognize that the line is too long.
-type Line = ByteBuffer<1025>;
+type LineBuffer = ByteBuffer<1025>;
 
 // Writes the pending replies. Not inlined, because after most lines nothing is written.
 #[inline(never)]
@@ -76,7 +76,7 @@ fn say<S: Session, W: Write>(
 // Answers the line that ends with `last`, and begins another.
 fn end_line<S: Session, W: Write>(
     session: &mut S,
-    line: &mut Line,
+    line: &mut LineBuffer,
     said: &mut PendingOutput,
     out: &mut W,
     last: &[u8],
@@ -103,7 +103,7 @@ fn end_line<S: Session, W: Write>(
 // Answers the lines that end in a piece.
 fn answer_lines<S: Session, W: Write>(
     session: &mut S,
-    line: &mut Line,
+    line: &mut LineBuffer,
     said: &mut PendingOutput,
     out: &mut W,
     piece: &[u8],
@@ -134,7 +134,7 @@ fn answer_lines<S: Session, W: Write>(
 // reply is pending when more is read.
 fn feed<S: Session, W: Write>(
     session: &mut S,
-    line: &mut Line,
+    line: &mut LineBuffer,
     said: &mut PendingOutput,
     out: &mut W,
     piece: &[u8],
@@ -156,7 +156,7 @@ fn feed<S: Session, W: Write>(
 // Answers a last line without a line feed, if there is one.
 fn answer_rest<S: Session, W: Write>(
     session: &mut S,
-    line: &mut Line,
+    line: &mut LineBuffer,
     said: &mut PendingOutput,
     out: &mut W,
 ) -> Result<(), LineFault>
@@ -178,7 +178,7 @@ fn answer_rest<S: Session, W: Write>(
 // Answers what is left of a script at its end, and writes the pending replies.
 fn finish<S: Session, W: Write>(
     session: &mut S,
-    line: &mut Line,
+    line: &mut LineBuffer,
     said: &mut PendingOutput,
     out: &mut W,
 ) -> Result<(), LineFault>
@@ -213,7 +213,7 @@ pub fn run_script<S: Session, R: Read + Drop, W: Write>(
         (λ text. StopsScript fault (W.contents out.old) (S.transcript session.old (lines_of text))
         (W.contents out.new))) }
 {
-    let mut line = Line::new();
+    let mut line = LineBuffer::new();
     let mut said = PendingOutput::new(alloc);
     let mut buffer = [0u8; 512];
     for _ in 0..u64::MAX {

@@ -24,7 +24,7 @@ const LOOKS: u32 = 64;
 /// A place for a set under its lock. Once made, the lock stays until the directory is dropped. It
 /// is boxed, so that a cell that isn't made takes little memory, and padded, so that calls on
 /// different sets don't write to the same line of memory.
-pub(crate) type Cell<S> = OnceLock<Box<CachePadded<Mutex<S>>>>;
+pub(crate) type SetCell<S> = OnceLock<Box<CachePadded<Mutex<S>>>>;
 
 /// The lock of a cell, with the key of the cell.
 #[derive(Drop)]
@@ -51,7 +51,7 @@ pub(crate) struct KeyedCell<'a, S: Locked> {
 pub struct Directory<S: Locked> {
     // The key of the cell of each record's set. It may be out of date by the time it is used.
     pub(crate) homes: Vec<AtomicU64>,
-    pub(crate) cells: Vec<Cell<S>>,
+    pub(crate) cells: Vec<SetCell<S>>,
     pub(crate) flags: Vec<AtomicBool>,
     // Used only under the topology guard.
     pub(crate) free: Mutex<FreeCells<S>>,
@@ -200,7 +200,7 @@ impl<S: Locked> Directory<S> {
 fn empty_cells<S: Locked>(
     alloc: Global,
     most: usize,
-) -> Result<(Vec<Cell<S>>, Vec<AtomicBool>), AllocError> {
+) -> Result<(Vec<SetCell<S>>, Vec<AtomicBool>), AllocError> {
     let mut cells = Vec::with_capacity(alloc, most)?;
     let mut flags = Vec::with_capacity(alloc, most)?;
     for _ in 0..most {
@@ -211,7 +211,7 @@ fn empty_cells<S: Locked>(
 }
 
 /// Returns the set in the cell with a key, if it was made.
-pub(crate) fn set_in<S: Locked>(cells: &mut [Cell<S>], key: usize) -> Option<&mut S> {
+pub(crate) fn set_in<S: Locked>(cells: &mut [SetCell<S>], key: usize) -> Option<&mut S> {
     Some(cells.get_mut(key)?.get_mut()?.get_mut())
 }
 

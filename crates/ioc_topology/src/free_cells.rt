@@ -2,7 +2,7 @@
 ghost use Rattle.std.specs.Prelude.{◌≡◌, ◌≤◌, []};
 ghost use Rattle.std.specs.Vec.{vec_capacity};
 
-use crate::directory::{Cell, KeyedCell};
+use crate::directory::{KeyedCell, SetCell};
 use crate::locked::Locked;
 use crossbeam_utils::CachePadded;
 use std::alloc::{AllocError, Global};
@@ -66,7 +66,7 @@ impl<S: Locked> FreeCells<S> {
     pub fn make<'a>(
         &mut self,
         alloc: Global,
-        cells: &'a [Cell<S>],
+        cells: &'a [SetCell<S>],
         set: S,
     ) -> Result<KeyedCell<'a, S>, AllocError> {
         let key = self.made;

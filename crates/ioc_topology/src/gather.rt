@@ -2,7 +2,7 @@
 ghost use Rattle.std.specs.Prelude.{◌≡◌, ◌↔◌, ◌<◌, ℕ, false, IsTrue, slice_index_or};
 ghost use Rattle.ioc_topology.specs.Gathered.{HoldEach, IsMarked, IsClaimed};
 
-use crate::directory::{Cell, Directory, set_in};
+use crate::directory::{Directory, SetCell, set_in};
 use crate::locked::Locked;
 use std::alloc::Global;
 use std::mem;
@@ -35,7 +35,7 @@ impl<S: Locked> Directory<S> {
 }
 
 // Takes the set out of a cell, if it has records, and leaves a set without records there.
-fn take_set<S: Locked>(alloc: Global, cells: &mut [Cell<S>], key: usize) -> Option<S> {
+fn take_set<S: Locked>(alloc: Global, cells: &mut [SetCell<S>], key: usize) -> Option<S> {
     let set = set_in(cells, key)?;
     if set.len() == 0 {
         return None;

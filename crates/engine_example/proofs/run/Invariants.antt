@@ -2,8 +2,8 @@ use Rattle.ioc_engine.specs.Named.{name_of, devices_of, cell_of}
 use Rattle.engine_example.proofs.run.Given as goal
 
 -- The name of the engine.
-abbrev pub ghosts-work-B-EngineName-2 : goal.ghosts-work-B-EngineName-2
-ghosts-work-B-EngineName-2 g a = name_of a.seed
+abbrev pub ghosts-work-B-JournalName : goal.ghosts-work-B-JournalName
+ghosts-work-B-JournalName g a = name_of a.seed
 
 abbrev pub ghosts-work-B-CellName : goal.ghosts-work-B-CellName
 ghosts-work-B-CellName g a = cell_of a.seed

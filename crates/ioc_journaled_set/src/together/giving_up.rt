@@ -19,7 +19,7 @@ use crate::together::merging::merge_all;
 use ioc_device::Device;
 use ioc_events::{Entry, Event, KeptAnswers, Reply};
 use ioc_history::legal_laws::{holding_lasts, live_lasts};
-use ioc_history::{Desk, EngineName, EventCounts, KeyPass, Receipt, SharedJournal};
+use ioc_history::{DeskAccount, EventCounts, JournalName, KeyPass, Receipt, SharedJournal};
 use ioc_notify::NotifyId;
 use ioc_record::RecordKind;
 use ioc_set::LockSet;
@@ -46,11 +46,11 @@ fn all_sound<K: RecordKind, D>(sets: &[LockSet<K, D>])
 /// [`IocError::JournalFull`] if the journal has no place left. [`IocError::NoMemory`] if allocation
 /// fails. Nothing has changed then. Once it is canceled in one of the sets, a failed allocation is
 /// repeated until it succeeds.
-pub fn give_up<K: RecordKind + Drop, B: EngineName<K>, D: Device, R: Wait>(
+pub fn give_up<K: RecordKind + Drop, B: JournalName<K>, D: Device, R: Wait>(
     rt: &R,
     alloc: Global,
     book: &SharedJournal<K, B>,
-    desk: &mut Desk<K, B>,
+    desk: &mut DeskAccount<K, B>,
     buffers: &mut EventBuffers<K, D>,
     keeper: &mut KeyPass,
     sets: &mut [LockSet<K, D>],
@@ -96,11 +96,11 @@ pub fn give_up<K: RecordKind + Drop, B: EngineName<K>, D: Device, R: Wait>(
 /// # Errors
 ///
 /// Those of [`give_up`].
-pub fn give_up_all<K: RecordKind + Drop, B: EngineName<K>, D: Device, R: Wait>(
+pub fn give_up_all<K: RecordKind + Drop, B: JournalName<K>, D: Device, R: Wait>(
     rt: &R,
     alloc: Global,
     book: &SharedJournal<K, B>,
-    desk: &mut Desk<K, B>,
+    desk: &mut DeskAccount<K, B>,
     buffers: &mut EventBuffers<K, D>,
     keeper: &mut KeyPass,
     sets: &mut [LockSet<K, D>],

@@ -3,12 +3,12 @@ ghost use Rattle.std.specs.Prelude.{All};
 ghost use Rattle.crossbeam_utils.specs.Seq.{cell_view};
 ghost use Rattle.ioc_journaled_set.specs.Passes.{IsPassOf, IsPassIn, AreTakenOver};
 
-use ioc_history::{EngineName, KeyPass, SharedJournal};
+use ioc_history::{JournalName, KeyPass, SharedJournal};
 use ioc_record::RecordKind;
 use std::sync::Wait;
 
 /// Moves the keys of all these passes to `keeper`, and takes the passes.
-pub fn merge_all<K: RecordKind, B: EngineName<K>, R: Wait>(
+pub fn merge_all<K: RecordKind, B: JournalName<K>, R: Wait>(
     rt: &R,
     book: &SharedJournal<K, B>,
     keeper: &mut KeyPass,

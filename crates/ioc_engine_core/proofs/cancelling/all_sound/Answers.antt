@@ -6,7 +6,7 @@ use Rattle.ioc_engine_core.proofs.cancelling.all_sound.Goals as goal
 pub loop-set-preserved : goal.loop-set-preserved
 loop-set-preserved g c = λ i d lt.
     let k = g.K.RecordKind.rules in
-    let base = g.B.EngineName.base in
+    let base = g.B.JournalName.base in
     let sets = c.args.sets.now in
     let index = c.loop-set.set-index in
     let within : index < length sets = search rules in

@@ -25,7 +25,7 @@ split_off-share-requires g c =
     let sets = c.loop-part.sets in
     let lt : c.loop-part.part < length sets = omega arith in
     let is = c.replace-members.ensures.value ∙ get_or_any sets c.loop-part.part c.index-sets-part.result nothing lt in
-    let set = set_here g.K.RecordKind.rules g.B.EngineName.base (IsDeviceOf g.D.Device.gives g.B.SetsName.devices) c.args.parts.now c.loop-part.part sets c.replace-members.result is lt c.loop-part.invariant.left in
+    let set = set_here g.K.RecordKind.rules g.B.JournalName.base (IsDeviceOf g.D.Device.gives g.B.SetsName.devices) c.args.parts.now c.loop-part.part sets c.replace-members.result is lt c.loop-part.invariant.left in
     let size = part-size set.all c.args.parts.now c.loop-part.part c.replace-members.result (sym set.rest.parts_are.one_each) set.has in
     let keys_are = keys_count c.replace-members.result.records in
     let spare = c.loop-part.invariant.spare.0 in
@@ -37,7 +37,7 @@ hold_part-held-requires-clause-part g c =
     let sets = c.loop-part.sets in
     let lt : c.loop-part.part < length sets = omega arith in
     let is = c.replace-members.ensures.value ∙ get_or_any sets c.loop-part.part c.index-sets-part.result nothing lt in
-    set_here g.K.RecordKind.rules g.B.EngineName.base (IsDeviceOf g.D.Device.gives g.B.SetsName.devices) c.args.parts.now c.loop-part.part sets c.replace-members.result is lt c.loop-part.invariant.left
+    set_here g.K.RecordKind.rules g.B.JournalName.base (IsDeviceOf g.D.Device.gives g.B.SetsName.devices) c.args.parts.now c.loop-part.part sets c.replace-members.result is lt c.loop-part.invariant.left
 
 pub loop-part-preserved : goal.loop-part-preserved
 loop-part-preserved g c =
@@ -45,7 +45,7 @@ loop-part-preserved g c =
     let sets = c.loop-part.sets in
     let lt : c.loop-part.part < length sets = omega arith in
     let is = c.replace-members.ensures.value ∙ get_or_any sets c.loop-part.part c.index-sets-part.result nothing lt in
-    let set = set_here g.K.RecordKind.rules g.B.EngineName.base (IsDeviceOf g.D.Device.gives g.B.SetsName.devices) c.args.parts.now c.loop-part.part sets c.replace-members.result is lt c.loop-part.invariant.left in
+    let set = set_here g.K.RecordKind.rules g.B.JournalName.base (IsDeviceOf g.D.Device.gives g.B.SetsName.devices) c.args.parts.now c.loop-part.part sets c.replace-members.result is lt c.loop-part.invariant.left in
     let size = part-size set.all c.args.parts.now c.loop-part.part c.replace-members.result (sym set.rest.parts_are.one_each) set.has in
     let keys_are = keys_count c.replace-members.result.records in
     let left = ap (λ (s : ShareView). s.parts) c.split_off-share.ensures.left in
@@ -56,7 +56,7 @@ loop-part-preserved g c =
       table = c.hold_part-held.ensures.table;
       master = c.hold_part-held.ensures.master;
       born = c.hold_part-held.ensures.born;
-      left = sets_left g.K.RecordKind.rules g.B.EngineName.base (IsDeviceOf g.D.Device.gives g.B.SetsName.devices) c.args.parts.now c.loop-part.part c.loop-part.sets c.replace-members.new.dest c.loop-part.invariant.left;
+      left = sets_left g.K.RecordKind.rules g.B.JournalName.base (IsDeviceOf g.D.Device.gives g.B.SetsName.devices) c.args.parts.now c.loop-part.part c.loop-part.sets c.replace-members.new.dest c.loop-part.invariant.left;
     }
 
 pub returns-clause-born : goal.returns-clause-born

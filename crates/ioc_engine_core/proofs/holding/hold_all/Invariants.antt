@@ -15,5 +15,5 @@ invariant-loop-part g l = record {
   master : cell_view l.master ≡ keeper [] (cell_view l.master).born;
   spare : (l.spare.parts + length l.parts ≡ (2 ^ 64 - 1) + left-from l.part l.parts) × (l.spare.counts ≡ no_counts);
   born : AreOfPartsBelow l.parts l.part (cell_view l.master).born;
-  left : AreSetsFrom g.K.RecordKind.rules g.B.EngineName.base (IsDeviceOf g.D.Device.gives g.B.SetsName.devices) l.parts l.part l.sets;
+  left : AreSetsFrom g.K.RecordKind.rules g.B.JournalName.base (IsDeviceOf g.D.Device.gives g.B.SetsName.devices) l.parts l.part l.sets;
 }

@@ -17,7 +17,7 @@ merge_shares-share-requires g c = record { none = c.requires.all.1.counts }
 pub audit-requires : goal.audit-requires
 audit-requires g c =
     let k = g.K.RecordKind.rules in
-    let base = g.B.EngineName.base in
+    let base = g.B.JournalName.base in
     let m = map_of k base c.args.journal.now.filled in
     let count = c.requires.all.0 in
     let moved = c.move_all_on.ensures.sets in
@@ -36,4 +36,4 @@ pub returns-clause-tally : goal.returns-clause-tally
 returns-clause-tally g c =
     sym (counts_alike c.args.sets.now c.move_all_on.new.sets c.move_all_on.ensures.sets)
     ∙ sym c.merge_shares-share.ensures.counts ∙ c.audit.ensures.counts
-    ∙ ap (λ (j : JournalOf Note). counts_of g.K.RecordKind.rules g.B.EngineName.base j.filled) c.move_all_on.ensures.journal
+    ∙ ap (λ (j : JournalOf Note). counts_of g.K.RecordKind.rules g.B.JournalName.base j.filled) c.move_all_on.ensures.journal

@@ -19,7 +19,7 @@ deal-requires-clause-below g c = c.requires.parts.below
 pub hold_all-requires-clause-parts : goal.hold_all-requires-clause-parts
 hold_all-requires-clause-parts g c =
     let k = g.K.RecordKind.rules in
-    let base = g.B.EngineName.base in
+    let base = g.B.JournalName.base in
     let gives = g.D.Device.gives in
     let had = IsDeviceOf gives g.B.SetsName.devices in
     let all = c.args.all.items in

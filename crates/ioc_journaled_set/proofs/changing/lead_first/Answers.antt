@@ -10,7 +10,7 @@ returns-clause-leads g c =
     let rest = c.in_ok-rest.rest in
     let kept = c.keep_largest-moved in
     let led = c.in_ok-rest.ensures.leads in
-    let part = part_count g.K.RecordKind.rules c.args.first.now.set led.leads.stay rest.set c.args.number c.args.field c.requires.field led.leads.falls in
+    let part = part_count g.K.RecordKind.rules c.args.first.now.set led.leads.stay rest.set c.args.change.number c.args.change.field c.requires.field led.leads.falls in
     record {
       joined = joined;
       emptied = emptied;

@@ -9,7 +9,7 @@ use Rattle.ioc_journaled_set.proofs.checkpoint.drop_entries.Goals as goal
 pub drop_entries-requires : goal.drop_entries-requires
 drop_entries-requires g c =
     let k = g.K.RecordKind.rules in
-    let base = g.B.EngineName.base in
+    let base = g.B.JournalName.base in
     let records = c.args.base.records.items in
     let waiting = c.args.base.waiting.items in
     let filled = c.deref_mut-journal.result.now.filled in

@@ -10,7 +10,7 @@ use Rattle.ioc_journaled_set.proofs.checkpoint.move_all_on.Goals as goal
 pub loop-place-preserved : goal.loop-place-preserved
 loop-place-preserved g c =
     let k = g.K.RecordKind.rules in
-    let base = g.B.EngineName.base in
+    let base = g.B.JournalName.base in
     let inv = c.loop-place.invariant in
     let within : c.loop-place.place < length c.loop-place.sets = omega arith in
     record {
@@ -22,10 +22,10 @@ loop-place-preserved g c =
 
 pub returns-clause-sets : goal.returns-clause-sets
 returns-clause-sets g c =
-    all_replaced (λ (h : HeldView g.row.K.Denot g.row.D.Denot). h.set) (λ (h : HeldView g.row.K.Denot g.row.D.Denot). h.set) (IsIn (map_of g.K.RecordKind.rules g.B.EngineName.base c.args.journal.now.filled)) c.args.sets.now
+    all_replaced (λ (h : HeldView g.row.K.Denot g.row.D.Denot). h.set) (λ (h : HeldView g.row.K.Denot g.row.D.Denot). h.set) (IsIn (map_of g.K.RecordKind.rules g.B.JournalName.base c.args.journal.now.filled)) c.args.sets.now
     c.loop-place.place c.loop-place.sets c.loop-place.invariant.moved (omega arith)
 
 pub returns-clause-are_in : goal.returns-clause-are_in
 returns-clause-are_in g c =
-    all_held (λ (h : HeldView g.row.K.Denot g.row.D.Denot). h.set) (λ (h : HeldView g.row.K.Denot g.row.D.Denot). h.set) (IsIn (map_of g.K.RecordKind.rules g.B.EngineName.base c.args.journal.now.filled)) c.args.sets.now
+    all_held (λ (h : HeldView g.row.K.Denot g.row.D.Denot). h.set) (λ (h : HeldView g.row.K.Denot g.row.D.Denot). h.set) (IsIn (map_of g.K.RecordKind.rules g.B.JournalName.base c.args.journal.now.filled)) c.args.sets.now
     c.loop-place.place c.loop-place.sets c.loop-place.invariant.moved (omega arith)

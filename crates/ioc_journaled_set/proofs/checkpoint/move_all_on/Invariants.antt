@@ -8,6 +8,6 @@ use Rattle.ioc_journaled_set.proofs.checkpoint.move_all_on.Given as goal
 -- The sets so far were moved on, and the journal is as it was.
 abbrev pub invariant-loop-place : goal.invariant-loop-place
 invariant-loop-place g l = record {
-  moved : AreReplaced (λ (h : HeldView g.row.K.Denot g.row.D.Denot). h.set) (λ (h : HeldView g.row.K.Denot g.row.D.Denot). h.set) (IsIn (map_of g.K.RecordKind.rules g.B.EngineName.base l.fn.journal.filled)) l.fn.sets l.place l.sets;
+  moved : AreReplaced (λ (h : HeldView g.row.K.Denot g.row.D.Denot). h.set) (λ (h : HeldView g.row.K.Denot g.row.D.Denot). h.set) (IsIn (map_of g.K.RecordKind.rules g.B.JournalName.base l.fn.journal.filled)) l.fn.sets l.place l.sets;
   journal : l.journal ≡ l.fn.journal;
 }

@@ -15,7 +15,7 @@ use Rattle.ioc_journaled_set.proofs.giving_up.cancel_on.Goals as goal
 pub returns-in-Ok-Some-clause-gave_up : goal.returns-in-Ok-Some-clause-gave_up
 returns-in-Ok-Some-clause-gave_up g c =
     let k = g.K.RecordKind.rules in
-    let base = g.B.EngineName.base in
+    let base = g.B.JournalName.base in
     let held = c.args.held.now in
     let then = c.give_up_lent-given.new.held in
     let number = c.args.number in
@@ -46,7 +46,7 @@ returns-in-Ok-Some-clause-gave_up g c =
 pub invariant_of-all : goal.invariant_of-all
 invariant_of-all g c =
     let k = g.K.RecordKind.rules in
-    let base = g.B.EngineName.base in
+    let base = g.B.JournalName.base in
     let held = c.args.held.now in
     let then = c.give_up_lent-given.new.held in
     let number = c.args.number in
@@ -64,12 +64,12 @@ pub invariant_of-all-in-Ok-None : goal.invariant_of-all-in-Ok-None
 invariant_of-all-in-Ok-None g c =
     let none = none_gives c.in-Ok-None.field-0 c.in-Ok-None.field-0-is c.in-Ok-None.ensures.missing in
     let keeper = c.lend_all.ensures.keeper in
-    pass_exchanged g.K.RecordKind.rules g.B.EngineName.base g.B.CellName.table c.all.inside.pass c.give_up_lent-given.new.keeper c.all.inside.table c.all.inside.places c.all.inside.last c.all.invariant
+    pass_exchanged g.K.RecordKind.rules g.B.JournalName.base g.B.CellName.table c.all.inside.pass c.give_up_lent-given.new.keeper c.all.inside.table c.all.inside.places c.all.inside.last c.all.invariant
     (ap (λ (p : Pass). p.table_id) none.1 ∙ keeper.0) (ap (λ (p : Pass). cell_view {V = View} p) none.1 ∙ keeper.1)
 
 pub invariant_of-all-in-Err : goal.invariant_of-all-in-Err
 invariant_of-all-in-Err g c =
     let refused = c.in-Err.ensures.err in
     let keeper = c.lend_all.ensures.keeper in
-    pass_exchanged g.K.RecordKind.rules g.B.EngineName.base g.B.CellName.table c.all.inside.pass c.give_up_lent-given.new.keeper c.all.inside.table c.all.inside.places c.all.inside.last c.all.invariant
+    pass_exchanged g.K.RecordKind.rules g.B.JournalName.base g.B.CellName.table c.all.inside.pass c.give_up_lent-given.new.keeper c.all.inside.table c.all.inside.places c.all.inside.last c.all.invariant
     (ap (λ (p : Pass). p.table_id) refused.1 ∙ keeper.0) (ap (λ (p : Pass). cell_view {V = View} p) refused.1 ∙ keeper.1)

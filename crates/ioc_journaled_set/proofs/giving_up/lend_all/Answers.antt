@@ -12,7 +12,7 @@ use Rattle.ioc_journaled_set.proofs.giving_up.lend_all.Goals as goal
 pub loop-i-preserved : goal.loop-i-preserved
 loop-i-preserved g c =
     let k = g.K.RecordKind.rules in
-    let base = g.B.EngineName.base in
+    let base = g.B.JournalName.base in
     let table = g.B.CellName.table in
     let i = c.loop-i.i in
     let old = c.args.held.now in

@@ -17,6 +17,6 @@ invariant-loop-i g l = record {
   count : (vec_len l.sets ≡ l.i) × (vec_len l.passes ≡ l.i) × (vec_len l.shares ≡ l.i);
   lengths : (length l.sets.items ≡ l.i) × (length l.passes.items ≡ l.i) × (length l.shares.items ≡ l.i);
   counted : EachIsCounted l.sets.items l.shares.items;
-  lent : EachIsLent g.K.RecordKind.rules g.B.EngineName.base (IsDeviceOf g.D.Device.gives g.B.SetsName.devices) g.B.CellName.table l.sets.items l.passes.items;
+  lent : EachIsLent g.K.RecordKind.rules g.B.JournalName.base (IsDeviceOf g.D.Device.gives g.B.SetsName.devices) g.B.CellName.table l.sets.items l.passes.items;
   rest : (j : ℕ) (d : HeldView g.row.K.Denot g.row.D.Denot) → l.i ≤ j → slice_index_or l.held j d ≡ slice_index_or l.fn.held j d;
 }

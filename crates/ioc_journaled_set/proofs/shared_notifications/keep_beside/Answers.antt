@@ -12,10 +12,39 @@ use Rattle.ioc_history.specs.Line.{holder, noted}
 use Rattle.ioc_history.specs.Legal.{map_of, notifications_key}
 use Rattle.ioc_history.specs.Account.{journalled, calls, number_given, numbers_given, BothMayFollow, MayBegin, AddedByBoth, puts_key}
 use Rattle.ioc_history.proofs.Numbers.{numbers_below}
-use Rattle.ioc_journaled_set.specs.Puts.{PutsView, NoneIsAbove, AreCounted, AreTaken}
+use Rattle.ioc_journaled_set.specs.Puts.{PutsView, NoneIsAbove, AreCounted, AreTaken, AreMoved}
 use Rattle.ioc_journaled_set.proofs.Taken.{may_begin_by, room_by, new_by, own_by, within_by, still_taken, still_placed, still_begun}
 use Rattle.ioc_journaled_set.proofs.Counted.{before_there, sums_fit, counted_then}
+use Rattle.ioc_journaled_set.proofs.shared_notifications.keep_beside.Given.{Over}
+use Rattle.ioc_journaled_set.proofs.shared_notifications.keep_beside.Goals.{After-is_table, After-append_two-appended}
 use Rattle.ioc_journaled_set.proofs.shared_notifications.keep_beside.Goals as goal
+
+-- What is asked of the pass of the puts with notification holds of the pass inside.
+module _ (g : Over) (c : After-is_table g) where
+  inside : (P : List Note → List Key → Type 0) → P c.args.all.now.seen puts_key → P (cell_view c.all.inside.pass).seen (cell_view c.all.inside.pass).owns
+  inside P p =
+      subst (λ (ks : List Key). P (cell_view c.all.inside.pass).seen ks) (ap (λ (v : View). v.owns) (sym c.all.invariant.holds))
+      (subst (λ (s : List Note). P s puts_key) (ap (λ (v : PutsView). v.seen) (sym c.all.view_is)) p)
+
+-- The list to which the call was added, and how the call moves the counts of the set.
+module _ (g : Over) (c : After-append_two-appended g) where
+  abbrev log : List Note
+  log = c.append_two-appended.ensures.added.0
+
+  added : AddedByBoth g.K.RecordKind.rules g.B.JournalName.base (cell_view c.args.pass.now).seen (cell_view c.args.pass.now).owns (cell_view c.all.inside.pass).seen puts_key c.args.entry log c.append_two-appended.new.desk.seen
+  added =
+      let k = g.K.RecordKind.rules in
+      let base = g.B.JournalName.base in
+      let one = cell_view c.args.pass.now in
+      subst (λ (ks : List Key). AddedByBoth k base one.seen one.owns (cell_view c.all.inside.pass).seen ks c.args.entry log c.append_two-appended.new.desk.seen) (ap (λ (v : View). v.owns) c.all.invariant.holds) c.append_two-appended.ensures.added.1
+
+  moved : AreMoved g.K.RecordKind.rules g.B.JournalName.base log c.append_two-appended.new.desk.seen c.args.before.now c.args.set.now.live
+  moved =
+      let k = g.K.RecordKind.rules in
+      let base = g.B.JournalName.base in
+      let one = cell_view c.args.pass.now in
+      let longer = c.append_two-appended.new.desk.seen in
+      c.requires.moves log longer (subst (λ (s : List Note). AddedByBoth k base one.seen one.owns s puts_key c.args.entry log longer) (ap (λ (v : PutsView). v.seen) c.all.view_is) added)
 
 pub append_two-appended-requires-clause-apart : goal.append_two-appended-requires-clause-apart
 append_two-appended-requires-clause-apart g c key has also =
@@ -24,34 +53,20 @@ append_two-appended-requires-clause-apart g c key has also =
 
 pub append_two-appended-requires-clause-follows : goal.append_two-appended-requires-clause-follows
 append_two-appended-requires-clause-follows g c =
-    let k = g.K.RecordKind.rules in
-    let base = g.B.EngineName.base in
     let one = cell_view c.args.pass.now in
-    let seen = ap (λ (v : PutsView). v.seen) (sym c.all.view_is) in
-    let owns = ap (λ (v : View). v.owns) (sym c.all.invariant.holds) in
-    subst (λ (ks : List Key). BothMayFollow k base one.seen one.owns (cell_view c.all.inside.pass).seen ks c.args.entry) owns
-    (subst (λ (s : List Note). BothMayFollow k base one.seen one.owns s puts_key c.args.entry) seen c.requires.follows)
+    inside g (goal.at.append_two-appended-requires-clause-follows g c).After-is_table (λ s ks. BothMayFollow g.K.RecordKind.rules g.B.JournalName.base one.seen one.owns s ks c.args.entry) c.requires.follows
 
 pub append_two-appended-requires-clause-sent : goal.append_two-appended-requires-clause-sent
 append_two-appended-requires-clause-sent g c =
-    let k = g.K.RecordKind.rules in
-    let base = g.B.EngineName.base in
     let one = cell_view c.args.pass.now in
-    let seen = ap (λ (v : PutsView). v.seen) (sym c.all.view_is) in
-    let owns = ap (λ (v : View). v.owns) (sym c.all.invariant.holds) in
-    subst (λ (ks : List Key). BothMaySend k base one.seen one.owns (cell_view c.all.inside.pass).seen ks c.args.entry c.args.counts.sent) owns
-    (subst (λ (s : List Note). BothMaySend k base one.seen one.owns s puts_key c.args.entry c.args.counts.sent) seen c.requires.sent)
+    inside g (goal.at.append_two-appended-requires-clause-sent g c).After-is_table (λ s ks. BothMaySend g.K.RecordKind.rules g.B.JournalName.base one.seen one.owns s ks c.args.entry c.args.counts.sent) c.requires.sent
 
 pub append_two-appended-requires-clause-counts : goal.append_two-appended-requires-clause-counts
 append_two-appended-requires-clause-counts g c =
-    let k = g.K.RecordKind.rules in
-    let base = g.B.EngineName.base in
     let one = cell_view c.args.pass.now in
-    let seen = ap (λ (v : PutsView). v.seen) (sym c.all.view_is) in
-    let owns = ap (λ (v : View). v.owns) (sym c.all.invariant.holds) in
     let counts = c.args.counts in
-    subst (λ (ks : List Key). BothMayCount k base one.seen one.owns (cell_view c.all.inside.pass).seen ks c.args.entry counts.share counts.before counts.after) owns
-    (subst (λ (s : List Note). BothMayCount k base one.seen one.owns s puts_key c.args.entry counts.share counts.before counts.after) seen c.requires.counts)
+    inside g (goal.at.append_two-appended-requires-clause-counts g c).After-is_table
+    (λ s ks. BothMayCount g.K.RecordKind.rules g.B.JournalName.base one.seen one.owns s ks c.args.entry counts.share counts.before counts.after) c.requires.counts
 
 pub place_begun-requires-clause-room : goal.place_begun-requires-clause-room
 place_begun-requires-clause-room g c =
@@ -63,49 +78,31 @@ place_begun-requires-clause-new g c =
 
 pub append_two-appended-requires-clause-begins : goal.append_two-appended-requires-clause-begins
 append_two-appended-requires-clause-begins g c =
-    let seen = ap (λ (v : PutsView). v.seen) (sym c.all.view_is) in
-    let owns = ap (λ (v : View). v.owns) (sym c.all.invariant.holds) in
-    subst (λ (ks : List Key). MayBegin (cell_view c.all.inside.pass).seen ks c.args.entry.event) owns
-    (subst (λ (s : List Note). MayBegin s puts_key c.args.entry.event) seen (may_begin_by (number_given c.args.entry.event) c.args.all.now c.requires.begins))
+    inside g (goal.at.append_two-appended-requires-clause-begins g c).After-is_table (λ s ks. MayBegin s ks c.args.entry.event) (may_begin_by (number_given c.args.entry.event) c.args.all.now c.requires.begins)
 
 pub recount-requires-clause-there : goal.recount-requires-clause-there
 recount-requires-clause-there g c n =
-    let k = g.K.RecordKind.rules in
-    let base = g.B.EngineName.base in
-    let one = cell_view c.args.pass.now in
-    let seen = ap (λ (v : PutsView). v.seen) c.all.view_is in
-    let owns = ap (λ (v : View). v.owns) c.all.invariant.holds in
-    let log = c.append_two-appended.ensures.added.0 in
-    let longer = c.append_two-appended.new.desk.seen in
-    let added = subst (λ (ks : List Key). AddedByBoth k base one.seen one.owns (cell_view c.all.inside.pass).seen ks c.args.entry log longer) owns c.append_two-appended.ensures.added.1 in
-    let moved = c.requires.moves log longer (subst (λ (s : List Note). AddedByBoth k base one.seen one.owns s puts_key c.args.entry log longer) seen added) in
-    before_there k c.live_lasts.ensures base (cell_view c.all.inside.pass).seen log longer c.all.inside.table.live c.args.before.now c.args.set.now.live c.all.invariant.counted added.also_goes_on added.legal moved n
+    let at = (goal.at.recount-requires-clause-there g c).After-append_two-appended in
+    let seen = (cell_view c.all.inside.pass).seen in
+    before_there g.K.RecordKind.rules c.live_lasts.ensures g.B.JournalName.base seen (log g at) c.append_two-appended.new.desk.seen c.all.inside.table.live c.args.before.now c.args.set.now.live c.all.invariant.counted (added g at).also_goes_on (added g at).legal (moved g at) n
 
 pub recount-requires-clause-fits : goal.recount-requires-clause-fits
 recount-requires-clause-fits g c n =
-    let k = g.K.RecordKind.rules in
-    let base = g.B.EngineName.base in
-    let one = cell_view c.args.pass.now in
-    let seen = ap (λ (v : PutsView). v.seen) c.all.view_is in
-    let owns = ap (λ (v : View). v.owns) c.all.invariant.holds in
-    let log = c.append_two-appended.ensures.added.0 in
-    let longer = c.append_two-appended.new.desk.seen in
-    let added = subst (λ (ks : List Key). AddedByBoth k base one.seen one.owns (cell_view c.all.inside.pass).seen ks c.args.entry log longer) owns c.append_two-appended.ensures.added.1 in
-    let moved = c.requires.moves log longer (subst (λ (s : List Note). AddedByBoth k base one.seen one.owns s puts_key c.args.entry log longer) seen added) in
+    let at = (goal.at.recount-requires-clause-fits g c).After-append_two-appended in
+    let seen = (cell_view c.all.inside.pass).seen in
     subst (λ (ls : List Live). holders_in n c.all.inside.table.live + holders_in n ls < 2 ^ 64 + holders_in n c.args.before.now) (sym c.live_puts.ensures)
-    (sums_fit k c.live_lasts.ensures base (cell_view c.all.inside.pass).seen log longer c.all.inside.table.live c.args.before.now c.args.set.now.live c.all.invariant.counted added.also_goes_on added.legal moved n)
+    (sums_fit g.K.RecordKind.rules c.live_lasts.ensures g.B.JournalName.base seen (log g at) c.append_two-appended.new.desk.seen c.all.inside.table.live c.args.before.now c.args.set.now.live c.all.invariant.counted (added g at).also_goes_on (added g at).legal (moved g at) n)
 
 pub invariant_of-all : goal.invariant_of-all
 invariant_of-all g c =
     let k = g.K.RecordKind.rules in
-    let base = g.B.EngineName.base in
+    let base = g.B.JournalName.base in
     let one = cell_view c.args.pass.now in
-    let seen = ap (λ (v : PutsView). v.seen) c.all.view_is in
-    let owns = ap (λ (v : View). v.owns) c.all.invariant.holds in
-    let log = c.append_two-appended.ensures.added.0 in
+    let at = (goal.at.invariant_of-all g c).After-append_two-appended in
     let longer = c.append_two-appended.new.desk.seen in
-    let added = subst (λ (ks : List Key). AddedByBoth k base one.seen one.owns (cell_view c.all.inside.pass).seen ks c.args.entry log longer) owns c.append_two-appended.ensures.added.1 in
-    let moved = c.requires.moves log longer (subst (λ (s : List Note). AddedByBoth k base one.seen one.owns s puts_key c.args.entry log longer) seen added) in
+    let added = added g at in
+    let moved = moved g at in
+    let log = log g at in
     let counts = subst (λ (ls : List Live). (n : ℕ) → holders_in n c.recount.new.table.live + holders_in n c.args.before.now ≡ holders_in n c.all.inside.table.live + holders_in n ls) c.live_puts.ensures c.recount.ensures.counts in
     let told = counted_then k c.live_lasts.ensures base (cell_view c.all.inside.pass).seen log longer c.all.inside.table.live c.args.before.now c.args.set.now.live c.all.invariant.counted added.also_goes_on added.legal moved c.recount.new.table.live counts in
     let other = c.append_two-appended.ensures.other in
@@ -142,7 +139,7 @@ invariant_of-all g c =
 pub returns-clause-added : goal.returns-clause-added
 returns-clause-added g c =
     let k = g.K.RecordKind.rules in
-    let base = g.B.EngineName.base in
+    let base = g.B.JournalName.base in
     let one = cell_view c.args.pass.now in
     let seen = ap (λ (v : PutsView). v.seen) c.all.view_is in
     let owns = ap (λ (v : View). v.owns) c.all.invariant.holds in

@@ -12,9 +12,9 @@ returns-clause-told g c =
       held = c.deref_mut.result.now;
       held_then = c.get-told.new.self;
       here = subst (λ (s : HeldView g.row.K.Denot g.row.D.Denot). Contains (numbers_of s) c.args.number) (sym c.deref_mut.ensures.value) c.in_ok-held.ensures.here;
-      before = subst (λ (s : HeldView g.row.K.Denot g.row.D.Denot). IsSoundlyHeld k g.B.EngineName.base s) (sym c.deref_mut.ensures.value) c.in_ok-held.ensures.sound;
+      before = subst (λ (s : HeldView g.row.K.Denot g.row.D.Denot). IsSoundlyHeld k g.B.JournalName.base s) (sym c.deref_mut.ensures.value) c.in_ok-held.ensures.sound;
       tells = tells;
-      after = subst (λ (s : HeldView g.row.K.Denot g.row.D.Denot). IsSoundlyHeld k g.B.EngineName.base s) c.deref.ensures c.is_sound.ensures;
+      after = subst (λ (s : HeldView g.row.K.Denot g.row.D.Denot). IsSoundlyHeld k g.B.JournalName.base s) c.deref.ensures c.is_sound.ensures;
     })
     c.get-told.ensures.tells
 
@@ -22,7 +22,7 @@ pub returns-clause-refused : goal.returns-clause-refused
 returns-clause-refused g c =
     let k = g.K.RecordKind.rules in
     err_then _ _ c.get-told.result
-    (λ e why. refused_by_set k g.B.EngineName.base c.deref_mut.result.now c.args.self.now c.args.number (Get c.args.number c.args.field) e
+    (λ e why. refused_by_set k g.B.JournalName.base c.deref_mut.result.now c.args.self.now c.args.number (Get c.args.number c.args.field) e
     (subst (λ (s : HeldView g.row.K.Denot g.row.D.Denot). Contains (numbers_of s) c.args.number) (sym c.deref_mut.ensures.value) c.in_ok-held.ensures.here)
-    (subst (λ (s : HeldView g.row.K.Denot g.row.D.Denot). IsSoundlyHeld k g.B.EngineName.base s) (sym c.deref_mut.ensures.value) c.in_ok-held.ensures.sound) why)
+    (subst (λ (s : HeldView g.row.K.Denot g.row.D.Denot). IsSoundlyHeld k g.B.JournalName.base s) (sym c.deref_mut.ensures.value) c.in_ok-held.ensures.sound) why)
     c.get-told.ensures.refused

@@ -6,7 +6,7 @@ use Rattle.ioc_engine_core.proofs.engine.EngineCore.give_up.Goals as goal
 
 pub returns-clause-gave_up : goal.returns-clause-gave_up
 returns-clause-gave_up g c =
-    let Sound = λ (sets : List (HeldView g.row.K.Denot g.row.D.Denot)). All (IsSoundlyHeld g.K.RecordKind.rules g.B.EngineName.base) sets in
+    let Sound = λ (sets : List (HeldView g.row.K.Denot g.row.D.Denot)). All (IsSoundlyHeld g.K.RecordKind.rules g.B.JournalName.base) sets in
     IfOk-weaker c.cancel_on-given.result _ _ (λ given some. IfSome_then given some (λ x gave. record {
       puts = c.deref_mut.result.now;
       puts_then = c.cancel_on-given.new.all;

@@ -7,7 +7,7 @@ use Rattle.ioc_engine_core.proofs.engine.EngineCore.parts.Given as goal
 -- Each part was seen, each record so far is in one of them, and so is each marked record.
 abbrev pub invariant-loop-number : goal.invariant-loop-number
 invariant-loop-number g l = record {
-  seen : All (λ v. IsPartSeen g.row.D.Denot g.K.RecordKind.rules g.B.EngineName.base v.items) l.parts.items;
+  seen : All (λ v. IsPartSeen g.row.D.Denot g.K.RecordKind.rules g.B.JournalName.base v.items) l.parts.items;
   marked : (q : ℕ) → IsMarked l.marks.items q → Any (λ v. Contains v.items q) l.parts.items;
   each : (q : ℕ) → q < l.number → Any (λ v. Contains v.items q) l.parts.items;
 }

@@ -11,16 +11,16 @@ returns-clause-served g c =
       held = c.deref_mut.result.now;
       held_then = c.serve.new.self;
       here = subst (λ (s : HeldView g.row.K.Denot g.row.D.Denot). Contains (numbers_of s) c.args.number) (sym c.deref_mut.ensures.value) c.in_ok-held.ensures.here;
-      before = subst (λ (s : HeldView g.row.K.Denot g.row.D.Denot). IsSoundlyHeld k g.B.EngineName.base s) (sym c.deref_mut.ensures.value) c.in_ok-held.ensures.sound;
+      before = subst (λ (s : HeldView g.row.K.Denot g.row.D.Denot). IsSoundlyHeld k g.B.JournalName.base s) (sym c.deref_mut.ensures.value) c.in_ok-held.ensures.sound;
       serves = c.in_ok-reply.ensures.serves;
-      after = subst (λ (s : HeldView g.row.K.Denot g.row.D.Denot). IsSoundlyHeld k g.B.EngineName.base s) c.deref-2.ensures c.is_sound.ensures;
+      after = subst (λ (s : HeldView g.row.K.Denot g.row.D.Denot). IsSoundlyHeld k g.B.JournalName.base s) c.deref-2.ensures c.is_sound.ensures;
     }
 
 pub returns-in_err-reply-clause-refused : goal.returns-in_err-reply-clause-refused
 returns-in_err-reply-clause-refused g c =
     let k = g.K.RecordKind.rules in
     let p = err_from_is_err_and c.from_residual-in_err-reply.result c.from_residual-in_err-reply.ensures.1 in
-    rw (p.1, p.2) (refused_by_set k g.B.EngineName.base c.deref_mut.result.now c.args.self.now c.args.number c.args.event.now _
+    rw (p.1, p.2) (refused_by_set k g.B.JournalName.base c.deref_mut.result.now c.args.self.now c.args.number c.args.event.now _
     (subst (λ (s : HeldView g.row.K.Denot g.row.D.Denot). Contains (numbers_of s) c.args.number) (sym c.deref_mut.ensures.value) c.in_ok-held.ensures.here)
-    (subst (λ (s : HeldView g.row.K.Denot g.row.D.Denot). IsSoundlyHeld k g.B.EngineName.base s) (sym c.deref_mut.ensures.value) c.in_ok-held.ensures.sound)
+    (subst (λ (s : HeldView g.row.K.Denot g.row.D.Denot). IsSoundlyHeld k g.B.JournalName.base s) (sym c.deref_mut.ensures.value) c.in_ok-held.ensures.sound)
     c.in_err-reply.ensures.refused)

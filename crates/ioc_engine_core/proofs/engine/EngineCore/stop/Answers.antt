@@ -21,7 +21,7 @@ use Rattle.ioc_engine_core.proofs.engine.EngineCore.stop.Goals as goal
 pub returns-clause-end : goal.returns-clause-end
 returns-clause-end g c =
     let k = g.K.RecordKind.rules in
-    let base = g.B.EngineName.base in
+    let base = g.B.JournalName.base in
     let e = c.settle.ensures in
     let count : c.self.inside.sets ≡ c.args.self = c.self.view_is in
     let all = subst (λ (n : ℕ). HoldEach numbers_of c.gather-all.result.items n) count c.gather-all.ensures.all in
@@ -47,7 +47,7 @@ settle-requires-clause-all g c =
 pub returns-clause-tally : goal.returns-clause-tally
 returns-clause-tally g c =
     let k = g.K.RecordKind.rules in
-    let base = g.B.EngineName.base in
+    let base = g.B.JournalName.base in
     let e = c.settle.ensures in
     let list = c.gather-all.result.items in
     let filled = ap (λ (j : JournalOf Note). j.filled) (c.new.ensures ∙ c.give_up_all-once_dropped.ensures.same) ∙ ap (λ (j : JournalOf Note). j.filled) e.journal in

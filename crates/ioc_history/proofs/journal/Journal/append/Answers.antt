@@ -39,7 +39,7 @@ returns-clause-added g c =
     let i = c.self.invariant in
     let e = c.append-pass.ensures in
     let ends = ap (λ (v : View). v.seen) e.keeper.1 ∙ ends-so (one-set c.self.invariant c.desk.invariant c.desk.view_is c.args.made c.requires.stored c.requires.may c.append-pass.ensures.goes_on) in
-    subst (λ (l : List Note). Added g.K.RecordKind.rules g.B.EngineName.base (cell_view c.args.set.now).seen (cell_view c.args.set.now).owns g.S.EntryName.entry l (cell_view c.append-pass.new.master).seen) (ap (λ (j : JournalOf Note). j.filled) c.self.view_is)
+    subst (λ (l : List Note). Added g.K.RecordKind.rules g.B.JournalName.base (cell_view c.args.set.now).seen (cell_view c.args.set.now).owns g.S.EntryName.entry l (cell_view c.append-pass.new.master).seen) (ap (λ (j : JournalOf Note). j.filled) c.self.view_is)
     (record { desk = c.desk.inside.number; call = c.desk.inside.next; own = (cell_view c.desk.inside.pass).owns; sound = i.sound; goes_on = e.goes_on.0; legal = i.account.legal; ends = ends })
 
 pub returns-clause-tickets : goal.returns-clause-tickets

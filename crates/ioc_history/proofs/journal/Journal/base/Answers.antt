@@ -9,5 +9,5 @@ use Rattle.ioc_history.proofs.journal.Journal.base.Goals as goal
 pub returns-clause-legal : goal.returns-clause-legal
 returns-clause-legal g c =
     let k = g.K.RecordKind.rules in
-    let base = g.B.EngineName.base in
+    let base = g.B.JournalName.base in
     subst (λ (j : JournalOf Note). IsLegal k (map_of k base (take j.dropped j.filled)) (drop j.dropped j.filled)) c.self.view_is (legal_from k base c.self.inside.dropped (cell_view c.self.inside.pass).seen c.self.invariant.account.legal)

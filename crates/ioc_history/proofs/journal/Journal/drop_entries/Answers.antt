@@ -15,7 +15,7 @@ pub invariant_of-self : goal.invariant_of-self
 invariant_of-self g c =
     let i = c.self.invariant in
     let k = g.K.RecordKind.rules in
-    let base = g.B.EngineName.base in
+    let base = g.B.JournalName.base in
     let seen = (cell_view c.self.inside.pass).seen in
     let all = c.len-calls.result in
     let is : all ≡ length seen = c.len-calls.ensures.count ∙ sym (ap (λ (j : JournalOf Note). length j.filled) c.self.view_is) in

@@ -28,15 +28,15 @@ invariant_of-self g c =
       items_are = i.items_are ∙ ap (λ l. drop c.self.inside.dropped (calls l)) (sym seen);
       within = subst (λ (l : List Note). c.self.inside.dropped ≤ length l) (sym seen) i.within;
       few = i.few;
-      leads_from = subst (λ (l : List Note). LeadsFrom g.K.RecordKind.rules g.B.EngineName.base c.self.inside.from c.self.inside.dropped l) (sym seen) i.leads_from;
+      leads_from = subst (λ (l : List Note). LeadsFrom g.K.RecordKind.rules g.B.JournalName.base c.self.inside.from c.self.inside.dropped l) (sym seen) i.leads_from;
       sound = i.sound;
-      account = subst (IsAccount g.K.RecordKind.rules g.B.EngineName.base) (sym seen) i.account;
+      account = subst (IsAccount g.K.RecordKind.rules g.B.JournalName.base) (sym seen) i.account;
       given = λ k has kind.
           ⊎_elim (λ (same : desk_key d ≡ k). let n = ap (λ (p : Key). p.1) same in omega arith)
           (λ (was : Has k (cell_view c.self.inside.pass).born). let lt = i.given k was kind in omega arith) (subst (Has k) born has);
       new_desk = λ m le. subst (λ l. Below m 0 (calls l)) (sym seen) (i.new_desk m (omega arith));
-      tickets_are = subst (λ (l : List Note). AreTicketsOf g.K.RecordKind.rules g.B.EngineName.base l c.self.inside.tickets.counts c.self.inside.tickets.sent) (sym seen) i.tickets_are;
-      counted = subst (λ (l : List Note). c.self.inside.counted ≡ counts_of g.K.RecordKind.rules g.B.EngineName.base l) (sym seen) i.counted;
+      tickets_are = subst (λ (l : List Note). AreTicketsOf g.K.RecordKind.rules g.B.JournalName.base l c.self.inside.tickets.counts c.self.inside.tickets.sent) (sym seen) i.tickets_are;
+      counted = subst (λ (l : List Note). c.self.inside.counted ≡ counts_of g.K.RecordKind.rules g.B.JournalName.base l) (sym seen) i.counted;
     }
 
 pub returns-clause-desk : goal.returns-clause-desk

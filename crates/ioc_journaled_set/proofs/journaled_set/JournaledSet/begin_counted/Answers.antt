@@ -30,83 +30,62 @@ use Rattle.ioc_events.specs.declared.event.Event.TheVariants.{Notify}
 use Rattle.ioc_history.specs.Counting.{BothMaySend}
 use Rattle.ioc_journaled_set.proofs.Counting.{some_len}
 use Rattle.ioc_journaled_set.proofs.Shares.{backed, counted_then, is_there}
-use Rattle.ioc_journaled_set.proofs.Beside.{both_follow, both_send, both_count, held_beside, moved_beside, ended_beside}
+use Rattle.ioc_journaled_set.proofs.Beside.{IsDoneBeside, both_follow, both_send, both_count, held_beside, moved_beside, ended_beside}
 use Rattle.ioc_journaled_set.proofs.Counted.{up_to_date_on, keyed_before}
 use Rattle.ioc_journaled_set.proofs.Taken.{fewer_live}
 use Rattle.ioc_journaled_set.proofs.Ended.{have_ended}
+use Rattle.ioc_journaled_set.proofs.journaled_set.JournaledSet.begin_counted.Given.{Over}
+use Rattle.ioc_journaled_set.proofs.journaled_set.JournaledSet.begin_counted.Goals.{After-is_counted}
 use Rattle.ioc_journaled_set.proofs.journaled_set.JournaledSet.begin_counted.Goals as goal
+
+-- The set's pass, and the event as it was done on the set.
+module _ (g : Over) (c : After-is_counted g) where
+  held : IsHeld g.K.RecordKind.rules g.B.JournalName.base (IsDeviceOf g.D.Device.gives g.B.SetsName.devices) g.B.CellName.table (Some c.in-Some.pass) c.self.inside.set
+  held = subst (λ (o : Option Pass). IsHeld g.K.RecordKind.rules g.B.JournalName.base (IsDeviceOf g.D.Device.gives g.B.SetsName.devices) g.B.CellName.table o c.self.inside.set) (sym c.take.ensures.value ∙ c.in-Some.is) c.self.invariant.0
+
+  there : (n : ℕ) → Contains (names (Notify c.args.target c.args.notification c.args.field c.args.given)) n → Has (now_of c.self.inside.set) n
+  there n has = subst (λ (m : ℕ). Has (now_of c.self.inside.set) m) (one_there c.args.target n has) (key_there c.self.inside.set.records c.args.target (subst (λ (v : HeldView g.row.K.Denot g.row.D.Denot). Contains (numbers_of v) c.args.target) (sym c.self.view_is) c.requires.there))
+
+  can : CanBegin c.deref_mut-all.result.now c.args.notification
+  can = subst (λ (v : PutsView). CanBegin v c.args.notification) (sym c.deref_mut-all.ensures.value) c.lock_taken-guard.ensures.can
+
+  done : IsDoneBeside g.K.RecordKind.rules g.D.Device.gives c.self.inside.set c.run_counted.new.set c.args.moment (Notify c.args.target c.args.notification c.args.field c.args.given) c.in_ok-ran.ran.reply (world_of c.run_counted.new.buffers.store) g.B.JournalName.base (cell_view c.in-Some.pass).seen c.deref_mut-all.result.now.seen (cell_view c.in-Some.pass).owns
+      c.in_ok-ran.ran.entry
+  done = record {
+    does = c.in_ok-ran.ensures.does;
+    there = there;
+    laws = c.calls_have_laws.ensures;
+    covers = held.owner.covers;
+    holds = held.holds;
+    cancels = λ log sound go legal h. tt;
+    asks =
+        λ log sound go legal h. place_alike g.K.RecordKind.rules c.calls_have_laws.ensures.place c.calls_have_laws.ensures.live_lasts c.calls_have_laws.ensures.sound c.lines_tell_holders.ensures.live c.lines_tell_holders.ensures.held g.B.JournalName.base (now_of c.self.inside.set) c.deref_mut-all.result.now.seen log c.deref_mut-all.result.now.live c.args.notification c.args.moment
+        c.is_counted.ensures.table c.is_counted.ensures.counted sound go legal h c.is_sound.ensures.counted (fewer_live c.deref_mut-all.result.now c.args.notification can) can.free;
+    entry_is = entry_is g.K.RecordKind.rules g.D.Device.gives c.self.inside.set c.run_counted.new.set c.args.moment (Notify c.args.target c.args.notification c.args.field c.args.given) c.in_ok-ran.ran.reply (world_of c.run_counted.new.buffers.store) c.in_ok-ran.ensures.does there (answers_of (world_of c.run_counted.new.buffers.store).calls) refl ∙ sym c.in_ok-ran.ensures.entry;
+  }
 
 pub unreachable-requires : goal.unreachable-requires
 unreachable-requires g c =
     let k = g.K.RecordKind.rules in
     let none : c.self.inside.pass ≡ None = sym c.take.ensures.value ∙ c.in_default.is in
-    let held = subst (λ (o : Option Pass). IsHeld k g.B.EngineName.base (IsDeviceOf g.D.Device.gives g.B.SetsName.devices) g.B.CellName.table o c.self.inside.set) none c.self.invariant.0 in
+    let held = subst (λ (o : Option Pass). IsHeld k g.B.JournalName.base (IsDeviceOf g.D.Device.gives g.B.SetsName.devices) g.B.CellName.table o c.self.inside.set) none c.self.invariant.0 in
     held.owner c.args.target (key_there c.self.inside.set.records c.args.target (subst (λ (v : HeldView g.row.K.Denot g.row.D.Denot). Contains (numbers_of v) c.args.target) (sym c.self.view_is) c.requires.there))
 
 pub keep_beside-appended-requires-clause-follows : goal.keep_beside-appended-requires-clause-follows
 keep_beside-appended-requires-clause-follows g c =
-    let k = g.K.RecordKind.rules in
-    let base = g.B.EngineName.base in
-    let event = Notify c.args.target c.args.notification c.args.field c.args.given in
-    let is : c.self.inside.pass ≡ Some c.in-Some.pass = sym c.take.ensures.value ∙ c.in-Some.is in
-    let held = subst (λ (o : Option Pass). IsHeld k base (IsDeviceOf g.D.Device.gives g.B.SetsName.devices) g.B.CellName.table o c.self.inside.set) is c.self.invariant.0 in
-    let own = key_there c.self.inside.set.records c.args.target (subst (λ (v : HeldView g.row.K.Denot g.row.D.Denot). Contains (numbers_of v) c.args.target) (sym c.self.view_is) c.requires.there) in
-    let there : (n : ℕ) → Contains (names event) n → Has (now_of c.self.inside.set) n = λ n has. subst (λ (m : ℕ). Has (now_of c.self.inside.set) m) (one_there c.args.target n has) own in
-    let does = c.in_ok-ran.ensures.does in
-    let come_to = world_of c.run_counted.new.buffers.store in
-    let entry = entry_is k g.D.Device.gives c.self.inside.set c.run_counted.new.set c.args.moment event c.in_ok-ran.ran.reply come_to does there (answers_of come_to.calls) refl ∙ sym c.in_ok-ran.ensures.entry in
-    let also = c.deref_mut-all.result.now.seen in
-    let can = subst (λ (v : PutsView). CanBegin v c.args.notification) (sym c.deref_mut-all.ensures.value) c.lock_taken-guard.ensures.can in
-    both_follow k g.D.Device.gives c.self.inside.set c.run_counted.new.set c.args.moment event c.in_ok-ran.ran.reply come_to does there
-    c.holding_lasts.ensures c.events_are_held.ensures.event c.holders_move.ensures.moves c.parts_share_what_is_held.ensures.alike
-    base (cell_view c.in-Some.pass).seen also (cell_view c.in-Some.pass).owns held.owner.covers held.holds
-    (λ log sound go legal h. tt)
-    (λ log sound go legal h. place_alike k c.one_more_has_a_place.ensures c.live_lasts.ensures c.lists_leave_sound.ensures.after c.lines_tell_holders.ensures.live c.lines_tell_holders.ensures.held base (now_of c.self.inside.set) also log c.deref_mut-all.result.now.live c.args.notification c.args.moment
-    c.is_counted.ensures.table c.is_counted.ensures.counted sound go legal h c.is_sound.ensures.counted (fewer_live c.deref_mut-all.result.now c.args.notification can) can.free) _ entry
+    let at = (goal.at.keep_beside-appended-requires-clause-follows g c).After-is_counted in
+    both_follow (done g at)
 
 pub keep_beside-appended-requires-clause-sent : goal.keep_beside-appended-requires-clause-sent
 keep_beside-appended-requires-clause-sent g c =
-    let k = g.K.RecordKind.rules in
-    let base = g.B.EngineName.base in
-    let event = Notify c.args.target c.args.notification c.args.field c.args.given in
-    let is : c.self.inside.pass ≡ Some c.in-Some.pass = sym c.take.ensures.value ∙ c.in-Some.is in
-    let held = subst (λ (o : Option Pass). IsHeld k base (IsDeviceOf g.D.Device.gives g.B.SetsName.devices) g.B.CellName.table o c.self.inside.set) is c.self.invariant.0 in
-    let own = key_there c.self.inside.set.records c.args.target (subst (λ (v : HeldView g.row.K.Denot g.row.D.Denot). Contains (numbers_of v) c.args.target) (sym c.self.view_is) c.requires.there) in
-    let there : (n : ℕ) → Contains (names event) n → Has (now_of c.self.inside.set) n = λ n has. subst (λ (m : ℕ). Has (now_of c.self.inside.set) m) (one_there c.args.target n has) own in
-    let does = c.in_ok-ran.ensures.does in
-    let come_to = world_of c.run_counted.new.buffers.store in
-    let entry = entry_is k g.D.Device.gives c.self.inside.set c.run_counted.new.set c.args.moment event c.in_ok-ran.ran.reply come_to does there (answers_of come_to.calls) refl ∙ sym c.in_ok-ran.ensures.entry in
-    let also = c.deref_mut-all.result.now.seen in
-    let can = subst (λ (v : PutsView). CanBegin v c.args.notification) (sym c.deref_mut-all.ensures.value) c.lock_taken-guard.ensures.can in
-    subst (λ (n : ℕ). BothMaySend k base (cell_view c.in-Some.pass).seen (cell_view c.in-Some.pass).owns also puts_key c.in_ok-ran.ran.entry n) (sym c.counts_since-counts.ensures.sent)
-    (both_send k g.D.Device.gives c.self.inside.set c.run_counted.new.set c.args.moment event c.in_ok-ran.ran.reply come_to does there
-    c.holding_lasts.ensures c.events_are_held.ensures.event c.holders_move.ensures.moves c.parts_share_what_is_held.ensures.alike
-    base (cell_view c.in-Some.pass).seen also (cell_view c.in-Some.pass).owns held.owner.covers held.holds
-    (λ log sound go legal h. tt)
-    (λ log sound go legal h. place_alike k c.one_more_has_a_place.ensures c.live_lasts.ensures c.lists_leave_sound.ensures.after c.lines_tell_holders.ensures.live c.lines_tell_holders.ensures.held base (now_of c.self.inside.set) also log c.deref_mut-all.result.now.live c.args.notification c.args.moment
-    c.is_counted.ensures.table c.is_counted.ensures.counted sound go legal h c.is_sound.ensures.counted (fewer_live c.deref_mut-all.result.now c.args.notification can) can.free) c.parts_count_alike.ensures _ entry)
+    let at = (goal.at.keep_beside-appended-requires-clause-sent g c).After-is_counted in
+    subst (λ (n : ℕ). BothMaySend g.K.RecordKind.rules g.B.JournalName.base (cell_view c.in-Some.pass).seen (cell_view c.in-Some.pass).owns c.deref_mut-all.result.now.seen puts_key c.in_ok-ran.ran.entry n) (sym c.counts_since-counts.ensures.sent)
+    (both_send (done g at))
 
 pub keep_beside-appended-requires-clause-counts : goal.keep_beside-appended-requires-clause-counts
 keep_beside-appended-requires-clause-counts g c =
-    let k = g.K.RecordKind.rules in
-    let base = g.B.EngineName.base in
-    let event = Notify c.args.target c.args.notification c.args.field c.args.given in
-    let is : c.self.inside.pass ≡ Some c.in-Some.pass = sym c.take.ensures.value ∙ c.in-Some.is in
-    let held = subst (λ (o : Option Pass). IsHeld k base (IsDeviceOf g.D.Device.gives g.B.SetsName.devices) g.B.CellName.table o c.self.inside.set) is c.self.invariant.0 in
-    let own = key_there c.self.inside.set.records c.args.target (subst (λ (v : HeldView g.row.K.Denot g.row.D.Denot). Contains (numbers_of v) c.args.target) (sym c.self.view_is) c.requires.there) in
-    let there : (n : ℕ) → Contains (names event) n → Has (now_of c.self.inside.set) n = λ n has. subst (λ (m : ℕ). Has (now_of c.self.inside.set) m) (one_there c.args.target n has) own in
-    let does = c.in_ok-ran.ensures.does in
-    let come_to = world_of c.run_counted.new.buffers.store in
-    let entry = entry_is k g.D.Device.gives c.self.inside.set c.run_counted.new.set c.args.moment event c.in_ok-ran.ran.reply come_to does there (answers_of come_to.calls) refl ∙ sym c.in_ok-ran.ensures.entry in
-    let also = c.deref_mut-all.result.now.seen in
-    let can = subst (λ (v : PutsView). CanBegin v c.args.notification) (sym c.deref_mut-all.ensures.value) c.lock_taken-guard.ensures.can in
-    both_count k g.D.Device.gives c.self.inside.set c.run_counted.new.set c.args.moment event c.in_ok-ran.ran.reply come_to does there
-    c.holding_lasts.ensures c.events_are_held.ensures.event c.holders_move.ensures.moves c.parts_share_what_is_held.ensures.alike
-    base (cell_view c.in-Some.pass).seen also (cell_view c.in-Some.pass).owns held.owner.covers held.holds
-    (λ log sound go legal h. tt)
-    (λ log sound go legal h. place_alike k c.one_more_has_a_place.ensures c.live_lasts.ensures c.lists_leave_sound.ensures.after c.lines_tell_holders.ensures.live c.lines_tell_holders.ensures.held base (now_of c.self.inside.set) also log c.deref_mut-all.result.now.live c.args.notification c.args.moment
-    c.is_counted.ensures.table c.is_counted.ensures.counted sound go legal h c.is_sound.ensures.counted (fewer_live c.deref_mut-all.result.now c.args.notification can) can.free) c.parts_count_alike.ensures _ entry
-    c.counts_since-counts.result.share c.counts_since-counts.result.before c.counts_since-counts.result.after (λ none. is_there c.counts_since-counts.ensures.share none)
+    let at = (goal.at.keep_beside-appended-requires-clause-counts g c).After-is_counted in
+    both_count (done g at) c.counts_since-counts.result.share c.counts_since-counts.result.before c.counts_since-counts.result.after (λ none. is_there c.counts_since-counts.ensures.share none)
     (c.counts_since-counts.ensures.counts.0 ∙ c.tally-tally.ensures) c.counts_since-counts.ensures.counts.1
 
 pub keep_beside-appended-requires-clause-backed : goal.keep_beside-appended-requires-clause-backed
@@ -117,123 +96,77 @@ keep_beside-appended-requires-clause-backed g c =
 
 pub keep_beside-appended-requires-clause-begins : goal.keep_beside-appended-requires-clause-begins
 keep_beside-appended-requires-clause-begins g c =
-    let can = subst (λ (v : PutsView). CanBegin v c.args.notification) (sym c.deref_mut-all.ensures.value) c.lock_taken-guard.ensures.can in
+    let can = can g (goal.at.keep_beside-appended-requires-clause-begins g c).After-is_counted in
     subst (λ (x : Entry). IfSome (number_given x.event) (λ number. CanBegin c.deref_mut-all.result.now number)) (sym c.in_ok-ran.ensures.entry) can
 
 pub keep_beside-appended-requires-clause-moves : goal.keep_beside-appended-requires-clause-moves
 keep_beside-appended-requires-clause-moves g c =
-    let k = g.K.RecordKind.rules in
-    let base = g.B.EngineName.base in
-    let event = Notify c.args.target c.args.notification c.args.field c.args.given in
-    let is : c.self.inside.pass ≡ Some c.in-Some.pass = sym c.take.ensures.value ∙ c.in-Some.is in
-    let held = subst (λ (o : Option Pass). IsHeld k base (IsDeviceOf g.D.Device.gives g.B.SetsName.devices) g.B.CellName.table o c.self.inside.set) is c.self.invariant.0 in
-    let own = key_there c.self.inside.set.records c.args.target (subst (λ (v : HeldView g.row.K.Denot g.row.D.Denot). Contains (numbers_of v) c.args.target) (sym c.self.view_is) c.requires.there) in
-    let there : (n : ℕ) → Contains (names event) n → Has (now_of c.self.inside.set) n = λ n has. subst (λ (m : ℕ). Has (now_of c.self.inside.set) m) (one_there c.args.target n has) own in
-    let does = c.in_ok-ran.ensures.does in
-    let come_to = world_of c.run_counted.new.buffers.store in
-    let entry = entry_is k g.D.Device.gives c.self.inside.set c.run_counted.new.set c.args.moment event c.in_ok-ran.ran.reply come_to does there (answers_of come_to.calls) refl ∙ sym c.in_ok-ran.ensures.entry in
-    let also = c.deref_mut-all.result.now.seen in
-    let can = subst (λ (v : PutsView). CanBegin v c.args.notification) (sym c.deref_mut-all.ensures.value) c.lock_taken-guard.ensures.can in
-    λ log longer added. subst (λ (ls : List Live). AreMoved k base log longer ls c.run_counted.new.set.live) (sym (c.deref.ensures.value ∙ c.in_ok-ran.ensures.before))
-    (moved_beside k g.D.Device.gives c.self.inside.set c.run_counted.new.set c.args.moment event c.in_ok-ran.ran.reply come_to does there
-    c.holding_lasts.ensures c.events_are_held.ensures.event c.holders_move.ensures.moves c.parts_share_what_is_held.ensures.alike
-    base (cell_view c.in-Some.pass).seen also (cell_view c.in-Some.pass).owns held.owner.covers held.holds
-    (λ log sound go legal h. tt)
-    (λ log sound go legal h. place_alike k c.one_more_has_a_place.ensures c.live_lasts.ensures c.lists_leave_sound.ensures.after c.lines_tell_holders.ensures.live c.lines_tell_holders.ensures.held base (now_of c.self.inside.set) also log c.deref_mut-all.result.now.live c.args.notification c.args.moment
-    c.is_counted.ensures.table c.is_counted.ensures.counted sound go legal h c.is_sound.ensures.counted (fewer_live c.deref_mut-all.result.now c.args.notification can) can.free) _ entry log longer added
-    c.holders_move.ensures.fewer c.holders_move.ensures.few c.lists_leave_sound.ensures.after c.lines_tell_holders.ensures.holders c.is_sound.ensures.counted c.in_ok-ran.ensures.sound.counted)
+    let at = (goal.at.keep_beside-appended-requires-clause-moves g c).After-is_counted in
+    λ log longer added. subst (λ (ls : List Live). AreMoved g.K.RecordKind.rules g.B.JournalName.base log longer ls c.run_counted.new.set.live) (sym (c.deref.ensures.value ∙ c.in_ok-ran.ensures.before))
+    (moved_beside (done g at) log longer added c.lines_tell_holders.ensures.holders c.is_sound.ensures.counted c.in_ok-ran.ensures.sound.counted)
 
 pub invariant_of-self-2 : goal.invariant_of-self-2
 invariant_of-self-2 g c =
+    let at = (goal.at.invariant_of-self-2 g c).After-is_counted in
     let k = g.K.RecordKind.rules in
-    let base = g.B.EngineName.base in
-    let event = Notify c.args.target c.args.notification c.args.field c.args.given in
-    let is : c.self.inside.pass ≡ Some c.in-Some.pass = sym c.take.ensures.value ∙ c.in-Some.is in
-    let held = subst (λ (o : Option Pass). IsHeld k base (IsDeviceOf g.D.Device.gives g.B.SetsName.devices) g.B.CellName.table o c.self.inside.set) is c.self.invariant.0 in
-    let own = key_there c.self.inside.set.records c.args.target (subst (λ (v : HeldView g.row.K.Denot g.row.D.Denot). Contains (numbers_of v) c.args.target) (sym c.self.view_is) c.requires.there) in
-    let there : (n : ℕ) → Contains (names event) n → Has (now_of c.self.inside.set) n = λ n has. subst (λ (m : ℕ). Has (now_of c.self.inside.set) m) (one_there c.args.target n has) own in
+    let held = held g at in
     let does = c.in_ok-ran.ensures.does in
-    let come_to = world_of c.run_counted.new.buffers.store in
-    let entry = entry_is k g.D.Device.gives c.self.inside.set c.run_counted.new.set c.args.moment event c.in_ok-ran.ran.reply come_to does there (answers_of come_to.calls) refl ∙ sym c.in_ok-ran.ensures.entry in
-    let also = c.deref_mut-all.result.now.seen in
-    let can = subst (λ (v : PutsView). CanBegin v c.args.notification) (sym c.deref_mut-all.ensures.value) c.lock_taken-guard.ensures.can in
     let pass = c.keep_beside-appended.ensures.pass in
     let added = c.keep_beside-appended.ensures.added in
-    let came = only k g.D.Device.gives c.self.inside.set c.run_counted.new.set c.args.moment event c.in_ok-ran.ran.reply come_to does there c.rules_are_steps.ensures.allowed c.events_keep_records.ensures held.holds.shut in (
+    let came = only g.K.RecordKind.rules g.D.Device.gives c.self.inside.set c.run_counted.new.set c.args.moment (Notify c.args.target c.args.notification c.args.field c.args.given) c.in_ok-ran.ran.reply (world_of c.run_counted.new.buffers.store) does (there g at) c.calls_have_laws.ensures.events.allowed c.calls_have_laws.ensures.events.kept held.holds.shut in (
       record {
         owner = owner_on g.B.CellName.table _ _ (cell_view c.in-Some.pass) (cell_view c.keep_beside-appended.new.pass) _ (now_of c.self.inside.set) (now_of c.run_counted.new.set) held.owner (pass.0 ∙ sym held.owner.same) pass.1 came;
         devices = keeps_on g.D.Device.gives g.B.SetsName.devices c.self.inside.set c.run_counted.new.set held.devices (worked_there does.work) came;
-        holds = subst (λ (x : View). Holds k (map_of k base x.seen) (now_of c.run_counted.new.set)) (sym pass.1)
-            (held_beside k g.D.Device.gives c.self.inside.set c.run_counted.new.set c.args.moment event c.in_ok-ran.ran.reply come_to does there
-            c.holding_lasts.ensures c.events_are_held.ensures.event c.holders_move.ensures.moves c.parts_share_what_is_held.ensures.alike
-            base (cell_view c.in-Some.pass).seen also (cell_view c.in-Some.pass).owns held.owner.covers held.holds
-            (λ log sound go legal h. tt)
-            (λ log sound go legal h. place_alike k c.one_more_has_a_place.ensures c.live_lasts.ensures c.lists_leave_sound.ensures.after c.lines_tell_holders.ensures.live c.lines_tell_holders.ensures.held base (now_of c.self.inside.set) also log c.deref_mut-all.result.now.live c.args.notification c.args.moment
-            c.is_counted.ensures.table c.is_counted.ensures.counted sound go legal h c.is_sound.ensures.counted (fewer_live c.deref_mut-all.result.now c.args.notification can) can.free) _ entry added.0 _ added.1);
+        holds = subst (λ (x : View). Holds k (map_of k g.B.JournalName.base x.seen) (now_of c.run_counted.new.set)) (sym pass.1) (held_beside (done g at) added.0 _ added.1);
       },
       counted_then c.self.inside.share c.counts_since-counts.result.share c.keep_beside-appended.result.share c.self.inside.set c.run_counted.new.set c.counts_since-counts.result.after (c.counts_since-counts.ensures.share ∙ sym (sym c.take-2.ensures.value ∙ c.in-Some-take.is)) c.self.invariant.1
           c.keep_beside-appended.ensures.share c.counts_since-counts.ensures.counts.1
-          (as_many k g.D.Device.gives c.self.inside.set c.run_counted.new.set c.args.moment event c.in_ok-ran.ran.reply come_to does there c.rules_are_steps.ensures.allowed c.events_keep_records.ensures held.holds.shut),
+          (as_many g.K.RecordKind.rules g.D.Device.gives c.self.inside.set c.run_counted.new.set c.args.moment (Notify c.args.target c.args.notification c.args.field c.args.given) c.in_ok-ran.ran.reply (world_of c.run_counted.new.buffers.store) does (there g at) c.calls_have_laws.ensures.events.allowed c.calls_have_laws.ensures.events.kept held.holds.shut),
     )
 
 pub returns-clause-begins : goal.returns-clause-begins
+unfolding done
 returns-clause-begins g c =
+    let at = (goal.at.returns-clause-begins g c).After-is_counted in
     let k = g.K.RecordKind.rules in
-    let base = g.B.EngineName.base in
-    let event = Notify c.args.target c.args.notification c.args.field c.args.given in
-    let is : c.self.inside.pass ≡ Some c.in-Some.pass = sym c.take.ensures.value ∙ c.in-Some.is in
-    let held = subst (λ (o : Option Pass). IsHeld k base (IsDeviceOf g.D.Device.gives g.B.SetsName.devices) g.B.CellName.table o c.self.inside.set) is c.self.invariant.0 in
-    let own = key_there c.self.inside.set.records c.args.target (subst (λ (v : HeldView g.row.K.Denot g.row.D.Denot). Contains (numbers_of v) c.args.target) (sym c.self.view_is) c.requires.there) in
-    let there : (n : ℕ) → Contains (names event) n → Has (now_of c.self.inside.set) n = λ n has. subst (λ (m : ℕ). Has (now_of c.self.inside.set) m) (one_there c.args.target n has) own in
-    let does = c.in_ok-ran.ensures.does in
-    let come_to = world_of c.run_counted.new.buffers.store in
-    let entry = entry_is k g.D.Device.gives c.self.inside.set c.run_counted.new.set c.args.moment event c.in_ok-ran.ran.reply come_to does there (answers_of come_to.calls) refl ∙ sym c.in_ok-ran.ensures.entry in
+    let base = g.B.JournalName.base in
     let also = c.deref_mut-all.result.now.seen in
-    let can = subst (λ (v : PutsView). CanBegin v c.args.notification) (sym c.deref_mut-all.ensures.value) c.lock_taken-guard.ensures.can in
-    let pass = c.keep_beside-appended.ensures.pass in
-    let served = subst (λ (v : HeldView g.row.K.Denot g.row.D.Denot). Serves k g.D.Device.gives base v c.args.desk.now c.args.moment event c.in_ok-ran.ran.reply
-    (held_view c.run_counted.new.set (cell_view c.keep_beside-appended.new.pass).seen) c.keep_beside-appended.new.desk come_to) c.self.view_is
-    (record { is_call = subst (λ (v : HeldView g.row.K.Denot g.row.D.Denot). no_call k (now_of v.set) event ≡ None) (sym c.self.view_is) c.requires.is_call; does = does; call = subst (λ (x : Entry). Call k base c.args.desk.now x c.keep_beside-appended.new.desk) (sym entry) c.keep_beside-appended.ensures.call; seen = ap (λ (v : View). v.seen) pass.1 }) in
+    let all = c.deref_mut-all.result.now in
+    let can = can g at in
     let log = c.keep_beside-appended.ensures.added.0 in
     let added = c.keep_beside-appended.ensures.added.1 in
     let note = noted (journalled added.desk added.call c.in_ok-ran.ran.entry) (((cell_view c.in-Some.pass).owns ++ puts_key) ++ added.own) in
+    let then = held_view c.run_counted.new.set (cell_view c.keep_beside-appended.new.pass).seen in
+    let served =
+    subst (λ (x : SetStore g.row.K.Denot g.row.D.Denot). Serves k g.D.Device.gives base c.args.self.now c.args.desk.now c.args.moment (Notify c.args.target c.args.notification c.args.field c.args.given) c.in_ok-ran.ran.reply then c.keep_beside-appended.new.desk (world_of x)) (sym c.keep_beside-appended.ensures.store)
+    (subst (λ (v : HeldView g.row.K.Denot g.row.D.Denot). Serves k g.D.Device.gives base v c.args.desk.now c.args.moment (Notify c.args.target c.args.notification c.args.field c.args.given) c.in_ok-ran.ran.reply then c.keep_beside-appended.new.desk (world_of c.run_counted.new.buffers.store)) c.self.view_is
+    (record {
+      is_call = subst (λ (v : HeldView g.row.K.Denot g.row.D.Denot). no_call k (now_of v.set) (Notify c.args.target c.args.notification c.args.field c.args.given) ≡ None) (sym c.self.view_is) c.requires.is_call;
+      does = c.in_ok-ran.ensures.does;
+      call = subst (λ (x : Entry). Call k base c.args.desk.now x c.keep_beside-appended.new.desk) (sym (done g at).entry_is) c.keep_beside-appended.ensures.call;
+      seen = ap (λ (v : View). v.seen) c.keep_beside-appended.ensures.pass.1;
+    })) in
     let same = numbers_on also log puts_key added.also_goes_on (inl refl) (keyed_before log (note ∷ []) (subst (λ (l : List Note). PutsAreKeyed l) added.ends c.keep_beside-appended.ensures.call.legal.puts_keyed)) in
     record {
       number = c.args.notification;
-      puts = puts_view c.deref_mut-all.result.now.live c.deref_mut-all.result.now.taken c.deref_mut-all.result.now.last log;
+      puts = puts_view all.live all.taken all.last log;
       can = record { within = can.within; few = can.few; free = can.free; new = λ begun. can.new (subst (λ (xs : List ℕ). Contains xs c.args.notification) same begun); own = can.own };
-      up_to_date = up_to_date_on k c.live_lasts.ensures base also log c.keep_beside-appended.new.desk.seen note c.deref_mut-all.result.now.live c.deref_mut-all.result.now.taken c.deref_mut-all.result.now.last
+      up_to_date = up_to_date_on k c.calls_have_laws.ensures.live_lasts base also log c.keep_beside-appended.new.desk.seen note all.live all.taken all.last
           c.is_counted.ensures.table c.is_counted.ensures.counted c.is_counted.ensures.below c.is_counted.ensures.taken added.also_goes_on added.legal added.ends c.keep_beside-appended.ensures.call.legal.puts_keyed;
       before = (note, added.ends);
-      serves = subst (λ (x : SetStore g.row.K.Denot g.row.D.Denot). Serves k g.D.Device.gives base c.args.self.now c.args.desk.now c.args.moment event c.in_ok-ran.ran.reply
-          (held_view c.run_counted.new.set (cell_view c.keep_beside-appended.new.pass).seen) c.keep_beside-appended.new.desk (world_of x)) (sym c.keep_beside-appended.ensures.store) served;
+      serves = served;
     }
 
 pub returns-clause-ended : goal.returns-clause-ended
 returns-clause-ended g c =
+    let at = (goal.at.returns-clause-ended g c).After-is_counted in
     let k = g.K.RecordKind.rules in
-    let base = g.B.EngineName.base in
-    let event = Notify c.args.target c.args.notification c.args.field c.args.given in
-    let is : c.self.inside.pass ≡ Some c.in-Some.pass = sym c.take.ensures.value ∙ c.in-Some.is in
-    let held = subst (λ (o : Option Pass). IsHeld k base (IsDeviceOf g.D.Device.gives g.B.SetsName.devices) g.B.CellName.table o c.self.inside.set) is c.self.invariant.0 in
-    let own = key_there c.self.inside.set.records c.args.target (subst (λ (v : HeldView g.row.K.Denot g.row.D.Denot). Contains (numbers_of v) c.args.target) (sym c.self.view_is) c.requires.there) in
-    let there : (n : ℕ) → Contains (names event) n → Has (now_of c.self.inside.set) n = λ n has. subst (λ (m : ℕ). Has (now_of c.self.inside.set) m) (one_there c.args.target n has) own in
-    let does = c.in_ok-ran.ensures.does in
-    let come_to = world_of c.run_counted.new.buffers.store in
-    let entry = entry_is k g.D.Device.gives c.self.inside.set c.run_counted.new.set c.args.moment event c.in_ok-ran.ran.reply come_to does there (answers_of come_to.calls) refl ∙ sym c.in_ok-ran.ensures.entry in
-    let also = c.deref_mut-all.result.now.seen in
-    let can = subst (λ (v : PutsView). CanBegin v c.args.notification) (sym c.deref_mut-all.ensures.value) c.lock_taken-guard.ensures.can in
+    let base = g.B.JournalName.base in
     let kept = c.keep_beside-appended.ensures in
     let added = kept.added in
     let longer = c.keep_beside-appended.new.desk.seen in
-    let ends = ended_beside k g.D.Device.gives c.self.inside.set c.run_counted.new.set c.args.moment event c.in_ok-ran.ran.reply come_to does there
-    c.holding_lasts.ensures c.events_are_held.ensures.event c.holders_move.ensures.moves c.parts_share_what_is_held.ensures.alike
-    base (cell_view c.in-Some.pass).seen also (cell_view c.in-Some.pass).owns held.owner.covers held.holds
-    (λ log sound go legal h. tt)
-    (λ log sound go legal h. place_alike k c.one_more_has_a_place.ensures c.live_lasts.ensures c.lists_leave_sound.ensures.after c.lines_tell_holders.ensures.live c.lines_tell_holders.ensures.held base (now_of c.self.inside.set) also log c.deref_mut-all.result.now.live c.args.notification c.args.moment
-    c.is_counted.ensures.table c.is_counted.ensures.counted sound go legal h c.is_sound.ensures.counted (fewer_live c.deref_mut-all.result.now c.args.notification can) can.free) _ entry added.0 _ added.1
-    c.those_ended_are_over.ensures.over c.those_ended_are_over.ensures.nobody c.lists_leave_sound.ensures.after c.is_sound.ensures.counted in
+    let ends = ended_beside (done g at) added.0 _ added.1 c.is_sound.ensures.counted in
     let counts = subst (λ (seen : List Note). AreCounted k base c.keep_beside-appended.new.all.live seen) kept.seen kept.counted.1 in
     subst (λ (x : SetStore g.row.K.Denot g.row.D.Denot). HaveEnded k base (world_of x).ended longer c.keep_beside-appended.new.buffers.ended_everywhere.items) (sym kept.store)
-    (have_ended k base c.lines_tell_holders.ensures.live c.lines_tell_holders.ensures.held come_to.ended c.keep_beside-appended.new.buffers.ended_everywhere.items longer c.keep_beside-appended.new.all.live
-    kept.counted.0 counts (c.lists_leave_sound.ensures.after base longer added.1.sound).2 ends kept.ended)
+    (have_ended k base c.lines_tell_holders.ensures.live c.lines_tell_holders.ensures.held (world_of c.run_counted.new.buffers.store).ended c.keep_beside-appended.new.buffers.ended_everywhere.items longer c.keep_beside-appended.new.all.live
+    kept.counted.0 counts (c.calls_have_laws.ensures.sound base longer added.1.sound).2 ends kept.ended)

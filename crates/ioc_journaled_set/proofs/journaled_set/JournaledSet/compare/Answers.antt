@@ -14,21 +14,21 @@ use Rattle.ioc_journaled_set.proofs.journaled_set.JournaledSet.compare.Goals as 
 pub unreachable-requires : goal.unreachable-requires
 unreachable-requires g c =
     let none : c.self.inside.pass ≡ None = sym c.take.ensures.value ∙ c.in_default.is in
-    let held = subst (λ (o : Option Pass). IsHeld g.K.RecordKind.rules g.B.EngineName.base (IsDeviceOf g.D.Device.gives g.B.SetsName.devices) g.B.CellName.table o c.self.inside.set) none c.self.invariant.0 in
+    let held = subst (λ (o : Option Pass). IsHeld g.K.RecordKind.rules g.B.JournalName.base (IsDeviceOf g.D.Device.gives g.B.SetsName.devices) g.B.CellName.table o c.self.inside.set) none c.self.invariant.0 in
     let there = subst (λ (v : HeldView g.row.K.Denot g.row.D.Denot). (n : ℕ) × IsSome (get v.set.records n)) (sym c.self.view_is) c.requires.one in
     held.owner there.0 there.1
 
 pub unreachable-requires-in_default-take : goal.unreachable-requires-in_default-take
 unreachable-requires-in_default-take g c =
     let none : c.other.inside.pass ≡ None = sym c.take-2.ensures.value ∙ c.in_default-take.is in
-    let held = subst (λ (o : Option Pass). IsHeld g.K.RecordKind.rules g.B.EngineName.base (IsDeviceOf g.D.Device.gives g.B.SetsName.devices) g.B.CellName.table o c.other.inside.set) none c.other.invariant.0 in
+    let held = subst (λ (o : Option Pass). IsHeld g.K.RecordKind.rules g.B.JournalName.base (IsDeviceOf g.D.Device.gives g.B.SetsName.devices) g.B.CellName.table o c.other.inside.set) none c.other.invariant.0 in
     let there = subst (λ (v : HeldView g.row.K.Denot g.row.D.Denot). (n : ℕ) × IsSome (get v.set.records n)) (sym c.other.view_is) c.requires.other in
     held.owner there.0 there.1
 
 pub invariant_of-self : goal.invariant_of-self
 invariant_of-self g c =
     let k = g.K.RecordKind.rules in
-    let base = g.B.EngineName.base in
+    let base = g.B.JournalName.base in
     let set = c.self.inside.set in
     let is : c.self.inside.pass ≡ Some c.in-Some.pass = sym c.take.ensures.value ∙ c.in-Some.is in
     let held = subst (λ (o : Option Pass). IsHeld k base (IsDeviceOf g.D.Device.gives g.B.SetsName.devices) g.B.CellName.table o set) is c.self.invariant.0 in
@@ -45,7 +45,7 @@ invariant_of-self g c =
 pub invariant_of-other : goal.invariant_of-other
 invariant_of-other g c =
     let k = g.K.RecordKind.rules in
-    let base = g.B.EngineName.base in
+    let base = g.B.JournalName.base in
     let set = c.other.inside.set in
     let is : c.other.inside.pass ≡ Some c.in-Some-take.beside = sym c.take-2.ensures.value ∙ c.in-Some-take.is in
     let held = subst (λ (o : Option Pass). IsHeld k base (IsDeviceOf g.D.Device.gives g.B.SetsName.devices) g.B.CellName.table o set) is c.other.invariant.0 in
@@ -62,7 +62,7 @@ invariant_of-other g c =
 pub returns-clause-apart : goal.returns-clause-apart
 returns-clause-apart g c =
     let k = g.K.RecordKind.rules in
-    let base = g.B.EngineName.base in
+    let base = g.B.JournalName.base in
     let one : c.self.inside.pass ≡ Some c.in-Some.pass = sym c.take.ensures.value ∙ c.in-Some.is in
     let two : c.other.inside.pass ≡ Some c.in-Some-take.beside = sym c.take-2.ensures.value ∙ c.in-Some-take.is in
     let held = subst (λ (o : Option Pass). IsHeld k base (IsDeviceOf g.D.Device.gives g.B.SetsName.devices) g.B.CellName.table o c.self.inside.set) one c.self.invariant.0 in
@@ -74,7 +74,7 @@ returns-clause-apart g c =
 pub returns-clause-one : goal.returns-clause-one
 returns-clause-one g c =
     let k = g.K.RecordKind.rules in
-    let base = g.B.EngineName.base in
+    let base = g.B.JournalName.base in
     let one = c.self.inside.set in
     let two = c.other.inside.set in
     let held = subst (λ (o : Option Pass). IsHeld k base (IsDeviceOf g.D.Device.gives g.B.SetsName.devices) g.B.CellName.table o one) (sym c.take.ensures.value ∙ c.in-Some.is) c.self.invariant.0 in

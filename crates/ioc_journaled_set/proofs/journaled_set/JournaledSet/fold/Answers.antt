@@ -6,5 +6,5 @@ use Rattle.ioc_journaled_set.proofs.journaled_set.JournaledSet.fold.Goals as goa
 
 pub invariant_of-self : goal.invariant_of-self
 invariant_of-self g c =
-    subst (λ (h : SetState g.row.K.Denot g.row.D.Denot). IsHeld g.K.RecordKind.rules g.B.EngineName.base (IsDeviceOf g.D.Device.gives g.B.SetsName.devices) g.B.CellName.table c.self.inside.pass h × IsCounted c.self.inside.share h) (sym c.fold.ensures)
+    subst (λ (h : SetState g.row.K.Denot g.row.D.Denot). IsHeld g.K.RecordKind.rules g.B.JournalName.base (IsDeviceOf g.D.Device.gives g.B.SetsName.devices) g.B.CellName.table c.self.inside.pass h × IsCounted c.self.inside.share h) (sym c.fold.ensures)
     (record { owner = c.self.invariant.0.owner; holds = c.self.invariant.0.holds; devices = c.self.invariant.0.devices }, c.self.invariant.1)

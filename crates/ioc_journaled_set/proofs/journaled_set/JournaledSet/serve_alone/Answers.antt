@@ -18,77 +18,69 @@ use Rattle.ioc_journaled_set.specs.SameDevice.{IsDeviceOf}
 use Rattle.ioc_journaled_set.proofs.Keys.{key_there}
 use Rattle.ioc_journaled_set.proofs.Devices.{worked_there, keeps_on}
 use Rattle.ioc_journaled_set.proofs.Ended.{none_have_ended}
-use Rattle.ioc_journaled_set.proofs.Serving.{names_one, begins_no_put, owner_on, entry_is, none_held, none_ended, may_follow, may_send, may_count, held_then, only, as_many}
+use Rattle.ioc_journaled_set.proofs.Serving.{IsDoneAlone, names_one, begins_no_put, owner_on, entry_is, none_held, none_ended, may_follow, may_send, may_count, held_then, only, as_many}
 use Rattle.ioc_journaled_set.proofs.Counting.{some_len}
 use Rattle.ioc_journaled_set.proofs.Shares.{backed, counted_then, is_there}
+use Rattle.ioc_journaled_set.proofs.journaled_set.JournaledSet.serve_alone.Given.{Over}
+use Rattle.ioc_journaled_set.proofs.journaled_set.JournaledSet.serve_alone.Goals.{After-counts_since-counts}
 use Rattle.ioc_journaled_set.proofs.journaled_set.JournaledSet.serve_alone.Goals as goal
+
+-- The set's pass, and the event as it was done on the set.
+module _ (g : Over) (c : After-counts_since-counts g) where
+  held : IsHeld g.K.RecordKind.rules g.B.JournalName.base (IsDeviceOf g.D.Device.gives g.B.SetsName.devices) g.B.CellName.table (Some c.in-Some.pass) c.self.inside.set
+  held = subst (λ (o : Option Pass). IsHeld g.K.RecordKind.rules g.B.JournalName.base (IsDeviceOf g.D.Device.gives g.B.SetsName.devices) g.B.CellName.table o c.self.inside.set) (sym c.take.ensures.value ∙ c.in-Some.is) c.self.invariant.0
+
+  there : (n : ℕ) → Contains (names c.args.event.now) n → Has (now_of c.self.inside.set) n
+  there n has = key_there c.self.inside.set.records n (subst (λ (v : HeldView g.row.K.Denot g.row.D.Denot). Contains (numbers_of v) n) (sym c.self.view_is) (c.requires.there n has))
+
+  none : NoneIsLive c.self.inside.set
+  none = subst (λ (v : HeldView g.row.K.Denot g.row.D.Denot). NoneIsLive v.set) (sym c.self.view_is) c.requires.none
+
+  done : IsDoneAlone g.K.RecordKind.rules g.D.Device.gives c.self.inside.set c.run_with_answers.new.set c.args.moment c.args.event.now c.in-Ok.done.0 (world_of c.run_with_answers.new.buffers.store) g.B.JournalName.base (cell_view c.in-Some.pass).seen (cell_view c.in-Some.pass).owns
+      (record { moment = c.args.moment; event = c.args.event.now; answers = c.in-Ok.done.1; reply = c.in-Ok.done.0 })
+  done = record {
+    does = c.in-Ok.ensures.ok;
+    there = there;
+    laws = c.calls_have_laws.ensures;
+    ordinary = c.requires.ordinary;
+    same =
+        none_held g.K.RecordKind.rules g.D.Device.gives c.self.inside.set c.run_with_answers.new.set c.args.moment c.args.event.now c.in-Ok.done.0 (world_of c.run_with_answers.new.buffers.store) c.in-Ok.ensures.ok there
+        c.calls_have_laws.ensures.events.counted c.calls_have_laws.ensures.events.allowed c.is_sound.ensures.counted none
+        (c.sets_stay_without_puts.ensures.stay c.self.inside.set c.run_with_answers.new.set c.args.moment c.args.event.now c.in-Ok.done.0 (world_of c.run_with_answers.new.buffers.store) c.in-Ok.ensures.ok c.requires.ordinary c.is_sound.ensures none);
+    covers = held.owner.covers;
+    holds = held.holds;
+    entry_is = entry_is g.K.RecordKind.rules g.D.Device.gives c.self.inside.set c.run_with_answers.new.set c.args.moment c.args.event.now c.in-Ok.done.0 (world_of c.run_with_answers.new.buffers.store) c.in-Ok.ensures.ok there c.in-Ok.done.1 c.in-Ok.ensures.answers;
+  }
 
 pub unreachable-requires : goal.unreachable-requires
 unreachable-requires g c =
     let k = g.K.RecordKind.rules in
     let none : c.self.inside.pass ≡ None = sym c.take.ensures.value ∙ c.in_default.is in
-    let held = subst (λ (o : Option Pass). IsHeld k g.B.EngineName.base (IsDeviceOf g.D.Device.gives g.B.SetsName.devices) g.B.CellName.table o c.self.inside.set) none c.self.invariant.0 in
+    let held = subst (λ (o : Option Pass). IsHeld k g.B.JournalName.base (IsDeviceOf g.D.Device.gives g.B.SetsName.devices) g.B.CellName.table o c.self.inside.set) none c.self.invariant.0 in
     let one = names_one c.args.event.now c.requires.ordinary in
     held.owner one.0 (key_there c.self.inside.set.records one.0 (subst (λ (v : HeldView g.row.K.Denot g.row.D.Denot). Contains (numbers_of v) one.0) (sym c.self.view_is) (c.requires.there one.0 one.1)))
 
 pub append-appended-requires-clause-set : goal.append-appended-requires-clause-set
 append-appended-requires-clause-set g c =
-    let is : c.self.inside.pass ≡ Some c.in-Some.pass = sym c.take.ensures.value ∙ c.in-Some.is in
-    let held = subst (λ (o : Option Pass). IsHeld g.K.RecordKind.rules g.B.EngineName.base (IsDeviceOf g.D.Device.gives g.B.SetsName.devices) g.B.CellName.table o c.self.inside.set) is c.self.invariant.0 in
+    let at = (goal.at.append-appended-requires-clause-set g c).After-counts_since-counts in
+    let held = held g at in
     (held.owner.holder, λ key has desk. let record_key = held.owner.records key has in omega (arith, record_key, desk))
 
 pub append-appended-requires-clause-follows : goal.append-appended-requires-clause-follows
 append-appended-requires-clause-follows g c =
-    let k = g.K.RecordKind.rules in
-    let none = subst (λ (v : HeldView g.row.K.Denot g.row.D.Denot). NoneIsLive v.set) (sym c.self.view_is) c.requires.none in
-    let is : c.self.inside.pass ≡ Some c.in-Some.pass = sym c.take.ensures.value ∙ c.in-Some.is in
-    let held = subst (λ (o : Option Pass). IsHeld k g.B.EngineName.base (IsDeviceOf g.D.Device.gives g.B.SetsName.devices) g.B.CellName.table o c.self.inside.set) is c.self.invariant.0 in
-    let there : (n : ℕ) → Contains (names c.args.event.now) n → Has (now_of c.self.inside.set) n = λ n has.
-    key_there c.self.inside.set.records n (subst (λ (v : HeldView g.row.K.Denot g.row.D.Denot). Contains (numbers_of v) n) (sym c.self.view_is) (c.requires.there n has)) in
-    let does = c.in-Ok.ensures.ok in
-    let entry = entry_is k g.D.Device.gives c.self.inside.set c.run_with_answers.new.set c.args.moment c.args.event.now c.in-Ok.done.0 (world_of c.run_with_answers.new.buffers.store) does there c.in-Ok.done.1 c.in-Ok.ensures.answers in
-    let same = none_held k g.D.Device.gives c.self.inside.set c.run_with_answers.new.set c.args.moment c.args.event.now c.in-Ok.done.0 (world_of c.run_with_answers.new.buffers.store) does there
-    c.events_count_holders.ensures.event c.rules_are_steps.ensures.allowed c.is_sound.ensures.counted none
-    (c.sets_stay_without_puts.ensures.stay c.self.inside.set c.run_with_answers.new.set c.args.moment c.args.event.now c.in-Ok.done.0 (world_of c.run_with_answers.new.buffers.store) does c.requires.ordinary c.is_sound.ensures none) in
-    may_follow k g.D.Device.gives c.self.inside.set c.run_with_answers.new.set c.args.moment c.args.event.now c.in-Ok.done.0 (world_of c.run_with_answers.new.buffers.store) does there
-    c.holding_lasts.ensures c.events_are_held.ensures.event c.holders_move.ensures.moves c.parts_share_what_is_held.ensures.alike c.requires.ordinary same
-    g.B.EngineName.base (cell_view c.in-Some.pass).seen (cell_view c.in-Some.pass).owns held.owner.covers held.holds _ entry
+    let at = (goal.at.append-appended-requires-clause-follows g c).After-counts_since-counts in
+    may_follow (done g at)
 
 pub append-appended-requires-clause-sent : goal.append-appended-requires-clause-sent
 append-appended-requires-clause-sent g c =
-    let k = g.K.RecordKind.rules in
-    let none = subst (λ (v : HeldView g.row.K.Denot g.row.D.Denot). NoneIsLive v.set) (sym c.self.view_is) c.requires.none in
-    let is : c.self.inside.pass ≡ Some c.in-Some.pass = sym c.take.ensures.value ∙ c.in-Some.is in
-    let held = subst (λ (o : Option Pass). IsHeld k g.B.EngineName.base (IsDeviceOf g.D.Device.gives g.B.SetsName.devices) g.B.CellName.table o c.self.inside.set) is c.self.invariant.0 in
-    let there : (n : ℕ) → Contains (names c.args.event.now) n → Has (now_of c.self.inside.set) n = λ n has.
-    key_there c.self.inside.set.records n (subst (λ (v : HeldView g.row.K.Denot g.row.D.Denot). Contains (numbers_of v) n) (sym c.self.view_is) (c.requires.there n has)) in
-    let does = c.in-Ok.ensures.ok in
-    let entry = entry_is k g.D.Device.gives c.self.inside.set c.run_with_answers.new.set c.args.moment c.args.event.now c.in-Ok.done.0 (world_of c.run_with_answers.new.buffers.store) does there c.in-Ok.done.1 c.in-Ok.ensures.answers in
-    let same = none_held k g.D.Device.gives c.self.inside.set c.run_with_answers.new.set c.args.moment c.args.event.now c.in-Ok.done.0 (world_of c.run_with_answers.new.buffers.store) does there
-    c.events_count_holders.ensures.event c.rules_are_steps.ensures.allowed c.is_sound.ensures.counted none
-    (c.sets_stay_without_puts.ensures.stay c.self.inside.set c.run_with_answers.new.set c.args.moment c.args.event.now c.in-Ok.done.0 (world_of c.run_with_answers.new.buffers.store) does c.requires.ordinary c.is_sound.ensures none) in
-    subst (λ (n : ℕ). MaySend k g.B.EngineName.base (cell_view c.in-Some.pass).seen (cell_view c.in-Some.pass).owns (record { moment = c.args.moment; event = c.args.event.now; answers = c.in-Ok.done.1; reply = c.in-Ok.done.0 }) n) (sym c.counts_since-counts.ensures.sent)
-    (may_send k g.D.Device.gives c.self.inside.set c.run_with_answers.new.set c.args.moment c.args.event.now c.in-Ok.done.0 (world_of c.run_with_answers.new.buffers.store) does there
-    c.holding_lasts.ensures c.events_are_held.ensures.event c.holders_move.ensures.moves c.parts_share_what_is_held.ensures.alike c.requires.ordinary same
-    g.B.EngineName.base (cell_view c.in-Some.pass).seen (cell_view c.in-Some.pass).owns held.owner.covers held.holds c.parts_count_alike.ensures _ entry)
+    let at = (goal.at.append-appended-requires-clause-sent g c).After-counts_since-counts in
+    subst (λ (n : ℕ). MaySend g.K.RecordKind.rules g.B.JournalName.base (cell_view c.in-Some.pass).seen (cell_view c.in-Some.pass).owns (record { moment = c.args.moment; event = c.args.event.now; answers = c.in-Ok.done.1; reply = c.in-Ok.done.0 }) n) (sym c.counts_since-counts.ensures.sent)
+    (may_send (done g at))
 
 pub append-appended-requires-clause-counts : goal.append-appended-requires-clause-counts
 append-appended-requires-clause-counts g c =
-    let k = g.K.RecordKind.rules in
-    let none = subst (λ (v : HeldView g.row.K.Denot g.row.D.Denot). NoneIsLive v.set) (sym c.self.view_is) c.requires.none in
-    let is : c.self.inside.pass ≡ Some c.in-Some.pass = sym c.take.ensures.value ∙ c.in-Some.is in
-    let held = subst (λ (o : Option Pass). IsHeld k g.B.EngineName.base (IsDeviceOf g.D.Device.gives g.B.SetsName.devices) g.B.CellName.table o c.self.inside.set) is c.self.invariant.0 in
-    let there : (n : ℕ) → Contains (names c.args.event.now) n → Has (now_of c.self.inside.set) n = λ n has.
-    key_there c.self.inside.set.records n (subst (λ (v : HeldView g.row.K.Denot g.row.D.Denot). Contains (numbers_of v) n) (sym c.self.view_is) (c.requires.there n has)) in
-    let does = c.in-Ok.ensures.ok in
-    let entry = entry_is k g.D.Device.gives c.self.inside.set c.run_with_answers.new.set c.args.moment c.args.event.now c.in-Ok.done.0 (world_of c.run_with_answers.new.buffers.store) does there c.in-Ok.done.1 c.in-Ok.ensures.answers in
-    let same = none_held k g.D.Device.gives c.self.inside.set c.run_with_answers.new.set c.args.moment c.args.event.now c.in-Ok.done.0 (world_of c.run_with_answers.new.buffers.store) does there
-    c.events_count_holders.ensures.event c.rules_are_steps.ensures.allowed c.is_sound.ensures.counted none
-    (c.sets_stay_without_puts.ensures.stay c.self.inside.set c.run_with_answers.new.set c.args.moment c.args.event.now c.in-Ok.done.0 (world_of c.run_with_answers.new.buffers.store) does c.requires.ordinary c.is_sound.ensures none) in
-    may_count k g.D.Device.gives c.self.inside.set c.run_with_answers.new.set c.args.moment c.args.event.now c.in-Ok.done.0 (world_of c.run_with_answers.new.buffers.store) does there
-    c.holding_lasts.ensures c.events_are_held.ensures.event c.holders_move.ensures.moves c.parts_share_what_is_held.ensures.alike c.requires.ordinary same
-    g.B.EngineName.base (cell_view c.in-Some.pass).seen (cell_view c.in-Some.pass).owns held.owner.covers held.holds c.parts_count_alike.ensures _ entry
-    c.counts_since-counts.result.share c.counts_since-counts.result.before c.counts_since-counts.result.after (λ none. is_there c.counts_since-counts.ensures.share none)
+    let at = (goal.at.append-appended-requires-clause-counts g c).After-counts_since-counts in
+    may_count (done g at) c.counts_since-counts.result.share c.counts_since-counts.result.before c.counts_since-counts.result.after (λ none. is_there c.counts_since-counts.ensures.share none)
     (c.counts_since-counts.ensures.counts.0 ∙ c.tally-before.ensures) c.counts_since-counts.ensures.counts.1
 
 pub append-appended-requires-clause-backed : goal.append-appended-requires-clause-backed
@@ -103,66 +95,41 @@ append-appended-requires-clause-begins g c = begins_none (cell_view c.in-Some.pa
 
 pub invariant_of-self-2 : goal.invariant_of-self-2
 invariant_of-self-2 g c =
+    let at = (goal.at.invariant_of-self-2 g c).After-counts_since-counts in
     let k = g.K.RecordKind.rules in
-    let none = subst (λ (v : HeldView g.row.K.Denot g.row.D.Denot). NoneIsLive v.set) (sym c.self.view_is) c.requires.none in
-    let is : c.self.inside.pass ≡ Some c.in-Some.pass = sym c.take.ensures.value ∙ c.in-Some.is in
-    let held = subst (λ (o : Option Pass). IsHeld k g.B.EngineName.base (IsDeviceOf g.D.Device.gives g.B.SetsName.devices) g.B.CellName.table o c.self.inside.set) is c.self.invariant.0 in
-    let there : (n : ℕ) → Contains (names c.args.event.now) n → Has (now_of c.self.inside.set) n = λ n has.
-    key_there c.self.inside.set.records n (subst (λ (v : HeldView g.row.K.Denot g.row.D.Denot). Contains (numbers_of v) n) (sym c.self.view_is) (c.requires.there n has)) in
-    let does = c.in-Ok.ensures.ok in
-    let entry = entry_is k g.D.Device.gives c.self.inside.set c.run_with_answers.new.set c.args.moment c.args.event.now c.in-Ok.done.0 (world_of c.run_with_answers.new.buffers.store) does there c.in-Ok.done.1 c.in-Ok.ensures.answers in
+    let held = held g at in
     let set = c.append-appended.ensures.set in
     let added = c.append-appended.ensures.added in
-    let same = none_held k g.D.Device.gives c.self.inside.set c.run_with_answers.new.set c.args.moment c.args.event.now c.in-Ok.done.0 (world_of c.run_with_answers.new.buffers.store) does there
-    c.events_count_holders.ensures.event c.rules_are_steps.ensures.allowed c.is_sound.ensures.counted none
-    (c.sets_stay_without_puts.ensures.stay c.self.inside.set c.run_with_answers.new.set c.args.moment c.args.event.now c.in-Ok.done.0 (world_of c.run_with_answers.new.buffers.store) does c.requires.ordinary c.is_sound.ensures none) in
-    let came = only k g.D.Device.gives c.self.inside.set c.run_with_answers.new.set c.args.moment c.args.event.now c.in-Ok.done.0 (world_of c.run_with_answers.new.buffers.store) does there
-    c.rules_are_steps.ensures.allowed c.events_keep_records.ensures held.holds.shut in (
+    let came = only g.K.RecordKind.rules g.D.Device.gives c.self.inside.set c.run_with_answers.new.set c.args.moment c.args.event.now c.in-Ok.done.0 (world_of c.run_with_answers.new.buffers.store) c.in-Ok.ensures.ok (there g at) c.calls_have_laws.ensures.events.allowed c.calls_have_laws.ensures.events.kept held.holds.shut in (
       record {
         owner = owner_on g.B.CellName.table _ _ (cell_view c.in-Some.pass) (cell_view c.append-appended.new.set) _ (now_of c.self.inside.set) (now_of c.run_with_answers.new.set) held.owner set.0 set.1 came;
-        devices = keeps_on g.D.Device.gives g.B.SetsName.devices c.self.inside.set c.run_with_answers.new.set held.devices (worked_there does.work) came;
-        holds =
-            subst (λ (x : View). Holds k (map_of k g.B.EngineName.base x.seen) (now_of c.run_with_answers.new.set)) (sym set.1)
-            (held_then k g.D.Device.gives c.self.inside.set c.run_with_answers.new.set c.args.moment c.args.event.now c.in-Ok.done.0 (world_of c.run_with_answers.new.buffers.store) does there
-            c.holding_lasts.ensures c.events_are_held.ensures.event c.holders_move.ensures.moves c.parts_share_what_is_held.ensures.alike c.requires.ordinary same
-            g.B.EngineName.base (cell_view c.in-Some.pass).seen (cell_view c.in-Some.pass).owns held.owner.covers held.holds _ entry added.0 _ added.1);
+        devices = keeps_on g.D.Device.gives g.B.SetsName.devices c.self.inside.set c.run_with_answers.new.set held.devices (worked_there c.in-Ok.ensures.ok.work) came;
+        holds = subst (λ (x : View). Holds k (map_of k g.B.JournalName.base x.seen) (now_of c.run_with_answers.new.set)) (sym set.1) (held_then (done g at) added.0 _ added.1);
       },
       counted_then c.self.inside.share c.counts_since-counts.result.share c.append-appended.result.share c.self.inside.set c.run_with_answers.new.set c.counts_since-counts.result.after (c.counts_since-counts.ensures.share ∙ sym (sym c.take-2.ensures.value ∙ c.in-Some-take.is)) c.self.invariant.1
           c.append-appended.ensures.share c.counts_since-counts.ensures.counts.1
-          (as_many k g.D.Device.gives c.self.inside.set c.run_with_answers.new.set c.args.moment c.args.event.now c.in-Ok.done.0 (world_of c.run_with_answers.new.buffers.store) does there c.rules_are_steps.ensures.allowed c.events_keep_records.ensures held.holds.shut),
+          (as_many g.K.RecordKind.rules g.D.Device.gives c.self.inside.set c.run_with_answers.new.set c.args.moment c.args.event.now c.in-Ok.done.0 (world_of c.run_with_answers.new.buffers.store) c.in-Ok.ensures.ok (there g at) c.calls_have_laws.ensures.events.allowed c.calls_have_laws.ensures.events.kept held.holds.shut),
     )
 
 pub returns-clause-serves : goal.returns-clause-serves
+unfolding done
 returns-clause-serves g c =
+    let at = (goal.at.returns-clause-serves g c).After-counts_since-counts in
     let k = g.K.RecordKind.rules in
-    let is : c.self.inside.pass ≡ Some c.in-Some.pass = sym c.take.ensures.value ∙ c.in-Some.is in
-    let held = subst (λ (o : Option Pass). IsHeld k g.B.EngineName.base (IsDeviceOf g.D.Device.gives g.B.SetsName.devices) g.B.CellName.table o c.self.inside.set) is c.self.invariant.0 in
-    let there : (n : ℕ) → Contains (names c.args.event.now) n → Has (now_of c.self.inside.set) n = λ n has.
-    key_there c.self.inside.set.records n (subst (λ (v : HeldView g.row.K.Denot g.row.D.Denot). Contains (numbers_of v) n) (sym c.self.view_is) (c.requires.there n has)) in
-    let does = c.in-Ok.ensures.ok in
-    let entry = entry_is k g.D.Device.gives c.self.inside.set c.run_with_answers.new.set c.args.moment c.args.event.now c.in-Ok.done.0 (world_of c.run_with_answers.new.buffers.store) does there c.in-Ok.done.1 c.in-Ok.ensures.answers in
     let set = c.append-appended.ensures.set in
-    subst (λ (v : HeldView g.row.K.Denot g.row.D.Denot). Serves k g.D.Device.gives g.B.EngineName.base v c.args.desk.now c.args.moment c.args.event.now c.in-Ok.done.0
+    subst (λ (v : HeldView g.row.K.Denot g.row.D.Denot). Serves k g.D.Device.gives g.B.JournalName.base v c.args.desk.now c.args.moment c.args.event.now c.in-Ok.done.0
     (held_view c.run_with_answers.new.set (cell_view c.append-appended.new.set).seen) c.append-appended.new.desk (world_of c.run_with_answers.new.buffers.store)) c.self.view_is
-    (record { is_call = subst (λ (v : HeldView g.row.K.Denot g.row.D.Denot). no_call k (now_of v.set) c.args.event.now ≡ None) (sym c.self.view_is) c.requires.is_call; does = does; call = subst (λ (x : Entry). Call k g.B.EngineName.base c.args.desk.now x c.append-appended.new.desk) (sym entry) c.append-appended.ensures.call; seen = ap (λ (v : View). v.seen) set.1 })
+    (record {
+      is_call = subst (λ (v : HeldView g.row.K.Denot g.row.D.Denot). no_call k (now_of v.set) c.args.event.now ≡ None) (sym c.self.view_is) c.requires.is_call;
+      does = c.in-Ok.ensures.ok;
+      call = subst (λ (x : Entry). Call k g.B.JournalName.base c.args.desk.now x c.append-appended.new.desk) (sym (done g at).entry_is) c.append-appended.ensures.call;
+      seen = ap (λ (v : View). v.seen) set.1;
+    })
 
 pub returns-clause-ended : goal.returns-clause-ended
 returns-clause-ended g c =
-    let k = g.K.RecordKind.rules in
-    let none = subst (λ (v : HeldView g.row.K.Denot g.row.D.Denot). NoneIsLive v.set) (sym c.self.view_is) c.requires.none in
-    let is : c.self.inside.pass ≡ Some c.in-Some.pass = sym c.take.ensures.value ∙ c.in-Some.is in
-    let held = subst (λ (o : Option Pass). IsHeld k g.B.EngineName.base (IsDeviceOf g.D.Device.gives g.B.SetsName.devices) g.B.CellName.table o c.self.inside.set) is c.self.invariant.0 in
-    let there : (n : ℕ) → Contains (names c.args.event.now) n → Has (now_of c.self.inside.set) n = λ n has.
-    key_there c.self.inside.set.records n (subst (λ (v : HeldView g.row.K.Denot g.row.D.Denot). Contains (numbers_of v) n) (sym c.self.view_is) (c.requires.there n has)) in
-    let does = c.in-Ok.ensures.ok in
-    let entry = entry_is k g.D.Device.gives c.self.inside.set c.run_with_answers.new.set c.args.moment c.args.event.now c.in-Ok.done.0 (world_of c.run_with_answers.new.buffers.store) does there c.in-Ok.done.1 c.in-Ok.ensures.answers in
+    let at = (goal.at.returns-clause-ended g c).After-counts_since-counts in
     let added = c.append-appended.ensures.added in
-    let same = none_held k g.D.Device.gives c.self.inside.set c.run_with_answers.new.set c.args.moment c.args.event.now c.in-Ok.done.0 (world_of c.run_with_answers.new.buffers.store) does there
-    c.events_count_holders.ensures.event c.rules_are_steps.ensures.allowed c.is_sound.ensures.counted none
-    (c.sets_stay_without_puts.ensures.stay c.self.inside.set c.run_with_answers.new.set c.args.moment c.args.event.now c.in-Ok.done.0 (world_of c.run_with_answers.new.buffers.store) does c.requires.ordinary c.is_sound.ensures none) in
-    let none_here = c.sets_stay_without_puts.ensures.ended c.self.inside.set c.run_with_answers.new.set c.args.moment c.args.event.now c.in-Ok.done.0 (world_of c.run_with_answers.new.buffers.store) does c.requires.ordinary c.is_sound.ensures none in
-    none_have_ended k g.B.EngineName.base (world_of c.run_with_answers.new.buffers.store).ended _ c.append-appended.new.desk.seen none_here c.clear.ensures.items
-    (none_ended k g.D.Device.gives c.self.inside.set c.run_with_answers.new.set c.args.moment c.args.event.now c.in-Ok.done.0 (world_of c.run_with_answers.new.buffers.store) does there
-    c.holding_lasts.ensures c.events_are_held.ensures.event c.holders_move.ensures.moves c.parts_share_what_is_held.ensures.alike c.requires.ordinary same
-    g.B.EngineName.base (cell_view c.in-Some.pass).seen (cell_view c.in-Some.pass).owns held.owner.covers held.holds
-    c.those_ended_are_over.ensures.over c.is_sound.ensures.counted none_here _ entry added.0 _ added.1)
+    let none_here = c.sets_stay_without_puts.ensures.ended c.self.inside.set c.run_with_answers.new.set c.args.moment c.args.event.now c.in-Ok.done.0 (world_of c.run_with_answers.new.buffers.store) c.in-Ok.ensures.ok c.requires.ordinary c.is_sound.ensures (none g at) in
+    none_have_ended g.K.RecordKind.rules g.B.JournalName.base (world_of c.run_with_answers.new.buffers.store).ended _ c.append-appended.new.desk.seen none_here c.clear.ensures.items
+    (none_ended (done g at) added.0 _ added.1 c.is_sound.ensures.counted none_here)

@@ -25,73 +25,57 @@ use Rattle.ioc_journaled_set.proofs.Serving.{names_one, begins_no_put, no_cancel
 use Rattle.ioc_history.specs.Counting.{BothMaySend}
 use Rattle.ioc_journaled_set.proofs.Counting.{some_len}
 use Rattle.ioc_journaled_set.proofs.Shares.{backed, counted_then, is_there}
-use Rattle.ioc_journaled_set.proofs.Beside.{both_follow, both_send, both_count, held_beside, moved_beside, ended_beside}
+use Rattle.ioc_journaled_set.proofs.Beside.{IsDoneBeside, both_follow, both_send, both_count, held_beside, moved_beside, ended_beside}
 use Rattle.ioc_journaled_set.proofs.Ended.{have_ended}
+use Rattle.ioc_journaled_set.proofs.journaled_set.JournaledSet.serve_counted.Given.{Over}
+use Rattle.ioc_journaled_set.proofs.journaled_set.JournaledSet.serve_counted.Goals.{After-deref_mut-all}
 use Rattle.ioc_journaled_set.proofs.journaled_set.JournaledSet.serve_counted.Goals as goal
+
+-- The set's pass, and the event as it was done on the set.
+module _ (g : Over) (c : After-deref_mut-all g) where
+  held : IsHeld g.K.RecordKind.rules g.B.JournalName.base (IsDeviceOf g.D.Device.gives g.B.SetsName.devices) g.B.CellName.table (Some c.in-Some.pass) c.self.inside.set
+  held = subst (λ (o : Option Pass). IsHeld g.K.RecordKind.rules g.B.JournalName.base (IsDeviceOf g.D.Device.gives g.B.SetsName.devices) g.B.CellName.table o c.self.inside.set) (sym c.take.ensures.value ∙ c.in-Some.is) c.self.invariant.0
+
+  there : (n : ℕ) → Contains (names c.args.event.now) n → Has (now_of c.self.inside.set) n
+  there n has = key_there c.self.inside.set.records n (subst (λ (v : HeldView g.row.K.Denot g.row.D.Denot). Contains (numbers_of v) n) (sym c.self.view_is) (c.requires.there n has))
+
+  done : IsDoneBeside g.K.RecordKind.rules g.D.Device.gives c.self.inside.set c.run_counted.new.set c.args.moment c.args.event.now c.in_ok-ran.ran.reply (world_of c.run_counted.new.buffers.store) g.B.JournalName.base (cell_view c.in-Some.pass).seen c.deref_mut-all.result.now.seen (cell_view c.in-Some.pass).owns
+      c.in_ok-ran.ran.entry
+  done = record {
+    does = c.in_ok-ran.ensures.does;
+    there = there;
+    laws = c.calls_have_laws.ensures;
+    covers = held.owner.covers;
+    holds = held.holds;
+    cancels = λ log sound go legal h. no_cancel g.K.RecordKind.rules (map_of g.K.RecordKind.rules g.B.JournalName.base log) (now_of c.self.inside.set) c.args.event.now c.requires.ordinary;
+    asks =
+        λ log sound go legal h. asks_nothing g.K.RecordKind.rules (begun_at c.args.moment (now_of c.self.inside.set)) (begun_at c.args.moment (map_of g.K.RecordKind.rules g.B.JournalName.base log)) c.args.event.now c.requires.ordinary;
+    entry_is = entry_is g.K.RecordKind.rules g.D.Device.gives c.self.inside.set c.run_counted.new.set c.args.moment c.args.event.now c.in_ok-ran.ran.reply (world_of c.run_counted.new.buffers.store) c.in_ok-ran.ensures.does there (answers_of (world_of c.run_counted.new.buffers.store).calls) refl ∙ sym c.in_ok-ran.ensures.entry;
+  }
 
 pub unreachable-requires : goal.unreachable-requires
 unreachable-requires g c =
     let k = g.K.RecordKind.rules in
     let none : c.self.inside.pass ≡ None = sym c.take.ensures.value ∙ c.in_default.is in
-    let held = subst (λ (o : Option Pass). IsHeld k g.B.EngineName.base (IsDeviceOf g.D.Device.gives g.B.SetsName.devices) g.B.CellName.table o c.self.inside.set) none c.self.invariant.0 in
+    let held = subst (λ (o : Option Pass). IsHeld k g.B.JournalName.base (IsDeviceOf g.D.Device.gives g.B.SetsName.devices) g.B.CellName.table o c.self.inside.set) none c.self.invariant.0 in
     let one = names_one c.args.event.now c.requires.ordinary in
     held.owner one.0 (key_there c.self.inside.set.records one.0 (subst (λ (v : HeldView g.row.K.Denot g.row.D.Denot). Contains (numbers_of v) one.0) (sym c.self.view_is) (c.requires.there one.0 one.1)))
 
 pub keep_beside-appended-requires-clause-follows : goal.keep_beside-appended-requires-clause-follows
 keep_beside-appended-requires-clause-follows g c =
-    let k = g.K.RecordKind.rules in
-    let base = g.B.EngineName.base in
-    let is : c.self.inside.pass ≡ Some c.in-Some.pass = sym c.take.ensures.value ∙ c.in-Some.is in
-    let held = subst (λ (o : Option Pass). IsHeld k base (IsDeviceOf g.D.Device.gives g.B.SetsName.devices) g.B.CellName.table o c.self.inside.set) is c.self.invariant.0 in
-    let there : (n : ℕ) → Contains (names c.args.event.now) n → Has (now_of c.self.inside.set) n = λ n has.
-    key_there c.self.inside.set.records n (subst (λ (v : HeldView g.row.K.Denot g.row.D.Denot). Contains (numbers_of v) n) (sym c.self.view_is) (c.requires.there n has)) in
-    let does = c.in_ok-ran.ensures.does in
-    let come_to = world_of c.run_counted.new.buffers.store in
-    let entry = entry_is k g.D.Device.gives c.self.inside.set c.run_counted.new.set c.args.moment c.args.event.now c.in_ok-ran.ran.reply come_to does there (answers_of come_to.calls) refl ∙ sym c.in_ok-ran.ensures.entry in
-    let also = c.deref_mut-all.result.now.seen in
-    both_follow k g.D.Device.gives c.self.inside.set c.run_counted.new.set c.args.moment c.args.event.now c.in_ok-ran.ran.reply come_to does there
-    c.holding_lasts.ensures c.events_are_held.ensures.event c.holders_move.ensures.moves c.parts_share_what_is_held.ensures.alike
-    base (cell_view c.in-Some.pass).seen also (cell_view c.in-Some.pass).owns held.owner.covers held.holds
-    (λ log sound go legal h. no_cancel k (map_of k base log) (now_of c.self.inside.set) c.args.event.now c.requires.ordinary)
-    (λ log sound go legal h. asks_nothing k (begun_at c.args.moment (now_of c.self.inside.set)) (begun_at c.args.moment (map_of k base log)) c.args.event.now c.requires.ordinary) _ entry
+    let at = (goal.at.keep_beside-appended-requires-clause-follows g c).After-deref_mut-all in
+    both_follow (done g at)
 
 pub keep_beside-appended-requires-clause-sent : goal.keep_beside-appended-requires-clause-sent
 keep_beside-appended-requires-clause-sent g c =
-    let k = g.K.RecordKind.rules in
-    let base = g.B.EngineName.base in
-    let is : c.self.inside.pass ≡ Some c.in-Some.pass = sym c.take.ensures.value ∙ c.in-Some.is in
-    let held = subst (λ (o : Option Pass). IsHeld k base (IsDeviceOf g.D.Device.gives g.B.SetsName.devices) g.B.CellName.table o c.self.inside.set) is c.self.invariant.0 in
-    let there : (n : ℕ) → Contains (names c.args.event.now) n → Has (now_of c.self.inside.set) n = λ n has.
-    key_there c.self.inside.set.records n (subst (λ (v : HeldView g.row.K.Denot g.row.D.Denot). Contains (numbers_of v) n) (sym c.self.view_is) (c.requires.there n has)) in
-    let does = c.in_ok-ran.ensures.does in
-    let come_to = world_of c.run_counted.new.buffers.store in
-    let entry = entry_is k g.D.Device.gives c.self.inside.set c.run_counted.new.set c.args.moment c.args.event.now c.in_ok-ran.ran.reply come_to does there (answers_of come_to.calls) refl ∙ sym c.in_ok-ran.ensures.entry in
-    let also = c.deref_mut-all.result.now.seen in
-    subst (λ (n : ℕ). BothMaySend k base (cell_view c.in-Some.pass).seen (cell_view c.in-Some.pass).owns also puts_key c.in_ok-ran.ran.entry n) (sym c.counts_since-counts.ensures.sent)
-    (both_send k g.D.Device.gives c.self.inside.set c.run_counted.new.set c.args.moment c.args.event.now c.in_ok-ran.ran.reply come_to does there
-    c.holding_lasts.ensures c.events_are_held.ensures.event c.holders_move.ensures.moves c.parts_share_what_is_held.ensures.alike
-    base (cell_view c.in-Some.pass).seen also (cell_view c.in-Some.pass).owns held.owner.covers held.holds
-    (λ log sound go legal h. no_cancel k (map_of k base log) (now_of c.self.inside.set) c.args.event.now c.requires.ordinary)
-    (λ log sound go legal h. asks_nothing k (begun_at c.args.moment (now_of c.self.inside.set)) (begun_at c.args.moment (map_of k base log)) c.args.event.now c.requires.ordinary) c.parts_count_alike.ensures _ entry)
+    let at = (goal.at.keep_beside-appended-requires-clause-sent g c).After-deref_mut-all in
+    subst (λ (n : ℕ). BothMaySend g.K.RecordKind.rules g.B.JournalName.base (cell_view c.in-Some.pass).seen (cell_view c.in-Some.pass).owns c.deref_mut-all.result.now.seen puts_key c.in_ok-ran.ran.entry n) (sym c.counts_since-counts.ensures.sent)
+    (both_send (done g at))
 
 pub keep_beside-appended-requires-clause-counts : goal.keep_beside-appended-requires-clause-counts
 keep_beside-appended-requires-clause-counts g c =
-    let k = g.K.RecordKind.rules in
-    let base = g.B.EngineName.base in
-    let is : c.self.inside.pass ≡ Some c.in-Some.pass = sym c.take.ensures.value ∙ c.in-Some.is in
-    let held = subst (λ (o : Option Pass). IsHeld k base (IsDeviceOf g.D.Device.gives g.B.SetsName.devices) g.B.CellName.table o c.self.inside.set) is c.self.invariant.0 in
-    let there : (n : ℕ) → Contains (names c.args.event.now) n → Has (now_of c.self.inside.set) n = λ n has.
-    key_there c.self.inside.set.records n (subst (λ (v : HeldView g.row.K.Denot g.row.D.Denot). Contains (numbers_of v) n) (sym c.self.view_is) (c.requires.there n has)) in
-    let does = c.in_ok-ran.ensures.does in
-    let come_to = world_of c.run_counted.new.buffers.store in
-    let entry = entry_is k g.D.Device.gives c.self.inside.set c.run_counted.new.set c.args.moment c.args.event.now c.in_ok-ran.ran.reply come_to does there (answers_of come_to.calls) refl ∙ sym c.in_ok-ran.ensures.entry in
-    let also = c.deref_mut-all.result.now.seen in
-    both_count k g.D.Device.gives c.self.inside.set c.run_counted.new.set c.args.moment c.args.event.now c.in_ok-ran.ran.reply come_to does there
-    c.holding_lasts.ensures c.events_are_held.ensures.event c.holders_move.ensures.moves c.parts_share_what_is_held.ensures.alike
-    base (cell_view c.in-Some.pass).seen also (cell_view c.in-Some.pass).owns held.owner.covers held.holds
-    (λ log sound go legal h. no_cancel k (map_of k base log) (now_of c.self.inside.set) c.args.event.now c.requires.ordinary)
-    (λ log sound go legal h. asks_nothing k (begun_at c.args.moment (now_of c.self.inside.set)) (begun_at c.args.moment (map_of k base log)) c.args.event.now c.requires.ordinary) c.parts_count_alike.ensures _ entry
-    c.counts_since-counts.result.share c.counts_since-counts.result.before c.counts_since-counts.result.after (λ none. is_there c.counts_since-counts.ensures.share none)
+    let at = (goal.at.keep_beside-appended-requires-clause-counts g c).After-deref_mut-all in
+    both_count (done g at) c.counts_since-counts.result.share c.counts_since-counts.result.before c.counts_since-counts.result.after (λ none. is_there c.counts_since-counts.ensures.share none)
     (c.counts_since-counts.ensures.counts.0 ∙ c.tally-tally.ensures) c.counts_since-counts.ensures.counts.1
 
 pub keep_beside-appended-requires-clause-backed : goal.keep_beside-appended-requires-clause-backed
@@ -108,95 +92,55 @@ keep_beside-appended-requires-clause-begins g c =
 
 pub keep_beside-appended-requires-clause-moves : goal.keep_beside-appended-requires-clause-moves
 keep_beside-appended-requires-clause-moves g c =
-    let k = g.K.RecordKind.rules in
-    let base = g.B.EngineName.base in
-    let is : c.self.inside.pass ≡ Some c.in-Some.pass = sym c.take.ensures.value ∙ c.in-Some.is in
-    let held = subst (λ (o : Option Pass). IsHeld k base (IsDeviceOf g.D.Device.gives g.B.SetsName.devices) g.B.CellName.table o c.self.inside.set) is c.self.invariant.0 in
-    let there : (n : ℕ) → Contains (names c.args.event.now) n → Has (now_of c.self.inside.set) n = λ n has.
-    key_there c.self.inside.set.records n (subst (λ (v : HeldView g.row.K.Denot g.row.D.Denot). Contains (numbers_of v) n) (sym c.self.view_is) (c.requires.there n has)) in
-    let does = c.in_ok-ran.ensures.does in
-    let come_to = world_of c.run_counted.new.buffers.store in
-    let entry = entry_is k g.D.Device.gives c.self.inside.set c.run_counted.new.set c.args.moment c.args.event.now c.in_ok-ran.ran.reply come_to does there (answers_of come_to.calls) refl ∙ sym c.in_ok-ran.ensures.entry in
-    let also = c.deref_mut-all.result.now.seen in
-    λ log longer added. subst (λ (ls : List Live). AreMoved k base log longer ls c.run_counted.new.set.live) (sym (c.deref.ensures.value ∙ c.in_ok-ran.ensures.before))
-    (moved_beside k g.D.Device.gives c.self.inside.set c.run_counted.new.set c.args.moment c.args.event.now c.in_ok-ran.ran.reply come_to does there
-    c.holding_lasts.ensures c.events_are_held.ensures.event c.holders_move.ensures.moves c.parts_share_what_is_held.ensures.alike
-    base (cell_view c.in-Some.pass).seen also (cell_view c.in-Some.pass).owns held.owner.covers held.holds
-    (λ log sound go legal h. no_cancel k (map_of k base log) (now_of c.self.inside.set) c.args.event.now c.requires.ordinary)
-    (λ log sound go legal h. asks_nothing k (begun_at c.args.moment (now_of c.self.inside.set)) (begun_at c.args.moment (map_of k base log)) c.args.event.now c.requires.ordinary) _ entry log longer added
-    c.holders_move.ensures.fewer c.holders_move.ensures.few c.lists_leave_sound.ensures.after c.lines_tell_holders.ensures.holders c.is_sound.ensures.counted c.in_ok-ran.ensures.sound.counted)
+    let at = (goal.at.keep_beside-appended-requires-clause-moves g c).After-deref_mut-all in
+    λ log longer added. subst (λ (ls : List Live). AreMoved g.K.RecordKind.rules g.B.JournalName.base log longer ls c.run_counted.new.set.live) (sym (c.deref.ensures.value ∙ c.in_ok-ran.ensures.before))
+    (moved_beside (done g at) log longer added c.lines_tell_holders.ensures.holders c.is_sound.ensures.counted c.in_ok-ran.ensures.sound.counted)
 
 pub invariant_of-self-2 : goal.invariant_of-self-2
 invariant_of-self-2 g c =
+    let at = (goal.at.invariant_of-self-2 g c).After-deref_mut-all in
     let k = g.K.RecordKind.rules in
-    let base = g.B.EngineName.base in
-    let is : c.self.inside.pass ≡ Some c.in-Some.pass = sym c.take.ensures.value ∙ c.in-Some.is in
-    let held = subst (λ (o : Option Pass). IsHeld k base (IsDeviceOf g.D.Device.gives g.B.SetsName.devices) g.B.CellName.table o c.self.inside.set) is c.self.invariant.0 in
-    let there : (n : ℕ) → Contains (names c.args.event.now) n → Has (now_of c.self.inside.set) n = λ n has.
-    key_there c.self.inside.set.records n (subst (λ (v : HeldView g.row.K.Denot g.row.D.Denot). Contains (numbers_of v) n) (sym c.self.view_is) (c.requires.there n has)) in
+    let held = held g at in
     let does = c.in_ok-ran.ensures.does in
-    let come_to = world_of c.run_counted.new.buffers.store in
-    let entry = entry_is k g.D.Device.gives c.self.inside.set c.run_counted.new.set c.args.moment c.args.event.now c.in_ok-ran.ran.reply come_to does there (answers_of come_to.calls) refl ∙ sym c.in_ok-ran.ensures.entry in
-    let also = c.deref_mut-all.result.now.seen in
     let pass = c.keep_beside-appended.ensures.pass in
     let added = c.keep_beside-appended.ensures.added in
-    let came = only k g.D.Device.gives c.self.inside.set c.run_counted.new.set c.args.moment c.args.event.now c.in_ok-ran.ran.reply come_to does there c.rules_are_steps.ensures.allowed c.events_keep_records.ensures held.holds.shut in (
+    let came = only g.K.RecordKind.rules g.D.Device.gives c.self.inside.set c.run_counted.new.set c.args.moment c.args.event.now c.in_ok-ran.ran.reply (world_of c.run_counted.new.buffers.store) does (there g at) c.calls_have_laws.ensures.events.allowed c.calls_have_laws.ensures.events.kept held.holds.shut in (
       record {
         owner = owner_on g.B.CellName.table _ _ (cell_view c.in-Some.pass) (cell_view c.keep_beside-appended.new.pass) _ (now_of c.self.inside.set) (now_of c.run_counted.new.set) held.owner (pass.0 ∙ sym held.owner.same) pass.1 came;
         devices = keeps_on g.D.Device.gives g.B.SetsName.devices c.self.inside.set c.run_counted.new.set held.devices (worked_there does.work) came;
-        holds = subst (λ (x : View). Holds k (map_of k base x.seen) (now_of c.run_counted.new.set)) (sym pass.1)
-            (held_beside k g.D.Device.gives c.self.inside.set c.run_counted.new.set c.args.moment c.args.event.now c.in_ok-ran.ran.reply come_to does there
-            c.holding_lasts.ensures c.events_are_held.ensures.event c.holders_move.ensures.moves c.parts_share_what_is_held.ensures.alike
-            base (cell_view c.in-Some.pass).seen also (cell_view c.in-Some.pass).owns held.owner.covers held.holds
-            (λ log sound go legal h. no_cancel k (map_of k base log) (now_of c.self.inside.set) c.args.event.now c.requires.ordinary)
-            (λ log sound go legal h. asks_nothing k (begun_at c.args.moment (now_of c.self.inside.set)) (begun_at c.args.moment (map_of k base log)) c.args.event.now c.requires.ordinary) _ entry added.0 _ added.1);
+        holds = subst (λ (x : View). Holds k (map_of k g.B.JournalName.base x.seen) (now_of c.run_counted.new.set)) (sym pass.1) (held_beside (done g at) added.0 _ added.1);
       },
       counted_then c.self.inside.share c.counts_since-counts.result.share c.keep_beside-appended.result.share c.self.inside.set c.run_counted.new.set c.counts_since-counts.result.after (c.counts_since-counts.ensures.share ∙ sym (sym c.take-2.ensures.value ∙ c.in-Some-take.is)) c.self.invariant.1
           c.keep_beside-appended.ensures.share c.counts_since-counts.ensures.counts.1
-          (as_many k g.D.Device.gives c.self.inside.set c.run_counted.new.set c.args.moment c.args.event.now c.in_ok-ran.ran.reply come_to does there c.rules_are_steps.ensures.allowed c.events_keep_records.ensures held.holds.shut),
+          (as_many g.K.RecordKind.rules g.D.Device.gives c.self.inside.set c.run_counted.new.set c.args.moment c.args.event.now c.in_ok-ran.ran.reply (world_of c.run_counted.new.buffers.store) does (there g at) c.calls_have_laws.ensures.events.allowed c.calls_have_laws.ensures.events.kept held.holds.shut),
     )
 
 pub returns-clause-serves : goal.returns-clause-serves
+unfolding done
 returns-clause-serves g c =
+    let at = (goal.at.returns-clause-serves g c).After-deref_mut-all in
     let k = g.K.RecordKind.rules in
-    let base = g.B.EngineName.base in
-    let is : c.self.inside.pass ≡ Some c.in-Some.pass = sym c.take.ensures.value ∙ c.in-Some.is in
-    let held = subst (λ (o : Option Pass). IsHeld k base (IsDeviceOf g.D.Device.gives g.B.SetsName.devices) g.B.CellName.table o c.self.inside.set) is c.self.invariant.0 in
-    let there : (n : ℕ) → Contains (names c.args.event.now) n → Has (now_of c.self.inside.set) n = λ n has.
-    key_there c.self.inside.set.records n (subst (λ (v : HeldView g.row.K.Denot g.row.D.Denot). Contains (numbers_of v) n) (sym c.self.view_is) (c.requires.there n has)) in
-    let does = c.in_ok-ran.ensures.does in
-    let come_to = world_of c.run_counted.new.buffers.store in
-    let entry = entry_is k g.D.Device.gives c.self.inside.set c.run_counted.new.set c.args.moment c.args.event.now c.in_ok-ran.ran.reply come_to does there (answers_of come_to.calls) refl ∙ sym c.in_ok-ran.ensures.entry in
-    let also = c.deref_mut-all.result.now.seen in
-    let pass = c.keep_beside-appended.ensures.pass in
-    let served = subst (λ (v : HeldView g.row.K.Denot g.row.D.Denot). Serves k g.D.Device.gives base v c.args.desk.now c.args.moment c.args.event.now c.in_ok-ran.ran.reply
-    (held_view c.run_counted.new.set (cell_view c.keep_beside-appended.new.pass).seen) c.keep_beside-appended.new.desk come_to) c.self.view_is
-    (record { is_call = subst (λ (v : HeldView g.row.K.Denot g.row.D.Denot). no_call k (now_of v.set) c.args.event.now ≡ None) (sym c.self.view_is) c.requires.is_call; does = does; call = subst (λ (x : Entry). Call k base c.args.desk.now x c.keep_beside-appended.new.desk) (sym entry) c.keep_beside-appended.ensures.call; seen = ap (λ (v : View). v.seen) pass.1 }) in
-    subst (λ (x : SetStore g.row.K.Denot g.row.D.Denot). Serves k g.D.Device.gives base c.args.self.now c.args.desk.now c.args.moment c.args.event.now c.in_ok-ran.ran.reply
-    (held_view c.run_counted.new.set (cell_view c.keep_beside-appended.new.pass).seen) c.keep_beside-appended.new.desk (world_of x)) (sym c.keep_beside-appended.ensures.store) served
+    let base = g.B.JournalName.base in
+    let then = held_view c.run_counted.new.set (cell_view c.keep_beside-appended.new.pass).seen in
+    subst (λ (x : SetStore g.row.K.Denot g.row.D.Denot). Serves k g.D.Device.gives base c.args.self.now c.args.desk.now c.args.moment c.args.event.now c.in_ok-ran.ran.reply then c.keep_beside-appended.new.desk (world_of x)) (sym c.keep_beside-appended.ensures.store)
+    (subst (λ (v : HeldView g.row.K.Denot g.row.D.Denot). Serves k g.D.Device.gives base v c.args.desk.now c.args.moment c.args.event.now c.in_ok-ran.ran.reply then c.keep_beside-appended.new.desk (world_of c.run_counted.new.buffers.store)) c.self.view_is
+    (record {
+      is_call = subst (λ (v : HeldView g.row.K.Denot g.row.D.Denot). no_call k (now_of v.set) c.args.event.now ≡ None) (sym c.self.view_is) c.requires.is_call;
+      does = c.in_ok-ran.ensures.does;
+      call = subst (λ (x : Entry). Call k base c.args.desk.now x c.keep_beside-appended.new.desk) (sym (done g at).entry_is) c.keep_beside-appended.ensures.call;
+      seen = ap (λ (v : View). v.seen) c.keep_beside-appended.ensures.pass.1;
+    }))
 
 pub returns-clause-ended : goal.returns-clause-ended
 returns-clause-ended g c =
+    let at = (goal.at.returns-clause-ended g c).After-deref_mut-all in
     let k = g.K.RecordKind.rules in
-    let base = g.B.EngineName.base in
-    let is : c.self.inside.pass ≡ Some c.in-Some.pass = sym c.take.ensures.value ∙ c.in-Some.is in
-    let held = subst (λ (o : Option Pass). IsHeld k base (IsDeviceOf g.D.Device.gives g.B.SetsName.devices) g.B.CellName.table o c.self.inside.set) is c.self.invariant.0 in
-    let there : (n : ℕ) → Contains (names c.args.event.now) n → Has (now_of c.self.inside.set) n = λ n has.
-    key_there c.self.inside.set.records n (subst (λ (v : HeldView g.row.K.Denot g.row.D.Denot). Contains (numbers_of v) n) (sym c.self.view_is) (c.requires.there n has)) in
-    let does = c.in_ok-ran.ensures.does in
-    let come_to = world_of c.run_counted.new.buffers.store in
-    let entry = entry_is k g.D.Device.gives c.self.inside.set c.run_counted.new.set c.args.moment c.args.event.now c.in_ok-ran.ran.reply come_to does there (answers_of come_to.calls) refl ∙ sym c.in_ok-ran.ensures.entry in
-    let also = c.deref_mut-all.result.now.seen in
+    let base = g.B.JournalName.base in
     let kept = c.keep_beside-appended.ensures in
     let added = kept.added in
     let longer = c.keep_beside-appended.new.desk.seen in
-    let ends = ended_beside k g.D.Device.gives c.self.inside.set c.run_counted.new.set c.args.moment c.args.event.now c.in_ok-ran.ran.reply come_to does there
-    c.holding_lasts.ensures c.events_are_held.ensures.event c.holders_move.ensures.moves c.parts_share_what_is_held.ensures.alike
-    base (cell_view c.in-Some.pass).seen also (cell_view c.in-Some.pass).owns held.owner.covers held.holds
-    (λ log sound go legal h. no_cancel k (map_of k base log) (now_of c.self.inside.set) c.args.event.now c.requires.ordinary)
-    (λ log sound go legal h. asks_nothing k (begun_at c.args.moment (now_of c.self.inside.set)) (begun_at c.args.moment (map_of k base log)) c.args.event.now c.requires.ordinary) _ entry added.0 _ added.1
-    c.those_ended_are_over.ensures.over c.those_ended_are_over.ensures.nobody c.lists_leave_sound.ensures.after c.is_sound.ensures.counted in
+    let ends = ended_beside (done g at) added.0 _ added.1 c.is_sound.ensures.counted in
     let counts = subst (λ (seen : List Note). AreCounted k base c.keep_beside-appended.new.all.live seen) kept.seen kept.counted.1 in
     subst (λ (x : SetStore g.row.K.Denot g.row.D.Denot). HaveEnded k base (world_of x).ended longer c.keep_beside-appended.new.buffers.ended_everywhere.items) (sym kept.store)
-    (have_ended k base c.lines_tell_holders.ensures.live c.lines_tell_holders.ensures.held come_to.ended c.keep_beside-appended.new.buffers.ended_everywhere.items longer c.keep_beside-appended.new.all.live
-    kept.counted.0 counts (c.lists_leave_sound.ensures.after base longer added.1.sound).2 ends kept.ended)
+    (have_ended k base c.lines_tell_holders.ensures.live c.lines_tell_holders.ensures.held (world_of c.run_counted.new.buffers.store).ended c.keep_beside-appended.new.buffers.ended_everywhere.items longer c.keep_beside-appended.new.all.live
+    kept.counted.0 counts (c.calls_have_laws.ensures.sound base longer added.1.sound).2 ends kept.ended)

@@ -6,5 +6,5 @@ use Rattle.ioc_journaled_set.proofs.shared_notifications.SharedNotifications.giv
 
 pub invariant_of-self : goal.invariant_of-self
 invariant_of-self g c =
-    subst (λ (p : Places). AreKept g.K.RecordKind.rules g.B.EngineName.base g.B.CellName.table c.self.inside.pass c.self.inside.table p c.self.inside.last) (sym c.give_back.ensures)
-    (number_given_back g.K.RecordKind.rules g.B.EngineName.base g.B.CellName.table c.self.inside.pass c.self.inside.table c.self.inside.places c.self.inside.last c.args.number c.self.invariant)
+    subst (λ (p : Places). AreKept g.K.RecordKind.rules g.B.JournalName.base g.B.CellName.table c.self.inside.pass c.self.inside.table p c.self.inside.last) (sym c.give_back.ensures)
+    (number_given_back g.K.RecordKind.rules g.B.JournalName.base g.B.CellName.table c.self.inside.pass c.self.inside.table c.self.inside.places c.self.inside.last c.args.number c.self.invariant)

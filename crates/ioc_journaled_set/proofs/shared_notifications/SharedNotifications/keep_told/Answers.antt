@@ -10,42 +10,50 @@ use Rattle.ioc_journaled_set.proofs.Sending.{sends_none, counts_none}
 use Rattle.ioc_history.specs.Line.{holder, noted}
 use Rattle.ioc_history.specs.Account.{journalled, calls, numbers_given, MayFollow, Added, puts_key}
 use Rattle.ioc_history.proofs.Numbers.{begins_none, numbers_below, numbers_same}
-use Rattle.ioc_journaled_set.specs.Puts.{PutsView, NoneIsAbove, AreCounted, AreTaken}
+use Rattle.ioc_device.specs.declared.Answer.{Answer}
+use Rattle.ioc_journaled_set.specs.Puts.{PutsView, told_at, NoneIsAbove, AreCounted, AreTaken, ChangesNothing}
 use Rattle.ioc_journaled_set.proofs.Counted.{counted_on}
+use Rattle.ioc_journaled_set.proofs.Telling.{entry_with, told_follows, told_counts_none, told_alike}
 use Rattle.ioc_journaled_set.proofs.Taken.{taken_as_before}
+use Rattle.ioc_journaled_set.proofs.shared_notifications.SharedNotifications.keep_told.Given.{Over}
+use Rattle.ioc_journaled_set.proofs.shared_notifications.SharedNotifications.keep_told.Goals.{After-none}
 use Rattle.ioc_journaled_set.proofs.shared_notifications.SharedNotifications.keep_told.Goals as goal
+
+-- What the call does to the list that the pass has seen.
+module _ (g : Over) (c : After-none g) where
+  entry_is : told_at c.args.entry.moment c.args.entry.event c.args.entry.reply ≡ c.args.entry
+  entry_is = ap (λ (l : List Answer). entry_with c.args.entry.moment c.args.entry.event c.args.entry.reply l) (sym c.requires.unanswered)
+
+  owns : puts_key ≡ (cell_view c.self.inside.pass).owns
+  owns = ap (λ (v : View). v.owns) (sym c.self.invariant.holds)
+
+  nothing : ChangesNothing g.K.RecordKind.rules g.B.JournalName.base (cell_view c.self.inside.pass).seen c.args.entry
+  nothing = subst (λ (s : List Note). ChangesNothing g.K.RecordKind.rules g.B.JournalName.base s c.args.entry) (ap (λ (v : PutsView). v.seen) (sym c.self.view_is)) c.requires.nothing
+
+  counts_nothing : MayCountNothing g.K.RecordKind.rules g.B.JournalName.base (cell_view c.self.inside.pass).seen (cell_view c.self.inside.pass).owns c.args.entry
+  counts_nothing =
+      let e = c.args.entry in
+      let k = g.K.RecordKind.rules in
+      let seen = (cell_view c.self.inside.pass).seen in
+      subst (λ (ks : List Key). MayCountNothing k g.B.JournalName.base seen ks e) owns (told_counts_none k g.B.JournalName.base e.moment e.event e.reply seen nothing c.requires.completes_none e entry_is)
 
 pub append-requires-clause-follows : goal.append-requires-clause-follows
 append-requires-clause-follows g c =
+    let at = (goal.at.append-requires-clause-follows g c).After-none in
+    let e = c.args.entry in
     let k = g.K.RecordKind.rules in
-    let base = g.B.EngineName.base in
-    let pass = cell_view c.self.inside.pass in
-    let seen = ap (λ (v : PutsView). v.seen) (sym c.self.view_is) in
-    let owns = ap (λ (v : View). v.owns) (sym c.self.invariant.holds) in
-    subst (λ (ks : List Key). MayFollow k base pass.seen ks c.args.entry) owns
-    (subst (λ (s : List Note). MayFollow k base s puts_key c.args.entry) seen c.requires.follows)
+    let seen = (cell_view c.self.inside.pass).seen in
+    subst (λ (ks : List Key). MayFollow k g.B.JournalName.base seen ks e) (owns g at) (told_follows k g.B.JournalName.base e.moment e.event e.reply seen (nothing g at) e (entry_is g at))
 
 pub append-requires-clause-sent : goal.append-requires-clause-sent
 append-requires-clause-sent g c =
-    let k = g.K.RecordKind.rules in
-    let base = g.B.EngineName.base in
     let pass = cell_view c.self.inside.pass in
-    let seen = ap (λ (v : PutsView). v.seen) (sym c.self.view_is) in
-    let owns = ap (λ (v : View). v.owns) (sym c.self.invariant.holds) in
-    let nothing = subst (λ (ks : List Key). MayCountNothing k base pass.seen ks c.args.entry) owns
-    (subst (λ (s : List Note). MayCountNothing k base s puts_key c.args.entry) seen c.requires.none_counted) in
-    sends_none k base pass.seen (cell_view c.self.inside.pass).owns c.args.entry nothing _ c.none.ensures.sent
+    sends_none g.K.RecordKind.rules g.B.JournalName.base pass.seen pass.owns c.args.entry (counts_nothing g (goal.at.append-requires-clause-sent g c).After-none) _ c.none.ensures.sent
 
 pub append-requires-clause-counts : goal.append-requires-clause-counts
 append-requires-clause-counts g c =
-    let k = g.K.RecordKind.rules in
-    let base = g.B.EngineName.base in
     let pass = cell_view c.self.inside.pass in
-    let seen = ap (λ (v : PutsView). v.seen) (sym c.self.view_is) in
-    let owns = ap (λ (v : View). v.owns) (sym c.self.invariant.holds) in
-    let nothing = subst (λ (ks : List Key). MayCountNothing k base pass.seen ks c.args.entry) owns
-    (subst (λ (s : List Note). MayCountNothing k base s puts_key c.args.entry) seen c.requires.none_counted) in
-    counts_none k base pass.seen (cell_view c.self.inside.pass).owns c.args.entry nothing _ _ _ c.none.ensures.share
+    counts_none g.K.RecordKind.rules g.B.JournalName.base pass.seen pass.owns c.args.entry (counts_nothing g (goal.at.append-requires-clause-counts g c).After-none) _ _ _ c.none.ensures.share
 
 pub append-requires-clause-begins : goal.append-requires-clause-begins
 append-requires-clause-begins g c = begins_none (cell_view c.self.inside.pass).seen (cell_view c.self.inside.pass).owns c.args.entry.event c.requires.begins_none
@@ -53,14 +61,15 @@ append-requires-clause-begins g c = begins_none (cell_view c.self.inside.pass).s
 pub invariant_of-self : goal.invariant_of-self
 invariant_of-self g c =
     let k = g.K.RecordKind.rules in
-    let base = g.B.EngineName.base in
+    let base = g.B.JournalName.base in
     let pass = cell_view c.self.inside.pass in
-    let seen = ap (λ (v : PutsView). v.seen) c.self.view_is in
+    let at = (goal.at.invariant_of-self g c).After-none in
+    let e = c.args.entry in
     let owns = ap (λ (v : View). v.owns) c.self.invariant.holds in
     let log = c.append.ensures.added.0 in
     let longer = c.append.new.desk.seen in
     let added = subst (λ (ks : List Key). Added k base pass.seen ks c.args.entry log longer) owns c.append.ensures.added.1 in
-    let alike = c.requires.alike log longer (subst (λ (s : List Note). Added k base s puts_key c.args.entry log longer) seen added) in
+    let alike = told_alike k base e.moment e.event e.reply pass.seen (nothing g at) e (entry_is g at) log longer added in
     let at_log = counted_on k c.live_lasts.ensures base pass.seen log c.self.inside.table.live c.self.invariant.counted added.goes_on added.legal in
     let set = c.append.ensures.set in
     let is : cell_view c.append.new.set ≡ holder longer puts_key = set.1 ∙ ap (λ (ks : List Key). holder longer ks) owns in

@@ -8,13 +8,13 @@ use Rattle.ioc_journaled_set.proofs.shared_notifications.SharedNotifications.tak
 
 pub invariant_of-self : goal.invariant_of-self
 invariant_of-self g c =
-    room_made g.K.RecordKind.rules g.B.EngineName.base g.B.CellName.table c.self.inside.pass c.self.inside.table c.self.inside.places c.make_room.new.self c.self.inside.last c.self.invariant
+    room_made g.K.RecordKind.rules g.B.JournalName.base g.B.CellName.table c.self.inside.pass c.self.inside.table c.self.inside.places c.make_room.new.self c.self.inside.last c.self.invariant
     c.make_room.ensures.taken c.make_room.ensures.kept c.make_room.ensures.within
 
 pub invariant_of-self-2 : goal.invariant_of-self-2
 invariant_of-self-2 g c =
     let k = g.K.RecordKind.rules in
-    let base = g.B.EngineName.base in
+    let base = g.B.JournalName.base in
     let table = g.B.CellName.table in
     let next : c.new-number.result ≡ c.self.inside.last + 1 = c.new-number.ensures in
     subst (λ (n : ℕ). AreKept k base table c.self.inside.pass c.self.inside.table c.take.new.self n) (sym c.number-self-inside.ensures)
@@ -25,7 +25,7 @@ invariant_of-self-2 g c =
 pub returns-clause-taken : goal.returns-clause-taken
 returns-clause-taken g c =
     let k = g.K.RecordKind.rules in
-    let base = g.B.EngineName.base in
+    let base = g.B.JournalName.base in
     let table = g.B.CellName.table in
     let next : c.new-number.result ≡ c.self.inside.last + 1 = c.new-number.ensures in
     let taken : c.take.new.self.taken ≡ c.self.inside.places.taken ++ c.new-number.result ∷ [] = ap (λ (p : Places). p.taken) c.take.ensures ∙ ap (λ (xs : List ℕ). xs ++ c.new-number.result ∷ []) c.make_room.ensures.taken in

@@ -23,45 +23,45 @@ merge_all-requires-clause-passes g c = λ i d lt. (c.requires.held i nothing_hel
 
 pub append-appended-requires-clause-follows : goal.append-appended-requires-clause-follows
 append-appended-requires-clause-follows g c =
-    subst (λ (a : List Answer). MayFollow g.K.RecordKind.rules g.B.EngineName.base (cell_view c.merge_all.new.keeper).seen (cell_view c.merge_all.new.keeper).owns (record { moment = c.args.moment; event = Cancel c.args.number; answers = a; reply = Plain })) (sym (c.new-2.ensures ∙ c.new.ensures.items))
-    (may_follow g.K.RecordKind.rules g.B.EngineName.base c.holding_lasts.ensures c.live_lasts.ensures c.cancelled_sets_are_held.ensures g.B.CellName.table c.args.number c.args.moment c.args.sets.now c.args.passes.now (cell_view c.args.keeper.now) (cell_view c.merge_all.new.keeper)
+    subst (λ (a : List Answer). MayFollow g.K.RecordKind.rules g.B.JournalName.base (cell_view c.merge_all.new.keeper).seen (cell_view c.merge_all.new.keeper).owns (record { moment = c.args.moment; event = Cancel c.args.number; answers = a; reply = Plain })) (sym (c.new-2.ensures ∙ c.new.ensures.items))
+    (may_follow g.K.RecordKind.rules g.B.JournalName.base c.holding_lasts.ensures c.live_lasts.ensures c.cancelled_sets_are_held.ensures g.B.CellName.table c.args.number c.args.moment c.args.sets.now c.args.passes.now (cell_view c.args.keeper.now) (cell_view c.merge_all.new.keeper)
     c.requires.keeper.1 c.requires.held c.requires.have c.all_sound.ensures c.requires.beside c.merge_all.ensures.merged)
 
 pub append-appended-requires-clause-sent : goal.append-appended-requires-clause-sent
 append-appended-requires-clause-sent g c =
-    let nothing = subst (λ (a : List Answer). MayCountNothing g.K.RecordKind.rules g.B.EngineName.base (cell_view c.merge_all.new.keeper).seen (cell_view c.merge_all.new.keeper).owns (record { moment = c.args.moment; event = Cancel c.args.number; answers = a; reply = Plain })) (sym (c.new-2.ensures ∙ c.new.ensures.items))
-    (counts_nothing g.K.RecordKind.rules g.B.EngineName.base c.holding_lasts.ensures c.live_lasts.ensures c.cancelled_sets_are_held.ensures g.B.CellName.table c.args.number c.args.moment c.args.sets.now c.args.passes.now (cell_view c.args.keeper.now) (cell_view c.merge_all.new.keeper)
+    let nothing = subst (λ (a : List Answer). MayCountNothing g.K.RecordKind.rules g.B.JournalName.base (cell_view c.merge_all.new.keeper).seen (cell_view c.merge_all.new.keeper).owns (record { moment = c.args.moment; event = Cancel c.args.number; answers = a; reply = Plain })) (sym (c.new-2.ensures ∙ c.new.ensures.items))
+    (counts_nothing g.K.RecordKind.rules g.B.JournalName.base c.holding_lasts.ensures c.live_lasts.ensures c.cancelled_sets_are_held.ensures g.B.CellName.table c.args.number c.args.moment c.args.sets.now c.args.passes.now (cell_view c.args.keeper.now) (cell_view c.merge_all.new.keeper)
     c.requires.keeper.1 c.requires.held c.requires.have c.all_sound.ensures c.requires.beside c.merge_all.ensures.merged) in
-    sends_none g.K.RecordKind.rules g.B.EngineName.base (cell_view c.merge_all.new.keeper).seen (cell_view c.merge_all.new.keeper).owns _ nothing _ c.none.ensures.sent
+    sends_none g.K.RecordKind.rules g.B.JournalName.base (cell_view c.merge_all.new.keeper).seen (cell_view c.merge_all.new.keeper).owns _ nothing _ c.none.ensures.sent
 
 pub append-appended-requires-clause-counts : goal.append-appended-requires-clause-counts
 append-appended-requires-clause-counts g c =
-    let nothing = subst (λ (a : List Answer). MayCountNothing g.K.RecordKind.rules g.B.EngineName.base (cell_view c.merge_all.new.keeper).seen (cell_view c.merge_all.new.keeper).owns (record { moment = c.args.moment; event = Cancel c.args.number; answers = a; reply = Plain })) (sym (c.new-2.ensures ∙ c.new.ensures.items))
-    (counts_nothing g.K.RecordKind.rules g.B.EngineName.base c.holding_lasts.ensures c.live_lasts.ensures c.cancelled_sets_are_held.ensures g.B.CellName.table c.args.number c.args.moment c.args.sets.now c.args.passes.now (cell_view c.args.keeper.now) (cell_view c.merge_all.new.keeper)
+    let nothing = subst (λ (a : List Answer). MayCountNothing g.K.RecordKind.rules g.B.JournalName.base (cell_view c.merge_all.new.keeper).seen (cell_view c.merge_all.new.keeper).owns (record { moment = c.args.moment; event = Cancel c.args.number; answers = a; reply = Plain })) (sym (c.new-2.ensures ∙ c.new.ensures.items))
+    (counts_nothing g.K.RecordKind.rules g.B.JournalName.base c.holding_lasts.ensures c.live_lasts.ensures c.cancelled_sets_are_held.ensures g.B.CellName.table c.args.number c.args.moment c.args.sets.now c.args.passes.now (cell_view c.args.keeper.now) (cell_view c.merge_all.new.keeper)
     c.requires.keeper.1 c.requires.held c.requires.have c.all_sound.ensures c.requires.beside c.merge_all.ensures.merged) in
-    counts_none g.K.RecordKind.rules g.B.EngineName.base (cell_view c.merge_all.new.keeper).seen (cell_view c.merge_all.new.keeper).owns _ nothing _ _ _ c.none.ensures.share
+    counts_none g.K.RecordKind.rules g.B.JournalName.base (cell_view c.merge_all.new.keeper).seen (cell_view c.merge_all.new.keeper).owns _ nothing _ _ _ c.none.ensures.share
 
 pub deal_all-requires-clause-there : goal.deal_all-requires-clause-there
 deal_all-requires-clause-there g c = subst (λ (x : View). Has_key notifications_key x.owns) (sym c.append-appended.ensures.set.1)
-    (puts_owned g.K.RecordKind.rules g.B.EngineName.base c.holding_lasts.ensures c.live_lasts.ensures c.cancelled_sets_are_held.ensures g.B.CellName.table c.args.number c.args.moment c.args.sets.now c.args.passes.now (cell_view c.args.keeper.now) (cell_view c.merge_all.new.keeper)
+    (puts_owned g.K.RecordKind.rules g.B.JournalName.base c.holding_lasts.ensures c.live_lasts.ensures c.cancelled_sets_are_held.ensures g.B.CellName.table c.args.number c.args.moment c.args.sets.now c.args.passes.now (cell_view c.args.keeper.now) (cell_view c.merge_all.new.keeper)
     c.requires.keeper.1 c.requires.held c.requires.have c.all_sound.ensures c.requires.beside c.merge_all.ensures.merged)
 
 pub deal_all-requires-clause-covers : goal.deal_all-requires-clause-covers
 deal_all-requires-clause-covers g c = λ i d lt. subst (λ (x : View). Cover x.owns (now_of (get_or c.cancel_all.new.sets i d))) (sym c.append-appended.ensures.set.1)
-    (covered_then g.K.RecordKind.rules g.B.EngineName.base c.holding_lasts.ensures c.live_lasts.ensures c.cancelled_sets_are_held.ensures g.B.CellName.table c.args.number c.args.moment c.args.sets.now c.args.passes.now (cell_view c.args.keeper.now) (cell_view c.merge_all.new.keeper)
+    (covered_then g.K.RecordKind.rules g.B.JournalName.base c.holding_lasts.ensures c.live_lasts.ensures c.cancelled_sets_are_held.ensures g.B.CellName.table c.args.number c.args.moment c.args.sets.now c.args.passes.now (cell_view c.args.keeper.now) (cell_view c.merge_all.new.keeper)
     c.requires.keeper.1 c.requires.held c.requires.have c.all_sound.ensures c.requires.beside c.merge_all.ensures.merged
     c.cancel_all.new.sets c.in_default.ensures.ok c.cancel_all.auto.sets i d lt)
 
 pub deal_all-requires-clause-apart : goal.deal_all-requires-clause-apart
 deal_all-requires-clause-apart g c =
-    share_none_then g.K.RecordKind.rules g.B.EngineName.base c.holding_lasts.ensures c.live_lasts.ensures c.cancelled_sets_are_held.ensures g.B.CellName.table c.args.number c.args.moment c.args.sets.now c.args.passes.now (cell_view c.args.keeper.now) (cell_view c.merge_all.new.keeper)
+    share_none_then g.K.RecordKind.rules g.B.JournalName.base c.holding_lasts.ensures c.live_lasts.ensures c.cancelled_sets_are_held.ensures g.B.CellName.table c.args.number c.args.moment c.args.sets.now c.args.passes.now (cell_view c.args.keeper.now) (cell_view c.merge_all.new.keeper)
     c.requires.keeper.1 c.requires.held c.requires.have c.all_sound.ensures c.requires.beside c.merge_all.ensures.merged
     c.cancel_all.new.sets c.in_default.ensures.ok c.cancel_all.auto.sets
 
 pub returns-clause-gave_up : goal.returns-clause-gave_up
 returns-clause-gave_up g c =
     let k = g.K.RecordKind.rules in
-    let base = g.B.EngineName.base in
+    let base = g.B.JournalName.base in
     let after = c.cancel_all.new.sets in
     let longer = c.append-appended.new.desk.seen in
     let seen = ap (λ (v : View). v.seen) c.append-appended.ensures.set.1 in
@@ -74,20 +74,20 @@ returns-clause-gave_up g c =
       call = subst (λ (a : List Answer). Call k base c.args.desk.now (record { moment = c.args.moment; event = Cancel c.args.number; answers = a; reply = Plain }) c.append-appended.new.desk) none c.append-appended.ensures.call;
       dealt = λ i d e lt. subst (λ (t : TableId). IsDealt t longer (get_or after i d) (get_or c.deal_all.new.passes i e)) table
           (subst (λ (l : List Note). IsDealt c.append-appended.new.set.table_id l (get_or after i d) (get_or c.deal_all.new.passes i e)) seen (c.deal_all.ensures.dealt i d e lt));
-      holds = λ i d lt. held_then g.K.RecordKind.rules g.B.EngineName.base c.holding_lasts.ensures c.live_lasts.ensures c.cancelled_sets_are_held.ensures g.B.CellName.table c.args.number c.args.moment c.args.sets.now c.args.passes.now (cell_view c.args.keeper.now) (cell_view c.merge_all.new.keeper)
+      holds = λ i d lt. held_then g.K.RecordKind.rules g.B.JournalName.base c.holding_lasts.ensures c.live_lasts.ensures c.cancelled_sets_are_held.ensures g.B.CellName.table c.args.number c.args.moment c.args.sets.now c.args.passes.now (cell_view c.args.keeper.now) (cell_view c.merge_all.new.keeper)
           c.requires.keeper.1 c.requires.held c.requires.have c.all_sound.ensures c.requires.beside c.merge_all.ensures.merged
           log longer added after c.in_default.ensures.ok i d (let same = c.cancel_all.auto.sets in omega (arith, lt, same));
       keeps = c.deal_all.ensures.keeper.1 ∙ ap (λ (l : List Note). holder l puts_key) seen;
-      nobody = nobody_then g.K.RecordKind.rules g.B.EngineName.base c.holding_lasts.ensures c.live_lasts.ensures c.cancelled_sets_are_held.ensures g.B.CellName.table c.args.number c.args.moment c.args.sets.now c.args.passes.now (cell_view c.args.keeper.now) (cell_view c.merge_all.new.keeper)
+      nobody = nobody_then g.K.RecordKind.rules g.B.JournalName.base c.holding_lasts.ensures c.live_lasts.ensures c.cancelled_sets_are_held.ensures g.B.CellName.table c.args.number c.args.moment c.args.sets.now c.args.passes.now (cell_view c.args.keeper.now) (cell_view c.merge_all.new.keeper)
           c.requires.keeper.1 c.requires.held c.requires.have c.all_sound.ensures c.requires.beside c.merge_all.ensures.merged
           log longer added;
-      none_ended = none_ended_then g.K.RecordKind.rules g.B.EngineName.base c.holding_lasts.ensures c.live_lasts.ensures c.cancelled_sets_are_held.ensures g.B.CellName.table c.args.number c.args.moment c.args.sets.now c.args.passes.now (cell_view c.args.keeper.now) (cell_view c.merge_all.new.keeper)
+      none_ended = none_ended_then g.K.RecordKind.rules g.B.JournalName.base c.holding_lasts.ensures c.live_lasts.ensures c.cancelled_sets_are_held.ensures g.B.CellName.table c.args.number c.args.moment c.args.sets.now c.args.passes.now (cell_view c.args.keeper.now) (cell_view c.merge_all.new.keeper)
           c.requires.keeper.1 c.requires.held c.requires.have c.all_sound.ensures c.requires.beside c.merge_all.ensures.merged
           log longer added;
-      others = others_then g.K.RecordKind.rules g.B.EngineName.base c.holding_lasts.ensures c.live_lasts.ensures c.cancelled_sets_are_held.ensures g.B.CellName.table c.args.number c.args.moment c.args.sets.now c.args.passes.now (cell_view c.args.keeper.now) (cell_view c.merge_all.new.keeper)
+      others = others_then g.K.RecordKind.rules g.B.JournalName.base c.holding_lasts.ensures c.live_lasts.ensures c.cancelled_sets_are_held.ensures g.B.CellName.table c.args.number c.args.moment c.args.sets.now c.args.passes.now (cell_view c.args.keeper.now) (cell_view c.merge_all.new.keeper)
           c.requires.keeper.1 c.requires.held c.requires.have c.all_sound.ensures c.requires.beside c.merge_all.ensures.merged
           log longer added;
-      none_began = none_began_then g.K.RecordKind.rules g.B.EngineName.base c.holding_lasts.ensures c.live_lasts.ensures c.cancelled_sets_are_held.ensures g.B.CellName.table c.args.number c.args.moment c.args.sets.now c.args.passes.now (cell_view c.args.keeper.now) (cell_view c.merge_all.new.keeper)
+      none_began = none_began_then g.K.RecordKind.rules g.B.JournalName.base c.holding_lasts.ensures c.live_lasts.ensures c.cancelled_sets_are_held.ensures g.B.CellName.table c.args.number c.args.moment c.args.sets.now c.args.passes.now (cell_view c.args.keeper.now) (cell_view c.merge_all.new.keeper)
           c.requires.keeper.1 c.requires.held c.requires.have c.all_sound.ensures c.requires.beside c.merge_all.ensures.merged
           log longer added c.append-appended.ensures.call.legal.puts_keyed;
     }

@@ -5,12 +5,12 @@ use Rattle.ioc_journaled_set.proofs.TakingOver.{none_taken, one_more_taken, pass
 use Rattle.ioc_journaled_set.proofs.together.merging.merge_all.Goals as goal
 
 pub loop-i-init : goal.loop-i-init
-loop-i-init g c = record { keeper = c.requires.keeper; merged = none_taken g.K.RecordKind.rules g.B.EngineName.base (view_of c.args.keeper.now); rest = λ j d le. refl }
+loop-i-init g c = record { keeper = c.requires.keeper; merged = none_taken g.K.RecordKind.rules g.B.JournalName.base (view_of c.args.keeper.now); rest = λ j d le. refl }
 
 pub loop-i-preserved : goal.loop-i-preserved
 loop-i-preserved g c =
     let k = g.K.RecordKind.rules in
-    let base = g.B.EngineName.base in
+    let base = g.B.JournalName.base in
     let table = g.B.CellName.table in
     let i = c.loop-i.i in
     let old = c.args.passes.now in

@@ -1,10 +1,11 @@
-//! Names an engine.
+//! Names the journal of an engine.
 use crate::CellName;
 use std::marker::Brand;
 
-/// Names an engine: its cell, the world at the load, the ledger of the held places of its journal,
-/// the ledger of the tickets of its requests, and those of its counts. Its records are of kind `K`.
-pub trait EngineName<K>: CellName {
+/// Names the journal of an engine: its cell, the world at the load, the ledger of the held places,
+/// the ledger of the tickets of requests, and those of the counts. The engine's records are of
+/// kind `K`.
+pub trait JournalName<K>: CellName {
     ghost use Rattle.std.specs.Prelude.{ℕ};
     ghost use Rattle.ioc_store.specs.World.{World};
 
@@ -21,7 +22,7 @@ pub trait EngineName<K>: CellName {
     ghost counts: { ℕ → ℕ };
 }
 
-impl<K> EngineName<K> for Brand {
+impl<K> JournalName<K> for Brand {
     ghost use Rattle.ioc_history.specs.Unnamed.{no_world};
 
     ghost base = { no_world };

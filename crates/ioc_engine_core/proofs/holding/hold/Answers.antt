@@ -10,8 +10,8 @@ use Rattle.ioc_set.specs.SetState.{SetState, now_of}
 use Rattle.ioc_set_store.specs.Resting.{resting}
 use Rattle.ioc_journaled_set.specs.Holding.{IsOwner, KeepsDevices}
 use Rattle.ioc_journaled_set.specs.SameDevice.{IsDeviceOf}
-use Rattle.ioc_engine_core.proofs.Keys.{contains_record, there_key}
-use Rattle.ioc_engine_core.proofs.holding.hold_as.Goals as goal
+use Rattle.ioc_journaled_set.proofs.Keys.{contains_record, there_key}
+use Rattle.ioc_engine_core.proofs.holding.hold.Goals as goal
 
 pub claim-pass-requires-clause-fresh : goal.claim-pass-requires-clause-fresh
 claim-pass-requires-clause-fresh g c = λ key has. c.requires.fresh key (subst (λ (l : List Key). Has key l) c.requires.keys has)

@@ -1,8 +1,0 @@
-use Rattle.std.proofs.Common.{[]}
-use Rattle.std.specs.FinMap.{keys}
-use Rattle.ioc_history.specs.Key.{record_keys}
-use Rattle.ioc_engine_core.proofs.holding.hold.Given as goal
-
--- The keys of the records.
-abbrev pub ghosts-hold_as : goal.ghosts-hold_as
-ghosts-hold_as g a = record { keys = record_keys (keys a.members.records); rest = [] }
