@@ -4,7 +4,7 @@ use Rattle.atomic_table.specs.Seated.{TableId}
 use Rattle.rec_types.specs.Record.{Record}
 use Rattle.ioc_store.specs.World.{World}
 use Rattle.ioc_ledger.specs.Shared.{names_of}
-use Rattle.ioc_history.specs.declared.engine_name.EngineName
+use Rattle.ioc_history.specs.declared.journal_name.JournalName
 use Rattle.ioc_history.specs.declared.cell.CellName
 use Rattle.ioc_journaled_set.specs.declared.sets_name.SetsName
 use Rattle.ioc_engine_core.specs.Loading.{loaded_world, device_in}
@@ -21,7 +21,7 @@ pub record IsNamedBy {D : Type 0} (table : TableId) (base : World Record) (devic
   pub counts_are : counts ≡ names_of seed.counts
 
 -- The name of the engine that a seed becomes.
-abbrev pub name_of : {S D : Type 0} → Seed D → EngineName.Ghosts S Record
+abbrev pub name_of : {S D : Type 0} → Seed D → JournalName.Ghosts S Record
 name_of seed = record { base = loaded_world seed.records.items; places = seed.places.name; tickets = seed.tickets.name; counts = names_of seed.counts }
 
 abbrev pub cell_of : {S D : Type 0} → Seed D → CellName.Ghosts S
