@@ -19,6 +19,7 @@ use crate::engine_name::EngineName;
 use crate::type_laws::types_stay;
 use ioc_device::Device;
 use ioc_events::Reply;
+use ioc_journaled_set::FieldPut;
 use ioc_notify::NotifyId;
 use ioc_values::{Input, IocError};
 use rec_types::Record;
@@ -55,17 +56,14 @@ impl<B: EngineName<D>, D: Device, C: Clock + Drop> Engine<B, D, C> {
         types_stay::<Record>();
         desk.buffers.ended_everywhere.clear();
         let alloc = desk.alloc;
-        let moment = self.clock.now();
-        self.core.put_notify(
-            rt,
-            alloc,
-            &mut desk.account,
-            &mut desk.buffers,
-            channel.record(),
-            channel.field,
+        let put = FieldPut {
+            number: channel.record(),
+            field: channel.field,
             given,
-            moment,
-        )
+            moment: self.clock.now(),
+        };
+        self.core
+            .put_notify(rt, alloc, &mut desk.account, &mut desk.buffers, put)
     }
 
     /// Replies whether the put with notification with this number is live, which it is from its

@@ -51,7 +51,7 @@ impl<K: RecordKind + Drop, B: SetsName<K, D>, D: Device> EngineCore<K, B, D> {
         if puts.is_live(number) {
             return Ok(None);
         }
-        let told = puts.refuse_cancel(rt, alloc, &self.book, desk, number, moment)?;
+        let told = puts.refuse_cancel(&self.access(rt, alloc), desk, number, moment)?;
         Ok(Some(told))
     }
 
@@ -80,9 +80,8 @@ impl<K: RecordKind + Drop, B: SetsName<K, D>, D: Device> EngineCore<K, B, D> {
         )?;
         let sets = taken.sets.as_mut_slice();
         let mut puts = self.puts.lock(rt);
-        let given = cancel_on(
-            rt, alloc, &self.book, desk, buffers, &mut puts, sets, number, moment,
-        );
+        let access = self.access(rt, alloc);
+        let given = cancel_on(&access, desk, buffers, &mut puts, sets, number, moment);
         drop(puts);
         all_sound(sets);
         self.sets.put_back(rt, taken);

@@ -19,7 +19,7 @@ use ioc_device::Device;
 use ioc_events::{Event, Reply};
 use ioc_fields::FieldNo;
 use ioc_history::{DeskAccount, EngineCounts, Receipt, RequestTickets, SharedJournal};
-use ioc_journaled_set::{JournaledSet, Served, SetsName, SharedNotifications};
+use ioc_journaled_set::{JournalAccess, JournaledSet, Served, SetsName, SharedNotifications};
 use ioc_ledger::TallyShare;
 use ioc_names::RecordNo;
 use ioc_record::RecordKind;
@@ -96,6 +96,16 @@ impl<K: RecordKind + Drop, B: SetsName<K, D>, D: Device> EngineCore<K, B, D> {
     /// Returns whether the engine was closed.
     pub fn is_closed(&self) -> bool {
         self.book.gate().is_closed()
+    }
+
+    // Returns what a call needs to be added to the journal.
+    #[inline(always)]
+    pub(crate) fn access<'a, R>(&'a self, rt: &'a R, alloc: Global) -> JournalAccess<'a, K, B, R> {
+        JournalAccess {
+            rt,
+            alloc,
+            journal: &self.book,
+        }
     }
 
     // Returns whether a call may begin: the engine wasn't closed. If the gate asks for it, the free
@@ -183,13 +193,12 @@ impl<K: RecordKind + Drop, B: SetsName<K, D>, D: Device> EngineCore<K, B, D> {
         }
         let mut held = self.sets.lock_set(rt, number)?;
         let may_end = held.may_be_taken();
+        let access = self.access(rt, alloc);
         let Served {
             reply,
             receipt,
             tickets,
-        } = held.serve(
-            rt, alloc, &self.book, &self.puts, desk, buffers, event, moment,
-        )?;
+        } = held.serve(&access, &self.puts, desk, buffers, event, moment)?;
         held.is_sound();
         if may_end {
             self.sets.settle_flag(number, &held);
@@ -225,7 +234,7 @@ impl<K: RecordKind + Drop, B: SetsName<K, D>, D: Device> EngineCore<K, B, D> {
             return Err(IocError::Stopped);
         }
         let mut held = self.sets.lock_set(rt, number)?;
-        let told = held.get(rt, alloc, &self.book, desk, number, field, moment);
+        let told = held.get(&self.access(rt, alloc), desk, number, field, moment);
         held.is_sound();
         told
     }

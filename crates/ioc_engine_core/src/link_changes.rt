@@ -8,7 +8,7 @@ ghost use Rattle.ioc_engine_core.specs.Linked.{other_of, WasLinked, LinkWasRefus
 use crate::engine::EngineCore;
 use ioc_device::Device;
 use ioc_history::DeskAccount;
-use ioc_journaled_set::{Changed, JournaledSet, LinkChange, SetsName, change_link};
+use ioc_journaled_set::{Changed, JournalAccess, JournaledSet, LinkChange, SetsName, change_link};
 use ioc_record::RecordKind;
 use ioc_set_store::EventBuffers;
 use ioc_topology::{NewCells, all_sound, are_lent};
@@ -20,8 +20,7 @@ impl<K: RecordKind + Drop, B: SetsName<K, D>, D: Device> EngineCore<K, B, D> {
     // Changes a link of a record of the first of these sets.
     fn change_lent<R: Wait>(
         &self,
-        rt: &R,
-        alloc: Global,
+        access: &JournalAccess<'_, K, B, R>,
         desk: &mut DeskAccount<K, B>,
         buffers: &mut EventBuffers<K, D>,
         first: &mut JournaledSet<K, B, D>,
@@ -31,17 +30,15 @@ impl<K: RecordKind + Drop, B: SetsName<K, D>, D: Device> EngineCore<K, B, D> {
     ) -> Result<Changed<K, B>, IocError>
         requires base_link { change.base_link ≡ change.link }
         requires lent { AreLent numbers_of change.number (other_of change.link) first.old second.old spare.old }
-        ensures changed { IfOk result (λ c. WasLinked D K.rules B.base change.number change.field change.link desk.old change.moment c.reply c.moved desk.new
-            (world_of buffers.new.store)) }
+        ensures changed { IfOk result (λ c. WasLinked D K.rules B.base change.number change.field change.link desk.old change.moment
+            c.reply c.moved desk.new (world_of buffers.new.store)) }
         ensures receipt { IfOk result (λ c. c.receipt ≡ desk.new.seen) }
         ensures ended { OnOk result (buffers.new.ended_everywhere.items ≡ []) }
         ensures refused { IfErr result (LinkWasRefused D K.rules B.base self.now change.number change.field change.link) }
         ensures err { OnErr result (desk.new ≡ desk.old) }
     {
         all_sound(first, second, spare);
-        let changed = change_link(
-            rt, alloc, &self.book, desk, buffers, first, second, spare, change,
-        );
+        let changed = change_link(access, desk, buffers, first, second, spare, change);
         all_sound(first, second, spare);
         changed
     }
@@ -66,8 +63,8 @@ impl<K: RecordKind + Drop, B: SetsName<K, D>, D: Device> EngineCore<K, B, D> {
         change: LinkChange,
     ) -> Result<Changed<K, B>, IocError>
         requires base_link { change.base_link ≡ change.link }
-        ensures changed { IfOk result (λ c. WasLinked D K.rules B.base change.number change.field change.link desk.old change.moment c.reply c.moved desk.new
-            (world_of buffers.new.store)) }
+        ensures changed { IfOk result (λ c. WasLinked D K.rules B.base change.number change.field change.link desk.old change.moment
+            c.reply c.moved desk.new (world_of buffers.new.store)) }
         ensures receipt { IfOk result (λ c. c.receipt ≡ desk.new.seen) }
         ensures ended { OnOk result (buffers.new.ended_everywhere.items ≡ []) }
         ensures known { OnOk result (AreKnown self.now change.number (other_of change.link)) }
@@ -96,8 +93,8 @@ impl<K: RecordKind + Drop, B: SetsName<K, D>, D: Device> EngineCore<K, B, D> {
         change: LinkChange,
     ) -> Result<Changed<K, B>, IocError>
         requires base_link { change.base_link ≡ change.link }
-        ensures changed { IfOk result (λ c. WasLinked D K.rules B.base change.number change.field change.link desk.old change.moment c.reply c.moved desk.new
-            (world_of buffers.new.store)) }
+        ensures changed { IfOk result (λ c. WasLinked D K.rules B.base change.number change.field change.link desk.old change.moment
+            c.reply c.moved desk.new (world_of buffers.new.store)) }
         ensures receipt { IfOk result (λ c. c.receipt ≡ desk.new.seen) }
         ensures ended { OnOk result (buffers.new.ended_everywhere.items ≡ []) }
         ensures known { OnOk result (AreKnown self.now change.number (other_of change.link)) }
@@ -121,8 +118,9 @@ impl<K: RecordKind + Drop, B: SetsName<K, D>, D: Device> EngineCore<K, B, D> {
             let second = &mut *second_guard;
             let spare = &mut *spare_guard;
             if are_lent(first, second, spare, number, &other) {
+                let access = self.access(rt, alloc);
                 let changed = self.change_lent(
-                    rt, alloc, desk, buffers, first, second, spare, change,
+                    &access, desk, buffers, first, second, spare, change,
                 );
                 self.sets.settle_all(rt, &both, new, first, second, spare);
                 return changed;

@@ -10,15 +10,13 @@ ghost use Rattle.ioc_engine_core.specs.Served.{WasBegun, CallIsRefused};
 use crate::engine::EngineCore;
 use ioc_device::Device;
 use ioc_events::Reply;
-use ioc_fields::FieldNo;
 use ioc_history::{DeskAccount, Receipt};
-use ioc_journaled_set::{Served, SetsName};
-use ioc_names::RecordNo;
+use ioc_journaled_set::{FieldPut, Served, SetsName};
 use ioc_notify::NotifyId;
 use ioc_record::RecordKind;
 use ioc_set_store::EventBuffers;
 use ioc_topology::Locked;
-use ioc_values::{Input, IocError};
+use ioc_values::IocError;
 use std::alloc::Global;
 use std::sync::Wait;
 
@@ -41,27 +39,24 @@ impl<K: RecordKind + Drop, B: SetsName<K, D>, D: Device> EngineCore<K, B, D> {
         alloc: Global,
         desk: &mut DeskAccount<K, B>,
         buffers: &mut EventBuffers<K, D>,
-        number: RecordNo,
-        field: FieldNo,
-        given: Input,
-        moment: u64,
+        put: FieldPut,
     ) -> Result<(Reply, Receipt<K, B>), IocError>
-        ensures begun { IfOk result (λ x. WasBegun D K.rules B.base D.gives number desk.old moment field given x.0 desk.new
-            (world_of buffers.new.store)) }
+        ensures begun { IfOk result (λ x. WasBegun D K.rules B.base D.gives put.number desk.old put.moment put.field put.given
+            x.0 desk.new (world_of buffers.new.store)) }
         ensures ended { OnOk result (HaveEnded K.rules B.base (world_of buffers.new.store).ended desk.new.seen
             buffers.new.ended_everywhere.items) }
         ensures receipt { IfOk result (λ x. x.1 ≡ desk.new.seen) }
         ensures refused { IfErr result (λ error. ((error ≡ QueueFull) × NoneMayBegin K.rules B.base)
-            ⊎ CallIsRefused D K.rules B.base self.now number (Put number field given) error) }
+            ⊎ CallIsRefused D K.rules B.base self.now put.number (Put put.number put.field put.given) error) }
         ensures err { OnErr result (desk.new ≡ desk.old) }
     {
         if !self.may_begin(rt, alloc) {
             return Err(IocError::Stopped);
         }
+        let number = put.number;
         let mut held = self.sets.lock_set(rt, number)?;
-        let told = held.put_notify(
-            rt, alloc, &self.book, &self.puts, desk, buffers, number, field, given, moment,
-        );
+        let access = self.access(rt, alloc);
+        let told = held.put_notify(&access, &self.puts, desk, buffers, put);
         held.is_sound();
         self.sets.settle_flag(number, &held);
         drop(held);
@@ -99,6 +94,6 @@ impl<K: RecordKind + Drop, B: SetsName<K, D>, D: Device> EngineCore<K, B, D> {
             return Err(IocError::Stopped);
         }
         let mut puts = self.puts.lock(rt);
-        puts.ask(rt, alloc, &self.book, desk, number, moment)
+        puts.ask(&self.access(rt, alloc), desk, number, moment)
     }
 }

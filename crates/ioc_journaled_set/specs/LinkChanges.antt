@@ -9,6 +9,7 @@ use Rattle.ioc_dbcommon.specs.declared.link_field.LinkField.{LinkField}
 use Rattle.ioc_record.specs.RecordRules.{RecordRules}
 use Rattle.ioc_record.specs.Values.{stops_put}
 use Rattle.ioc_store.specs.World.{World, Has, common_at}
+use Rattle.ioc_events.specs.declared.event.Event.{Event}
 use Rattle.ioc_events.specs.declared.event.Event.TheVariants.{Link}
 use Rattle.ioc_events.specs.declared.event.Entry.{Entry}
 use Rattle.ioc_events.specs.declared.reply.Reply.TheVariants.{Plain, Refused}
@@ -21,9 +22,13 @@ use Rattle.ioc_set.specs.Doing.{with_kept}
 use Rattle.ioc_set.specs.Linking.{FallsApart, LeadsInto, link_change_of}
 use Rattle.ioc_journaled_set.specs.Holding.{HeldView}
 
--- The entry of a link change that is done: no device answers, and the reply is plain.
+-- The entry of an event that no device answers, and whose reply is plain.
+abbrev pub plain_entry : ℕ → Event → Entry
+plain_entry moment event = record { moment = moment; event = event; answers = []; reply = Plain }
+
+-- The entry of a link change that is done.
 abbrev pub link_change : (moment number : ℕ) → FieldNo → LinkField → Entry
-link_change moment number field link = record { moment = moment; event = Link number field link; answers = []; reply = Plain }
+link_change moment number field link = plain_entry moment (Link number field link)
 
 -- The entry of a link change that DISP forbids.
 abbrev pub link_refusal : (moment number : ℕ) → FieldNo → LinkField → Entry

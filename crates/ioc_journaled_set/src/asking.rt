@@ -6,15 +6,15 @@ ghost use Rattle.ioc_history.specs.Account.{Call, number_given};
 ghost use Rattle.ioc_history.specs.Places.{IsNoPlace};
 ghost use Rattle.ioc_journaled_set.specs.Puts.{puts_view, ChangesNothing, WasAsked, WasStale};
 
+use crate::journal_access::JournalAccess;
 use crate::shared_notifications::SharedNotifications;
 use ioc_events::{Entry, Event, KeptAnswers, Reply};
 use ioc_history::legal_laws::{lists_leave_sound, live_lasts};
-use ioc_history::{DeskAccount, EventCounts, JournalName, Place, Receipt, SharedJournal};
+use ioc_history::{DeskAccount, EventCounts, JournalName, Place, Receipt};
 use ioc_notify::NotifyId;
 use ioc_notify::table_laws::lines_tell_holders;
 use ioc_record::RecordKind;
 use ioc_values::IocError;
-use std::alloc::Global;
 use std::sync::Wait;
 
 impl<K: RecordKind, B: JournalName<K>> SharedNotifications<K, B> {
@@ -28,8 +28,7 @@ impl<K: RecordKind, B: JournalName<K>> SharedNotifications<K, B> {
     // Adds an event to the journal that changes nothing but the moment, and that no device answers.
     fn keep_told<R: Wait>(
         &mut self,
-        rt: &R,
-        book: &SharedJournal<K, B>,
+        access: &JournalAccess<'_, K, B, R>,
         place: Place<K, B>,
         desk: &mut DeskAccount<K, B>,
         entry: Entry,
@@ -43,7 +42,16 @@ impl<K: RecordKind, B: JournalName<K>> SharedNotifications<K, B> {
         ensures kept { self.new ≡ puts_view self.old.live self.old.taken self.old.last desk.new.seen }
     {
         live_lasts::<K>();
-        book.append(rt, place, &mut self.pass, desk, entry, EventCounts::none())
+        access
+            .journal
+            .append(
+                access.rt,
+                place,
+                &mut self.pass,
+                desk,
+                entry,
+                EventCounts::none(),
+            )
             .receipt
     }
 
@@ -55,9 +63,7 @@ impl<K: RecordKind, B: JournalName<K>> SharedNotifications<K, B> {
     /// allocation fails. Nothing has changed then.
     pub fn ask<R: Wait>(
         &mut self,
-        rt: &R,
-        alloc: Global,
-        book: &SharedJournal<K, B>,
+        access: &JournalAccess<'_, K, B, R>,
         desk: &mut DeskAccount<K, B>,
         number: NotifyId,
         moment: u64,
@@ -71,15 +77,15 @@ impl<K: RecordKind, B: JournalName<K>> SharedNotifications<K, B> {
         lists_leave_sound::<K>();
         lines_tell_holders();
         self.table.is_table();
-        let place = book.reserve(rt, alloc, desk)?;
+        let place = access.journal.reserve(access.rt, access.alloc, desk)?;
         let is_live = self.table.is_live(number);
         let entry = Entry {
             moment,
             event: Event::IsLive(number),
-            answers: KeptAnswers::new(Vec::new(alloc)),
+            answers: KeptAnswers::new(Vec::new(access.alloc)),
             reply: Reply::Live(is_live),
         };
-        let receipt = self.keep_told(rt, book, place, desk, entry);
+        let receipt = self.keep_told(access, place, desk, entry);
         Ok((Reply::Live(is_live), receipt))
     }
 
@@ -92,9 +98,7 @@ impl<K: RecordKind, B: JournalName<K>> SharedNotifications<K, B> {
     /// allocation fails. Nothing has changed then.
     pub fn refuse_cancel<R: Wait>(
         &mut self,
-        rt: &R,
-        alloc: Global,
-        book: &SharedJournal<K, B>,
+        access: &JournalAccess<'_, K, B, R>,
         desk: &mut DeskAccount<K, B>,
         number: NotifyId,
         moment: u64,
@@ -109,14 +113,14 @@ impl<K: RecordKind, B: JournalName<K>> SharedNotifications<K, B> {
         lists_leave_sound::<K>();
         lines_tell_holders();
         self.table.is_table();
-        let place = book.reserve(rt, alloc, desk)?;
+        let place = access.journal.reserve(access.rt, access.alloc, desk)?;
         let entry = Entry {
             moment,
             event: Event::Cancel(number),
-            answers: KeptAnswers::new(Vec::new(alloc)),
+            answers: KeptAnswers::new(Vec::new(access.alloc)),
             reply: Reply::Refused(IocError::Stale),
         };
-        let receipt = self.keep_told(rt, book, place, desk, entry);
+        let receipt = self.keep_told(access, place, desk, entry);
         Ok((Reply::Refused(IocError::Stale), receipt))
     }
 }

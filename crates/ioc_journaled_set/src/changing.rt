@@ -14,16 +14,16 @@ ghost use Rattle.ioc_journaled_set.specs.Holding.{HeldView, numbers_of};
 ghost use Rattle.ioc_journaled_set.specs.Changing.{size_of, KeepsLarger, KeepsLargest, FellApart, WasLed, Relinks};
 
 use crate::JournaledSet;
+use crate::journal_access::JournalAccess;
 use crate::link_change::LinkChange;
 use crate::sets_name::SetsName;
 use ioc_device::Device;
 use ioc_events::Reply;
-use ioc_history::{DeskAccount, JournalName, Receipt, SharedJournal};
+use ioc_history::{DeskAccount, JournalName, Receipt};
 use ioc_record::RecordKind;
 use ioc_set_store::EventBuffers;
 use ioc_topology::Locked;
 use ioc_values::IocError;
-use std::alloc::Global;
 use std::mem;
 use std::sync::Wait;
 
@@ -90,9 +90,7 @@ fn keep_largest<K: RecordKind + Drop, B: SetsName<K, D>, D: Device>(
 
 // Changes a link of a record of the first set to a record of that set, or to none.
 fn part_first<K: RecordKind + Drop, B: SetsName<K, D>, D: Device, R: Wait>(
-    rt: &R,
-    alloc: Global,
-    book: &SharedJournal<K, B>,
+    access: &JournalAccess<'_, K, B, R>,
     desk: &mut DeskAccount<K, B>,
     buffers: &mut EventBuffers<K, D>,
     first: &mut JournaledSet<K, B, D>,
@@ -112,7 +110,7 @@ fn part_first<K: RecordKind + Drop, B: SetsName<K, D>, D: Device, R: Wait>(
     ensures kept { OnErr result ((folded first.new.set ≡ folded first.old.set) × (spare.new ≡ spare.old)) }
     ensures desk { OnErr result (desk.new ≡ desk.old) }
 {
-    let (rest, receipt) = first.part(rt, alloc, book, desk, buffers, change)?;
+    let (rest, receipt) = first.part(access, desk, buffers, change)?;
     *spare = rest;
     buffers.ended_everywhere.clear();
     let moved = keep_larger(first, spare);
@@ -125,9 +123,7 @@ fn part_first<K: RecordKind + Drop, B: SetsName<K, D>, D: Device, R: Wait>(
 
 // Changes a link of a record of the first set to a record of the second.
 fn lead_first<K: RecordKind + Drop, B: SetsName<K, D>, D: Device, R: Wait>(
-    rt: &R,
-    alloc: Global,
-    book: &SharedJournal<K, B>,
+    access: &JournalAccess<'_, K, B, R>,
     desk: &mut DeskAccount<K, B>,
     buffers: &mut EventBuffers<K, D>,
     first: &mut JournaledSet<K, B, D>,
@@ -150,7 +146,7 @@ fn lead_first<K: RecordKind + Drop, B: SetsName<K, D>, D: Device, R: Wait>(
 {
     let before = size(first);
     let other = size(second);
-    let (rest, receipt) = first.lead_into(rt, alloc, book, desk, buffers, second, change)?;
+    let (rest, receipt) = first.lead_into(access, desk, buffers, second, change)?;
     *spare = rest;
     buffers.ended_everywhere.clear();
     let moved = keep_largest(first, second, spare, before, other);
@@ -173,9 +169,7 @@ fn lead_first<K: RecordKind + Drop, B: SetsName<K, D>, D: Device, R: Wait>(
 /// allocation fails; nothing has changed then, except that the history may be forgotten. If DISP
 /// forbids the change, the refusal is a reply, which is added to the journal.
 pub fn change_link<K: RecordKind + Drop, B: SetsName<K, D>, D: Device, R: Wait>(
-    rt: &R,
-    alloc: Global,
-    book: &SharedJournal<K, B>,
+    access: &JournalAccess<'_, K, B, R>,
     desk: &mut DeskAccount<K, B>,
     buffers: &mut EventBuffers<K, D>,
     first: &mut JournaledSet<K, B, D>,
@@ -203,7 +197,7 @@ pub fn change_link<K: RecordKind + Drop, B: SetsName<K, D>, D: Device, R: Wait>(
         first.is_sound();
         second.is_sound();
         buffers.ended_everywhere.clear();
-        let (reply, receipt) = first.refuse_link(rt, alloc, book, desk, &change)?;
+        let (reply, receipt) = first.refuse_link(access, desk, &change)?;
         return Ok(Changed {
             reply,
             receipt,
@@ -211,9 +205,9 @@ pub fn change_link<K: RecordKind + Drop, B: SetsName<K, D>, D: Device, R: Wait>(
         });
     }
     if first.set.leads_within(&change.link) {
-        let changed = part_first(rt, alloc, book, desk, buffers, first, spare, change)?;
+        let changed = part_first(access, desk, buffers, first, spare, change)?;
         return Ok(changed);
     }
-    let changed = lead_first(rt, alloc, book, desk, buffers, first, second, spare, change)?;
+    let changed = lead_first(access, desk, buffers, first, second, spare, change)?;
     Ok(changed)
 }

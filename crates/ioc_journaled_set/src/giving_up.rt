@@ -15,12 +15,13 @@ ghost use Rattle.ioc_journaled_set.specs.GivingUp.{EachIsLent, EachIsCounted, Ha
 ghost use Rattle.ioc_journaled_set.specs.SameDevice.{IsDeviceOf};
 ghost use Rattle.ioc_history.specs.Account.{puts_key, Pass};
 
+use crate::journal_access::JournalAccess;
 use crate::sets_name::SetsName;
 use crate::together::giving_up::give_up_all;
 use crate::{JournaledSet, SharedNotifications};
 use ioc_device::Device;
 use ioc_events::Reply;
-use ioc_history::{Cell, DeskAccount, EngineCounts, KeyPass, Receipt, SharedJournal};
+use ioc_history::{Cell, DeskAccount, EngineCounts, KeyPass, Receipt};
 use ioc_ledger::TallyShare;
 use ioc_notify::table_laws::lines_tell_holders;
 use ioc_notify::{Live, NotifyId};
@@ -32,6 +33,14 @@ use ioc_values::IocError;
 use std::alloc::Global;
 use std::mem;
 use std::sync::Wait;
+
+// Sets apart from their passes and from their shares of the counts.
+#[derive(Drop)]
+struct LentSets<K: RecordKind + Drop, B: SetsName<K, D>, D: Device> {
+    sets: Vec<LockSet<K, D>>,
+    passes: Vec<Option<KeyPass>>,
+    shares: Vec<Option<TallyShare<EngineCounts<K, B>>>>,
+}
 
 // Separates each of these journaled sets from its pass and its share, into reserved memory.
 fn lend_all<K: RecordKind + Drop, B: SetsName<K, D>, D: Device>(
@@ -86,44 +95,44 @@ fn take_back_all<K: RecordKind + Drop, B: SetsName<K, D>, D: Device>(
 }
 
 // Cancels a put with notification on sets that were separated from their passes and shares, if they
-// have all its `total` records. Then puts them together again.
+// have all its records. Then puts them together again.
 fn give_up_lent<K: RecordKind + Drop, B: SetsName<K, D>, D: Device, R: Wait>(
-    rt: &R,
-    alloc: Global,
-    book: &SharedJournal<K, B>,
+    access: &JournalAccess<'_, K, B, R>,
     desk: &mut DeskAccount<K, B>,
     buffers: &mut EventBuffers<K, D>,
     keeper: &mut KeyPass,
     held: &mut [JournaledSet<K, B, D>],
-    sets: &mut [LockSet<K, D>],
-    passes: &mut [Option<KeyPass>],
-    shares: &mut [Option<TallyShare<EngineCounts<K, B>>>],
-    number: NotifyId,
-    total: u64,
+    lent: LentSets<K, B, D>,
+    put: Live,
     moment: u64,
 ) -> Result<Option<Receipt<K, B>>, IocError>
     requires keeper { (keeper.old.table_id ≡ B.table) × (cell_view keeper.old ≡ holder (cell_view keeper.old).seen puts_key) }
-    requires total { total ≡ holders_of number (map_of K.rules B.base (cell_view keeper.old).seen).live }
-    requires some { total ≢ 0 }
-    requires count { (length sets.old ≡ length held.old) × (length passes.old ≡ length held.old) × (length shares.old ≡ length held.old) }
-    requires lent { EachIsLent K.rules B.base (IsDeviceOf D.gives B.devices) B.table sets.old passes.old }
-    requires counted { EachIsCounted sets.old shares.old }
-    ensures gave_up { IfOk result (λ given. IfSome given (λ _. HeldGaveUp K.rules B.base moment number desk.old sets.old
+    requires total { put.holders ≡ holders_of put.number (map_of K.rules B.base (cell_view keeper.old).seen).live }
+    requires some { put.holders ≢ 0 }
+    requires count { (length lent.sets.items ≡ length held.old) × (length lent.passes.items ≡ length held.old) × (length lent.shares.items ≡ length held.old) }
+    requires lent { EachIsLent K.rules B.base (IsDeviceOf D.gives B.devices) B.table lent.sets.items lent.passes.items }
+    requires counted { EachIsCounted lent.sets.items lent.shares.items }
+    ensures gave_up { IfOk result (λ given. IfSome given (λ _. HeldGaveUp K.rules B.base moment put.number desk.old lent.sets.items
         (cell_view keeper.old) desk.new held.new (cell_view keeper.new))) }
     ensures receipt { IfOk result (λ given. IfSome given (λ receipt. receipt ≡ desk.new.seen)) }
     ensures table { keeper.new.table_id ≡ B.table }
     ensures ended { buffers.new.ended_everywhere.items ≡ [] }
-    ensures missing { IfOk result (λ given. IfNone given (AreSameSets sets.old held.new × (keeper.new ≡ keeper.old)
-        × (desk.new ≡ desk.old) × (AreItsSets number total sets.old
+    ensures missing { IfOk result (λ given. IfNone given (AreSameSets lent.sets.items held.new × (keeper.new ≡ keeper.old)
+        × (desk.new ≡ desk.old) × (AreItsSets put.number put.holders lent.sets.items
         → ⊥))) }
     ensures refused { IfErr result IsNoPlace }
-    ensures err { OnErr result (AreSameSets sets.old held.new × (keeper.new ≡ keeper.old) × (desk.new ≡ desk.old)) }
+    ensures err { OnErr result (AreSameSets lent.sets.items held.new × (keeper.new ≡ keeper.old) × (desk.new ≡ desk.old)) }
 {
-    let given = give_up_all(
-        rt, alloc, book, desk, buffers, keeper, sets, passes, number, total, moment,
-    );
+    let LentSets {
+        mut sets,
+        mut passes,
+        mut shares,
+    } = lent;
+    let sets = sets.as_mut_slice();
+    let passes = passes.as_mut_slice();
+    let given = give_up_all(access, desk, buffers, keeper, sets, passes, put, moment);
     buffers.ended_everywhere.clear();
-    take_back_all(alloc, held, sets, passes, shares);
+    take_back_all(access.alloc, held, sets, passes, shares.as_mut_slice());
     given
 }
 
@@ -135,9 +144,7 @@ fn give_up_lent<K: RecordKind + Drop, B: SetsName<K, D>, D: Device, R: Wait>(
 /// [`IocError::JournalFull`] if the journal has no place left. [`IocError::NoMemory`] if allocation
 /// fails. Nothing has changed then.
 pub fn cancel_on<K: RecordKind + Drop, B: SetsName<K, D>, D: Device, R: Wait>(
-    rt: &R,
-    alloc: Global,
-    book: &SharedJournal<K, B>,
+    access: &JournalAccess<'_, K, B, R>,
     desk: &mut DeskAccount<K, B>,
     buffers: &mut EventBuffers<K, D>,
     all: &mut SharedNotifications<K, B>,
@@ -160,39 +167,40 @@ pub fn cancel_on<K: RecordKind + Drop, B: SetsName<K, D>, D: Device, R: Wait>(
     if total == 0 {
         return Ok(None);
     }
-    let mut sets = Vec::with_capacity(alloc, held.len())?;
-    let mut passes = Vec::with_capacity(alloc, held.len())?;
-    let mut shares = Vec::with_capacity(alloc, held.len())?;
+    let mut sets = Vec::with_capacity(access.alloc, held.len())?;
+    let mut passes = Vec::with_capacity(access.alloc, held.len())?;
+    let mut shares = Vec::with_capacity(access.alloc, held.len())?;
     lend_all(
-        alloc,
-        book.cell(),
+        access.alloc,
+        access.journal.cell(),
         &mut all.pass,
         held,
         &mut sets,
         &mut passes,
         &mut shares,
     );
+    let lent = LentSets {
+        sets,
+        passes,
+        shares,
+    };
+    let put = Live {
+        number,
+        holders: total,
+    };
     let given = give_up_lent(
-        rt,
-        alloc,
-        book,
+        access,
         desk,
         buffers,
         &mut all.pass,
         held,
-        sets.as_mut_slice(),
-        passes.as_mut_slice(),
-        shares.as_mut_slice(),
-        number,
-        total,
+        lent,
+        put,
         moment,
     );
     match given {
         Ok(Some(receipt)) => {
-            all.table.take_off(&[Live {
-                number,
-                holders: total,
-            }]);
+            all.table.take_off(&[put]);
             all.table.is_table();
             Ok(Some((Reply::Plain, receipt)))
         }

@@ -19,6 +19,7 @@ ghost use Rattle.ioc_journaled_set.specs.SameDevice.{IsDeviceOf};
 
 use crate::call_laws::calls_have_laws;
 use crate::counts::{counts_since, wait_forever};
+use crate::journal_access::JournalAccess;
 use crate::running::{Ran, Served, run_counted, run_with_answers};
 use crate::sets_name::SetsName;
 use crate::shared_notifications::{SharedNotifications, keep_beside};
@@ -27,9 +28,7 @@ use ioc_events::{Entry, Event, KeptAnswers, Reply};
 use ioc_fields::FieldNo;
 use ioc_history::count_laws::questions_count_nothing;
 use ioc_history::legal_laws::{events_are_held, holding_lasts};
-use ioc_history::{
-    Cell, DeskAccount, EngineCounts, EventCounts, KeyPass, Receipt, SharedJournal, pass,
-};
+use ioc_history::{Cell, DeskAccount, EngineCounts, EventCounts, KeyPass, Receipt, pass};
 use ioc_ledger::TallyShare;
 use ioc_names::RecordNo;
 use ioc_notify::NotifyId;
@@ -178,9 +177,7 @@ impl<K: RecordKind + Drop, B: SetsName<K, D>, D: Device> JournaledSet<K, B, D> {
     #[inline(always)]
     fn serve_alone<R: Wait>(
         &mut self,
-        rt: &R,
-        alloc: Global,
-        book: &SharedJournal<K, B>,
+        access: &JournalAccess<'_, K, B, R>,
         desk: &mut DeskAccount<K, B>,
         buffers: &mut EventBuffers<K, D>,
         event: &Event,
@@ -203,17 +200,17 @@ impl<K: RecordKind + Drop, B: SetsName<K, D>, D: Device> JournaledSet<K, B, D> {
         sets_stay_without_puts::<K, D>();
         self.set.is_sound();
         let before = self.set.tally();
-        let place = book.reserve(rt, alloc, desk)?;
+        let place = access.journal.reserve(access.rt, access.alloc, desk)?;
         let (reply, answers) = match run_with_answers(
             &mut self.set,
             buffers,
-            alloc,
+            access.alloc,
             event,
             moment,
         ) {
             Ok(done) => done,
             Err(_refused) => {
-                book.give_back(rt, desk, place);
+                access.journal.give_back(access.rt, desk, place);
                 return Err(IocError::NoMemory);
             }
         };
@@ -229,11 +226,13 @@ impl<K: RecordKind + Drop, B: SetsName<K, D>, D: Device> JournaledSet<K, B, D> {
             unreachable!();
         };
         let Some(share) = self.share.take() else {
-            wait_forever(rt);
+            wait_forever(access.rt);
             unreachable!();
         };
         let counts = counts_since(share, before, &self.set, buffers);
-        let appended = book.append(rt, place, &mut pass, desk, entry, counts);
+        let appended = access
+            .journal
+            .append(access.rt, place, &mut pass, desk, entry, counts);
         self.pass = Some(pass);
         self.share = appended.share;
         Ok(Served {
@@ -248,9 +247,7 @@ impl<K: RecordKind + Drop, B: SetsName<K, D>, D: Device> JournaledSet<K, B, D> {
     #[inline(never)]
     fn serve_counted<R: Wait>(
         &mut self,
-        rt: &R,
-        alloc: Global,
-        book: &SharedJournal<K, B>,
+        access: &JournalAccess<'_, K, B, R>,
         puts: &Mutex<SharedNotifications<K, B>>,
         desk: &mut DeskAccount<K, B>,
         buffers: &mut EventBuffers<K, D>,
@@ -273,25 +270,20 @@ impl<K: RecordKind + Drop, B: SetsName<K, D>, D: Device> JournaledSet<K, B, D> {
         lines_tell_holders();
         self.set.is_sound();
         let tally = self.set.tally();
-        let ran = run_counted(rt, alloc, book, desk, &mut self.set, buffers, event, moment)?;
+        let ran = run_counted(access, desk, &mut self.set, buffers, event, moment)?;
         let Some(mut pass) = self.pass.take() else {
             unreachable!();
         };
         let Some(share) = self.share.take() else {
-            wait_forever(rt);
+            wait_forever(access.rt);
             unreachable!();
         };
         let counts = counts_since(share, tally, &self.set, buffers);
-        let mut guard = puts.lock(rt);
+        let mut guard = puts.lock(access.rt);
         let all = &mut *guard;
-        let Ran {
-            place,
-            before,
-            reply,
-            entry,
-        } = ran;
+        let reply = ran.reply;
         let appended = keep_beside(
-            rt, book, place, &mut pass, all, desk, buffers, entry, counts, &before, &self.set,
+            access, ran, &mut pass, all, desk, buffers, counts, &self.set,
         );
         self.pass = Some(pass);
         self.share = appended.share;
@@ -314,9 +306,7 @@ impl<K: RecordKind + Drop, B: SetsName<K, D>, D: Device> JournaledSet<K, B, D> {
     #[inline(always)]
     pub fn serve<R: Wait>(
         &mut self,
-        rt: &R,
-        alloc: Global,
-        book: &SharedJournal<K, B>,
+        access: &JournalAccess<'_, K, B, R>,
         puts: &Mutex<SharedNotifications<K, B>>,
         desk: &mut DeskAccount<K, B>,
         buffers: &mut EventBuffers<K, D>,
@@ -336,9 +326,9 @@ impl<K: RecordKind + Drop, B: SetsName<K, D>, D: Device> JournaledSet<K, B, D> {
     {
         self.test_call(event)?;
         if self.set.none_is_live() {
-            return self.serve_alone(rt, alloc, book, desk, buffers, event, moment);
+            return self.serve_alone(access, desk, buffers, event, moment);
         }
-        self.serve_counted(rt, alloc, book, puts, desk, buffers, event, moment)
+        self.serve_counted(access, puts, desk, buffers, event, moment)
     }
 
     /// The text of a field, kept in the journal with its moment. It changes nothing in the set.
@@ -350,9 +340,7 @@ impl<K: RecordKind + Drop, B: SetsName<K, D>, D: Device> JournaledSet<K, B, D> {
     /// changed then.
     pub fn get<R: Wait>(
         &mut self,
-        rt: &R,
-        alloc: Global,
-        book: &SharedJournal<K, B>,
+        access: &JournalAccess<'_, K, B, R>,
         desk: &mut DeskAccount<K, B>,
         number: RecordNo,
         field: FieldNo,
@@ -369,19 +357,26 @@ impl<K: RecordKind + Drop, B: SetsName<K, D>, D: Device> JournaledSet<K, B, D> {
         questions_count_nothing::<K>();
         let event = Event::Get(number, field);
         self.test_call(&event)?;
-        let place = book.reserve(rt, alloc, desk)?;
+        let place = access.journal.reserve(access.rt, access.alloc, desk)?;
         let reply = self.set.get(number, field);
         let text = &reply;
         let entry = Entry {
             moment,
             event,
-            answers: KeptAnswers::new(Vec::new(alloc)),
+            answers: KeptAnswers::new(Vec::new(access.alloc)),
             reply: *text,
         };
         let Some(mut pass) = self.pass.take() else {
             unreachable!();
         };
-        let appended = book.append(rt, place, &mut pass, desk, entry, EventCounts::none());
+        let appended = access.journal.append(
+            access.rt,
+            place,
+            &mut pass,
+            desk,
+            entry,
+            EventCounts::none(),
+        );
         self.pass = Some(pass);
         Ok((*text, appended.receipt))
     }

@@ -11,79 +11,88 @@ ghost use Rattle.ioc_events.specs.declared.reply.Reply.TheVariants.{Refused};
 ghost use Rattle.ioc_history.specs.declared.entry.Note.{Note};
 ghost use Rattle.ioc_history.specs.Key.{Key, Has};
 ghost use Rattle.ioc_history.specs.Line.{holder};
-ghost use Rattle.ioc_history.specs.Account.{IsHolder, AreRecords, BothMayFollow, Call, AddedByBoth};
+ghost use Rattle.ioc_history.specs.Account.{IsHolder, AreRecords, BothMayFollow, Call, AddedByBoth, number_given};
+ghost use Rattle.ioc_history.specs.CountLaws.{counts_nothing};
 ghost use Rattle.ioc_history.specs.Places.{IsNoPlace};
 ghost use Rattle.ioc_set.specs.SetState.{now_of, folded};
 ghost use Rattle.ioc_set.specs.Linking.{MayBeOne};
 ghost use Rattle.ioc_set_store.specs.SetStore.{world_of};
-ghost use Rattle.ioc_journaled_set.specs.LinkChanges.{link_change, keys_of, IsKnown, Refuses, Parts, Leads};
+ghost use Rattle.ioc_journaled_set.specs.LinkChanges.{plain_entry, keys_of, IsKnown, Refuses, Parts, Leads};
 
 use crate::counts::{divide_share, take_share};
+use crate::journal_access::JournalAccess;
 use crate::journaled_set::JournaledSet;
 use crate::link_change::LinkChange;
 use crate::link_laws::{held_sets_may_be_one, led_sets_are_held, parted_sets_are_held};
 use crate::sets_name::SetsName;
-use ioc_dbcommon::LinkField;
 use ioc_device::Device;
 use ioc_events::{Entry, Event, KeptAnswers, Reply};
-use ioc_fields::FieldNo;
 use ioc_history::count_laws::questions_count_nothing;
 use ioc_history::legal_laws::{holding_lasts, lists_leave_sound};
 use ioc_history::{
     DeskAccount, EventCounts, JournalName, KeyPass, Keys, Place, Receipt, SharedJournal, pass,
 };
-use ioc_names::RecordNo;
 use ioc_record::RecordKind;
 use ioc_set::LockSet;
 use ioc_set_store::EventBuffers;
 use ioc_values::IocError;
-use std::alloc::Global;
 use std::marker::Brand;
 use std::sync::Wait;
+
+// The two sets after a link change: the one with the record whose link was changed, and the other.
+#[derive(Drop)]
+struct LinkedSets<'a, K: RecordKind, D> {
+    stay: &'a LockSet<K, D>,
+    rest: &'a LockSet<K, D>,
+}
 
 // Adds a link change to the journal, and assigns the keys of the records to the passes of the two
 // sets after it.
 fn keep_change<P: Keys, K: RecordKind, B: JournalName<K>, D, R: Wait>(
-    rt: &R,
-    alloc: Global,
-    book: &SharedJournal<K, B>,
+    access: &JournalAccess<'_, K, B, R>,
     place: Place<K, B>,
     desk: &mut DeskAccount<K, B>,
     one: &mut KeyPass,
     other: &mut KeyPass,
-    stay: &LockSet<K, D>,
-    rest: &LockSet<K, D>,
-    number: RecordNo,
-    field: FieldNo,
-    link: LinkField,
+    after: LinkedSets<'_, K, D>,
+    event: Event,
     moment: u64,
 ) -> Receipt<K, B>
     requires table { (one.old.table_id ≡ B.table) × (other.old.table_id ≡ B.table) }
     requires one { IsHolder (cell_view one.old) × AreRecords (cell_view one.old).owns }
     requires other { IsHolder (cell_view other.old) × AreRecords (cell_view other.old).owns }
-    requires keys { (P.keys ≡ keys_of stay.now) × (P.rest ≡ keys_of rest.now) }
+    requires nothing { (counts_nothing event ≡ true) × (number_given event ≡ None) }
+    requires keys { (P.keys ≡ keys_of after.stay.now) × (P.rest ≡ keys_of after.rest.now) }
     requires within { (key : Key) → Has key (P.keys ++ P.rest) → Has key ((cell_view one.old).owns ++ (cell_view other.old).owns) }
     requires apart { (key : Key) → Has key P.keys → Has key P.rest → ⊥ }
     requires follows { BothMayFollow K.rules B.base (cell_view one.old).seen (cell_view one.old).owns (cell_view other.old).seen
-        (cell_view other.old).owns (link_change moment number field link) }
-    ensures call { Call K.rules B.base desk.old (link_change moment number field link) desk.new }
+        (cell_view other.old).owns (plain_entry moment event) }
+    ensures call { Call K.rules B.base desk.old (plain_entry moment event) desk.new }
     ensures receipt { result ≡ desk.new.seen }
     ensures one { (one.new.table_id ≡ B.table) × (cell_view one.new ≡ holder desk.new.seen P.keys) }
     ensures other { (other.new.table_id ≡ B.table) × (cell_view other.new ≡ holder desk.new.seen P.rest) }
     ensures added { (log : List Note)
         × AddedByBoth K.rules B.base (cell_view one.old).seen (cell_view one.old).owns (cell_view other.old).seen
-        (cell_view other.old).owns (link_change moment number field link) log desk.new.seen }
+        (cell_view other.old).owns (plain_entry moment event) log desk.new.seen }
 {
     questions_count_nothing::<K>();
-    let _ = stay;
-    let _ = rest;
     let entry = Entry {
         moment,
-        event: Event::Link(number, field, link),
-        answers: KeptAnswers::new(Vec::new(alloc)),
+        event,
+        answers: KeptAnswers::new(Vec::new(access.alloc)),
         reply: Reply::Plain,
     };
-    book.append_two::<P, R>(rt, place, one, other, desk, entry, EventCounts::none())
+    access
+        .journal
+        .append_two::<P, R>(
+            access.rt,
+            place,
+            one,
+            other,
+            desk,
+            entry,
+            EventCounts::none(),
+        )
         .receipt
 }
 
@@ -100,9 +109,7 @@ impl<K: RecordKind + Drop, B: SetsName<K, D>, D: Device> JournaledSet<K, B, D> {
     /// allocation fails. Nothing has changed then, except that the history may be forgotten.
     pub fn part<R: Wait>(
         &mut self,
-        rt: &R,
-        alloc: Global,
-        book: &SharedJournal<K, B>,
+        access: &JournalAccess<'_, K, B, R>,
         desk: &mut DeskAccount<K, B>,
         buffers: &mut EventBuffers<K, D>,
         change: LinkChange,
@@ -130,14 +137,19 @@ impl<K: RecordKind + Drop, B: SetsName<K, D>, D: Device> JournaledSet<K, B, D> {
         } = change;
         let chosen = link.get();
         let started = self.set.tally().started;
-        let place = book.reserve(rt, alloc, desk)?;
-        let rest = match self
-            .set
-            .part(buffers, alloc, number, field, link, base_link, moment)
-        {
+        let place = access.journal.reserve(access.rt, access.alloc, desk)?;
+        let rest = match self.set.part(
+            buffers,
+            access.alloc,
+            number,
+            field,
+            link,
+            base_link,
+            moment,
+        ) {
             Ok(rest) => rest,
             Err(_refused) => {
-                book.give_back(rt, desk, place);
+                access.journal.give_back(access.rt, desk, place);
                 return Err(IocError::NoMemory);
             }
         };
@@ -148,12 +160,16 @@ impl<K: RecordKind + Drop, B: SetsName<K, D>, D: Device> JournaledSet<K, B, D> {
         let Some(mut pass) = self.pass.take() else {
             unreachable!();
         };
-        let mut other = pass::copy(book.cell(), &mut pass);
-        let mut share = take_share(rt, &mut self.share);
-        let rest_share = divide_share(rt, book, &mut share, started, &rest);
+        let mut other = pass::copy(access.journal.cell(), &mut pass);
+        let mut share = take_share(access.rt, &mut self.share);
+        let rest_share = divide_share(access.rt, access.journal, &mut share, started, &rest);
+        let after = LinkedSets {
+            stay: &self.set,
+            rest: &rest,
+        };
+        let event = Event::Link(number, field, chosen);
         let receipt = keep_change::<Brand, K, B, D, R>(
-            rt, alloc, book, place, desk, &mut pass, &mut other, &self.set, &rest, number, field,
-            chosen, moment,
+            access, place, desk, &mut pass, &mut other, after, event, moment,
         );
         self.pass = Some(pass);
         self.share = Some(share);
@@ -207,9 +223,7 @@ impl<K: RecordKind + Drop, B: SetsName<K, D>, D: Device> JournaledSet<K, B, D> {
     /// allocation fails. Nothing has changed then, except that the history may be forgotten.
     pub fn lead_into<R: Wait>(
         &mut self,
-        rt: &R,
-        alloc: Global,
-        book: &SharedJournal<K, B>,
+        access: &JournalAccess<'_, K, B, R>,
         desk: &mut DeskAccount<K, B>,
         buffers: &mut EventBuffers<K, D>,
         other: &mut JournaledSet<K, B, D>,
@@ -228,7 +242,7 @@ impl<K: RecordKind + Drop, B: SetsName<K, D>, D: Device> JournaledSet<K, B, D> {
     {
         holding_lasts::<K>();
         led_sets_are_held::<K, D>();
-        self.compare(rt, book, other);
+        self.compare(access.rt, access.journal, other);
         let LinkChange {
             number,
             field,
@@ -240,11 +254,11 @@ impl<K: RecordKind + Drop, B: SetsName<K, D>, D: Device> JournaledSet<K, B, D> {
         self.set.devices_are_owned();
         other.set.devices_are_owned();
         let started = self.set.tally().started;
-        let place = book.reserve(rt, alloc, desk)?;
+        let place = access.journal.reserve(access.rt, access.alloc, desk)?;
         let rest = match self.set.lead_into(
             &mut other.set,
             buffers,
-            alloc,
+            access.alloc,
             number,
             field,
             link,
@@ -253,7 +267,7 @@ impl<K: RecordKind + Drop, B: SetsName<K, D>, D: Device> JournaledSet<K, B, D> {
         ) {
             Ok(rest) => rest,
             Err(_refused) => {
-                book.give_back(rt, desk, place);
+                access.journal.give_back(access.rt, desk, place);
                 return Err(IocError::NoMemory);
             }
         };
@@ -266,23 +280,23 @@ impl<K: RecordKind + Drop, B: SetsName<K, D>, D: Device> JournaledSet<K, B, D> {
         let Some(mut beside) = other.pass.take() else {
             unreachable!();
         };
-        let mut share = take_share(rt, &mut self.share);
-        let rest_share = divide_share(rt, book, &mut share, started, &rest);
-        let others = take_share(rt, &mut other.share);
+        let mut share = take_share(access.rt, &mut self.share);
+        let rest_share = divide_share(access.rt, access.journal, &mut share, started, &rest);
+        let others = take_share(access.rt, &mut other.share);
         share.merge(others);
+        let after = LinkedSets {
+            stay: &self.set,
+            rest: &rest,
+        };
+        let event = Event::Link(number, field, chosen);
         let receipt = keep_change::<Brand, K, B, D, R>(
-            rt,
-            alloc,
-            book,
+            access,
             place,
             desk,
             &mut pass,
             &mut beside,
-            &self.set,
-            &rest,
-            number,
-            field,
-            chosen,
+            after,
+            event,
             moment,
         );
         self.pass = Some(pass);
@@ -304,9 +318,7 @@ impl<K: RecordKind + Drop, B: SetsName<K, D>, D: Device> JournaledSet<K, B, D> {
     /// allocation fails. Nothing has changed then.
     pub fn refuse_link<R: Wait>(
         &mut self,
-        rt: &R,
-        alloc: Global,
-        book: &SharedJournal<K, B>,
+        access: &JournalAccess<'_, K, B, R>,
         desk: &mut DeskAccount<K, B>,
         change: &LinkChange,
     ) -> Result<(Reply, Receipt<K, B>), IocError>
@@ -322,18 +334,25 @@ impl<K: RecordKind + Drop, B: SetsName<K, D>, D: Device> JournaledSet<K, B, D> {
         holding_lasts::<K>();
         lists_leave_sound::<K>();
         questions_count_nothing::<K>();
-        let place = book.reserve(rt, alloc, desk)?;
+        let place = access.journal.reserve(access.rt, access.alloc, desk)?;
         let event = Event::Link(change.number, change.field, change.link.get());
         let entry = Entry {
             moment: change.moment,
             event,
-            answers: KeptAnswers::new(Vec::new(alloc)),
+            answers: KeptAnswers::new(Vec::new(access.alloc)),
             reply: Reply::Refused(IocError::PutDisabled),
         };
         let Some(mut pass) = self.pass.take() else {
             unreachable!();
         };
-        let appended = book.append(rt, place, &mut pass, desk, entry, EventCounts::none());
+        let appended = access.journal.append(
+            access.rt,
+            place,
+            &mut pass,
+            desk,
+            entry,
+            EventCounts::none(),
+        );
         self.pass = Some(pass);
         Ok((Reply::Refused(IocError::PutDisabled), appended.receipt))
     }

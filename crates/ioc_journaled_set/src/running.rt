@@ -7,9 +7,10 @@ ghost use Rattle.ioc_set_store.specs.SetStore.{world_of};
 ghost use Rattle.ioc_set.specs.Doing.{Does, is_done_on_sets};
 ghost use Rattle.ioc_set.specs.Sound.{IsSound};
 
+use crate::journal_access::JournalAccess;
 use ioc_device::Device;
 use ioc_events::{Entry, Event, KeptAnswers, Reply, SetReply};
-use ioc_history::{DeskAccount, JournalName, Place, Receipt, RequestTickets, SharedJournal};
+use ioc_history::{DeskAccount, JournalName, Place, Receipt, RequestTickets};
 use ioc_ledger::Tickets;
 use ioc_notify::Live;
 use ioc_record::RecordKind;
@@ -109,9 +110,7 @@ pub(crate) fn run_with_answers<K: RecordKind + Drop, D: Device>(
 /// [`IocError::JournalFull`] if the journal has no place left. [`IocError::NoMemory`] if allocation
 /// fails. Nothing has changed then.
 pub(crate) fn run_counted<K: RecordKind + Drop, B: JournalName<K>, D: Device, R: Wait>(
-    rt: &R,
-    alloc: Global,
-    book: &SharedJournal<K, B>,
+    access: &JournalAccess<'_, K, B, R>,
     desk: &DeskAccount<K, B>,
     set: &mut LockSet<K, D>,
     buffers: &mut EventBuffers<K, D>,
@@ -134,14 +133,14 @@ pub(crate) fn run_counted<K: RecordKind + Drop, B: JournalName<K>, D: Device, R:
     ensures refused { IfErr result IsNoPlace }
     ensures err { OnErr result (set.new ≡ set.old) }
 {
-    let Ok(before) = set.live_puts().to_vec(alloc) else {
+    let Ok(before) = set.live_puts().to_vec(access.alloc) else {
         return Err(IocError::NoMemory);
     };
-    let place = book.reserve(rt, alloc, desk)?;
-    let (reply, answers) = match run_with_answers(set, buffers, alloc, event, moment) {
+    let place = access.journal.reserve(access.rt, access.alloc, desk)?;
+    let (reply, answers) = match run_with_answers(set, buffers, access.alloc, event, moment) {
         Ok(done) => done,
         Err(_refused) => {
-            book.give_back(rt, desk, place);
+            access.journal.give_back(access.rt, desk, place);
             return Err(IocError::NoMemory);
         }
     };

@@ -15,10 +15,12 @@ ghost use Rattle.ioc_set_store.specs.SetStore.{world_of};
 ghost use Rattle.ioc_journaled_set.specs.Puts.{puts_view, MayTake, NoneMayTake, CanBegin, NoneMayBegin, NoneIsAbove, AreTaken, AreCounted, AreMoved};
 ghost use Rattle.ioc_journaled_set.specs.PutPlaces.{without};
 
+use crate::journal_access::JournalAccess;
 use crate::put_places::PutPlaces;
-use ioc_events::{Entry, Event};
+use crate::running::Ran;
+use ioc_events::Event;
 use ioc_history::legal_laws::{lists_leave_sound, live_lasts, one_may_begin};
-use ioc_history::{Appended, DeskAccount, EventCounts, JournalName, KeyPass, Place, SharedJournal};
+use ioc_history::{Appended, DeskAccount, EventCounts, JournalName, KeyPass};
 use ioc_notify::table_laws::{lines_tell_holders, tables_are_short};
 use ioc_notify::{Live, NotificationCounts, NotifyId};
 use ioc_record::RecordKind;
@@ -229,33 +231,31 @@ fn recount(table: &mut NotificationCounts, before: &[Live], after: &[Live])
 /// Adds an event that was done on a set to the journal, with the keys of the set's records and the
 /// key of the puts with notification, and updates the table by the set's counts before and after
 /// it. The buffers of the event then tell what has ended among all sets.
+#[inline(always)]
 pub(crate) fn keep_beside<K: RecordKind, B: JournalName<K>, D, R: Wait>(
-    rt: &R,
-    book: &SharedJournal<K, B>,
-    place: Place<K, B>,
+    access: &JournalAccess<'_, K, B, R>,
+    ran: Ran<K, B>,
     pass: &mut KeyPass,
     all: &mut SharedNotifications<K, B>,
     desk: &mut DeskAccount<K, B>,
     buffers: &mut EventBuffers<K, D>,
-    entry: Entry,
     counts: EventCounts<K, B>,
-    before: &[Live],
     set: &LockSet<K, D>,
 ) -> Appended<K, B>
     requires table { pass.old.table_id ≡ B.table }
     requires set { IsHolder (cell_view pass.old) × AreRecords (cell_view pass.old).owns }
-    requires follows { BothMayFollow K.rules B.base (cell_view pass.old).seen (cell_view pass.old).owns all.old.seen puts_key entry }
-    requires begins { IfSome (number_given entry.event) (λ number. CanBegin all.old number) }
-    requires sent { BothMaySend K.rules B.base (cell_view pass.old).seen (cell_view pass.old).owns all.old.seen puts_key entry
+    requires follows { BothMayFollow K.rules B.base (cell_view pass.old).seen (cell_view pass.old).owns all.old.seen puts_key ran.entry }
+    requires begins { IfSome (number_given ran.entry.event) (λ number. CanBegin all.old number) }
+    requires sent { BothMaySend K.rules B.base (cell_view pass.old).seen (cell_view pass.old).owns all.old.seen puts_key ran.entry
         counts.sent }
     requires outbox { counts.sent ≡ length (once_in (world_of buffers.old.store).outbox) }
-    requires counts { BothMayCount K.rules B.base (cell_view pass.old).seen (cell_view pass.old).owns all.old.seen puts_key entry
+    requires counts { BothMayCount K.rules B.base (cell_view pass.old).seen (cell_view pass.old).owns all.old.seen puts_key ran.entry
         counts.share counts.before counts.after }
     requires backed { IsBacked counts.share counts.before }
-    requires moves { (log longer : List Note) → AddedByBoth K.rules B.base (cell_view pass.old).seen (cell_view pass.old).owns all.old.seen puts_key entry log longer →
-        AreMoved K.rules B.base log longer before.now set.now.live }
+    requires moves { (log longer : List Note) → AddedByBoth K.rules B.base (cell_view pass.old).seen (cell_view pass.old).owns all.old.seen puts_key ran.entry log longer →
+        AreMoved K.rules B.base log longer ran.before.items set.now.live }
     requires few { length set.now.live ≤ 256 }
-    ensures call { Call K.rules B.base desk.old entry desk.new }
+    ensures call { Call K.rules B.base desk.old ran.entry desk.new }
     ensures receipt { result.receipt ≡ desk.new.seen }
     ensures tickets { AreTicketsFor K.rules B.base desk.new.seen (world_of buffers.old.store).outbox result.tickets }
     ensures share { IsGivenBack counts.share counts.after result.share }
@@ -263,7 +263,7 @@ pub(crate) fn keep_beside<K: RecordKind, B: JournalName<K>, D, R: Wait>(
     ensures seen { all.new.seen ≡ desk.new.seen }
     ensures taken { (all.new.taken ≡ all.old.taken) × (all.new.last ≡ all.old.last) }
     ensures added { (log : List Note)
-        × AddedByBoth K.rules B.base (cell_view pass.old).seen (cell_view pass.old).owns all.old.seen puts_key entry
+        × AddedByBoth K.rules B.base (cell_view pass.old).seen (cell_view pass.old).owns all.old.seen puts_key ran.entry
         log desk.new.seen }
     ensures counted { IsTable all.new.live × AreCounted K.rules B.base all.new.live all.new.seen }
     ensures ended { buffers.new.ended_everywhere.items ≡ filter (λ n. not (is_live n all.new.live)) (world_of buffers.old.store).ended }
@@ -275,9 +275,17 @@ pub(crate) fn keep_beside<K: RecordKind, B: JournalName<K>, D, R: Wait>(
     one_may_begin::<K>();
     lists_leave_sound::<K>();
     all.table.is_table();
+    let Ran {
+        place,
+        before,
+        reply: _,
+        entry,
+    } = ran;
     place_begun(&mut all.places, &entry.event, &all.table);
-    let appended = book.append_two::<Brand, R>(rt, place, pass, &mut all.pass, desk, entry, counts);
-    recount(&mut all.table, before, set.live_puts());
+    let appended = access
+        .journal
+        .append_two::<Brand, R>(access.rt, place, pass, &mut all.pass, desk, entry, counts);
+    recount(&mut all.table, &before, set.live_puts());
     all.table.is_table();
     buffers.tell_ended(&all.table);
     all.is_counted();

@@ -12,6 +12,7 @@ ghost use Rattle.ioc_journaled_set.specs.Sets.{AreItsSets, EachIsHeldBy, HaveAll
 ghost use Rattle.ioc_history.specs.Account.{puts_key};
 
 use crate::give_up_laws::cancelled_sets_are_held;
+use crate::journal_access::JournalAccess;
 use crate::together::cancelling::cancel_all;
 use crate::together::counting::{all_live, total_in};
 use crate::together::dealing::deal_all;
@@ -19,13 +20,12 @@ use crate::together::merging::merge_all;
 use ioc_device::Device;
 use ioc_events::{Entry, Event, KeptAnswers, Reply};
 use ioc_history::legal_laws::{holding_lasts, live_lasts};
-use ioc_history::{DeskAccount, EventCounts, JournalName, KeyPass, Receipt, SharedJournal};
-use ioc_notify::NotifyId;
+use ioc_history::{DeskAccount, EventCounts, JournalName, KeyPass, Receipt};
+use ioc_notify::{Live, NotifyId};
 use ioc_record::RecordKind;
 use ioc_set::LockSet;
 use ioc_set_store::EventBuffers;
 use ioc_values::IocError;
-use std::alloc::Global;
 use std::sync::Wait;
 
 // States the invariant of each of these sets. Does nothing.
@@ -47,9 +47,7 @@ fn all_sound<K: RecordKind, D>(sets: &[LockSet<K, D>])
 /// fails. Nothing has changed then. Once it is canceled in one of the sets, a failed allocation is
 /// repeated until it succeeds.
 pub fn give_up<K: RecordKind + Drop, B: JournalName<K>, D: Device, R: Wait>(
-    rt: &R,
-    alloc: Global,
-    book: &SharedJournal<K, B>,
+    access: &JournalAccess<'_, K, B, R>,
     desk: &mut DeskAccount<K, B>,
     buffers: &mut EventBuffers<K, D>,
     keeper: &mut KeyPass,
@@ -73,65 +71,64 @@ pub fn give_up<K: RecordKind + Drop, B: JournalName<K>, D: Device, R: Wait>(
     holding_lasts::<K>();
     live_lasts::<K>();
     all_sound(sets);
-    let place = book.reserve(rt, alloc, desk)?;
-    if let Err(_refused) = cancel_all(rt, alloc, buffers, sets, number, moment) {
-        book.give_back(rt, desk, place);
+    let place = access.journal.reserve(access.rt, access.alloc, desk)?;
+    if let Err(_refused) = cancel_all(access.rt, access.alloc, buffers, sets, number, moment) {
+        access.journal.give_back(access.rt, desk, place);
         return Err(IocError::NoMemory);
     }
-    merge_all(rt, book, keeper, passes);
+    merge_all(access.rt, access.journal, keeper, passes);
     let entry = Entry {
         moment,
         event: Event::Cancel(number),
-        answers: KeptAnswers::new(Vec::new(alloc)),
+        answers: KeptAnswers::new(Vec::new(access.alloc)),
         reply: Reply::Plain,
     };
-    let appended = book.append(rt, place, keeper, desk, entry, EventCounts::none());
-    deal_all(book.cell(), keeper, sets, passes);
+    let appended = access
+        .journal
+        .append(access.rt, place, keeper, desk, entry, EventCounts::none());
+    deal_all(access.journal.cell(), keeper, sets, passes);
     Ok(appended.receipt)
 }
 
 /// Cancels a put with notification in these held sets, as [`give_up`] does, if they have all its
-/// `total` records. Otherwise returns `None`, and nothing has changed.
+/// records. Otherwise returns `None`, and nothing has changed.
 ///
 /// # Errors
 ///
 /// Those of [`give_up`].
 pub fn give_up_all<K: RecordKind + Drop, B: JournalName<K>, D: Device, R: Wait>(
-    rt: &R,
-    alloc: Global,
-    book: &SharedJournal<K, B>,
+    access: &JournalAccess<'_, K, B, R>,
     desk: &mut DeskAccount<K, B>,
     buffers: &mut EventBuffers<K, D>,
     keeper: &mut KeyPass,
     sets: &mut [LockSet<K, D>],
     passes: &mut [Option<KeyPass>],
-    number: NotifyId,
-    total: u64,
+    put: Live,
     moment: u64,
 ) -> Result<Option<Receipt<K, B>>, IocError>
     requires keeper { (keeper.old.table_id ≡ B.table) × (cell_view keeper.old ≡ holder (cell_view keeper.old).seen puts_key) }
     requires beside { length passes.old ≡ length sets.old }
     requires held { EachIsHeldBy K.rules B.base B.table sets.old passes.old }
-    requires total { total ≡ holders_of number (map_of K.rules B.base (cell_view keeper.old).seen).live }
-    requires some { total ≢ 0 }
-    ensures gave_up { IfOk result (λ given. IfSome given (λ _. GaveUp K.rules B.base B.table moment number desk.old sets.old
+    requires total { put.holders ≡ holders_of put.number (map_of K.rules B.base (cell_view keeper.old).seen).live }
+    requires some { put.holders ≢ 0 }
+    ensures gave_up { IfOk result (λ given. IfSome given (λ _. GaveUp K.rules B.base B.table moment put.number desk.old sets.old
         (cell_view keeper.old) desk.new sets.new passes.new (cell_view keeper.new))) }
     ensures missing { IfOk result (λ given. IfNone given ((sets.new ≡ sets.old) × (passes.new ≡ passes.old)
-        × (keeper.new ≡ keeper.old) × (desk.new ≡ desk.old) × (AreItsSets number total sets.old
+        × (keeper.new ≡ keeper.old) × (desk.new ≡ desk.old) × (AreItsSets put.number put.holders sets.old
         → ⊥))) }
     ensures table { keeper.new.table_id ≡ B.table }
     ensures receipt { IfOk result (λ given. IfSome given (λ receipt. receipt ≡ desk.new.seen)) }
     ensures refused { IfErr result IsNoPlace }
     ensures err { OnErr result ((sets.new ≡ sets.old) × (passes.new ≡ passes.old) × (keeper.new ≡ keeper.old) × (desk.new ≡ desk.old)) }
 {
-    let Some(found) = total_in(sets, number) else {
+    let Some(found) = total_in(sets, put.number) else {
         return Ok(None);
     };
-    if found != total || !all_live(sets, number) {
+    if found != put.holders || !all_live(sets, put.number) {
         return Ok(None);
     }
     let receipt = give_up(
-        rt, alloc, book, desk, buffers, keeper, sets, passes, number, moment,
+        access, desk, buffers, keeper, sets, passes, put.number, moment,
     )?;
     Ok(Some(receipt))
 }

@@ -22,8 +22,8 @@ returns-in-Ok-Some-clause-gave_up g c =
     let moment = c.args.moment in
     let total = c.holders-total.result in
     let table = c.all.inside.table.live in
-    let sets = c.as_mut_slice.ensures.value ∙ c.lend_all.ensures.sets in
-    let one = subst (λ (o : Option _). IfSome o (λ _. HeldGaveUp k base c.args.moment number c.args.desk.now c.as_mut_slice.result.now (cell_view c.lend_all.new.keeper) c.give_up_lent-given.new.desk then (cell_view c.give_up_lent-given.new.keeper)))
+    let sets = c.lend_all.ensures.sets in
+    let one = subst (λ (o : Option _). IfSome o (λ _. HeldGaveUp k base c.args.moment number c.args.desk.now c.lend_all.new.sets.items (cell_view c.lend_all.new.keeper) c.give_up_lent-given.new.desk then (cell_view c.give_up_lent-given.new.keeper)))
     c.in-Ok-Some.field-0-is c.in-Ok-Some.ensures.gave_up in
     let gu = subst (λ (l : List (SetState g.row.K.Denot g.row.D.Denot)). HeldGaveUp k base c.args.moment number c.args.desk.now l (cell_view c.lend_all.new.keeper) c.give_up_lent-given.new.desk then (cell_view c.give_up_lent-given.new.keeper)) sets one in
     let was = ap (λ (v : PutsView). v.live) c.all.view_is in
@@ -52,10 +52,10 @@ invariant_of-all g c =
     let number = c.args.number in
     let total = c.holders-total.result in
     let table = c.all.inside.table.live in
-    let one = subst (λ (o : Option _). IfSome o (λ _. HeldGaveUp k base c.args.moment number c.args.desk.now c.as_mut_slice.result.now (cell_view c.lend_all.new.keeper) c.give_up_lent-given.new.desk then (cell_view c.give_up_lent-given.new.keeper)))
+    let one = subst (λ (o : Option _). IfSome o (λ _. HeldGaveUp k base c.args.moment number c.args.desk.now c.lend_all.new.sets.items (cell_view c.lend_all.new.keeper) c.give_up_lent-given.new.desk then (cell_view c.give_up_lent-given.new.keeper)))
     c.in-Ok-Some.field-0-is c.in-Ok-Some.ensures.gave_up in
     let keeper = c.lend_all.ensures.keeper in
-    let gu = subst (λ (v : View). HeldGaveUp k base c.args.moment number c.args.desk.now c.as_mut_slice.result.now v c.give_up_lent-given.new.desk then (cell_view c.give_up_lent-given.new.keeper)) keeper.1 one in
+    let gu = subst (λ (v : View). HeldGaveUp k base c.args.moment number c.args.desk.now c.lend_all.new.sets.items v c.give_up_lent-given.new.desk then (cell_view c.give_up_lent-given.new.keeper)) keeper.1 one in
     let tells = c.holders-total.ensures ∙ c.lines_tell_holders.ensures.holders table number (c.is_table.ensures.once number) in
     one_canceled k base g.B.CellName.table c.all.inside.pass c.give_up_lent-given.new.keeper c.all.inside.table c.all.inside.places c.all.inside.last c.all.invariant c.take_off.new.self c.give_up_lent-given.new.desk.seen number total
     c.lines_tell_holders.ensures.held c.is_table.ensures c.is_table-in-Ok-Some.ensures c.take_off.ensures.counts tells c.give_up_lent-given.ensures.table gu.keeps gu.none_began gu.nobody gu.others c.take_off.ensures.fewer c.take_off.ensures.room

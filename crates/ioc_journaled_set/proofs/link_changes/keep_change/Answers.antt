@@ -1,9 +1,9 @@
 use Rattle.std.proofs.Common.{refl, List, sym, ◌∙◌, subst, arith}
 use Rattle.crossbeam_utils.specs.Seq.{cell_view}
 use Rattle.ioc_device.specs.declared.Answer.{Answer}
-use Rattle.ioc_events.specs.declared.event.Event.TheVariants.{Link}
 use Rattle.ioc_events.specs.declared.reply.Reply.TheVariants.{Plain}
 use Rattle.ioc_history.specs.Account.{BothMayFollow, Call, AddedByBoth}
+use Rattle.ioc_history.proofs.Numbers.{begins_none}
 use Rattle.ioc_journaled_set.proofs.Sending.{both_send_none, both_count_none}
 use Rattle.ioc_journaled_set.proofs.link_changes.keep_change.Goals as goal
 
@@ -15,20 +15,20 @@ append_two-requires-clause-follows g c =
     let none = c.new-2.ensures ∙ c.new.ensures.items in
     let one = cell_view c.args.one.now in
     let other = cell_view c.args.other.now in
-    subst (λ (l : List Answer). BothMayFollow g.K.RecordKind.rules g.B.JournalName.base one.seen one.owns other.seen other.owns (record { moment = c.args.moment; event = Link c.args.number c.args.field c.args.link; answers = l; reply = Plain })) (sym none) c.requires.follows
+    subst (λ (l : List Answer). BothMayFollow g.K.RecordKind.rules g.B.JournalName.base one.seen one.owns other.seen other.owns (record { moment = c.args.moment; event = c.args.event; answers = l; reply = Plain })) (sym none) c.requires.follows
 
 pub append_two-requires-clause-sent : goal.append_two-requires-clause-sent
 append_two-requires-clause-sent g c =
-    both_send_none g.K.RecordKind.rules c.questions_count_nothing.ensures g.B.JournalName.base _ refl (cell_view c.args.one.now).seen (cell_view c.args.one.now).owns (cell_view c.args.other.now).seen (cell_view c.args.other.now).owns _ c.none.ensures.sent
+    both_send_none g.K.RecordKind.rules c.questions_count_nothing.ensures g.B.JournalName.base _ c.requires.nothing.0 (cell_view c.args.one.now).seen (cell_view c.args.one.now).owns (cell_view c.args.other.now).seen (cell_view c.args.other.now).owns _ c.none.ensures.sent
 
 pub append_two-requires-clause-counts : goal.append_two-requires-clause-counts
 append_two-requires-clause-counts g c =
-    both_count_none g.K.RecordKind.rules c.questions_count_nothing.ensures g.B.JournalName.base _ refl (cell_view c.args.one.now).seen (cell_view c.args.one.now).owns (cell_view c.args.other.now).seen (cell_view c.args.other.now).owns _ _ _ c.none.ensures.share
+    both_count_none g.K.RecordKind.rules c.questions_count_nothing.ensures g.B.JournalName.base _ c.requires.nothing.0 (cell_view c.args.one.now).seen (cell_view c.args.one.now).owns (cell_view c.args.other.now).seen (cell_view c.args.other.now).owns _ _ _ c.none.ensures.share
 
 pub returns-clause-call : goal.returns-clause-call
 returns-clause-call g c =
     let none = c.new-2.ensures ∙ c.new.ensures.items in
-    subst (λ (l : List Answer). Call g.K.RecordKind.rules g.B.JournalName.base c.args.desk.now (record { moment = c.args.moment; event = Link c.args.number c.args.field c.args.link; answers = l; reply = Plain }) c.append_two.new.desk) none c.append_two.ensures.call
+    subst (λ (l : List Answer). Call g.K.RecordKind.rules g.B.JournalName.base c.args.desk.now (record { moment = c.args.moment; event = c.args.event; answers = l; reply = Plain }) c.append_two.new.desk) none c.append_two.ensures.call
 
 pub returns-clause-added : goal.returns-clause-added
 returns-clause-added g c =
@@ -36,4 +36,7 @@ returns-clause-added g c =
     let one = cell_view c.args.one.now in
     let other = cell_view c.args.other.now in
     let added = c.append_two.ensures.added in
-    (added.0, subst (λ (l : List Answer). AddedByBoth g.K.RecordKind.rules g.B.JournalName.base one.seen one.owns other.seen other.owns (record { moment = c.args.moment; event = Link c.args.number c.args.field c.args.link; answers = l; reply = Plain }) added.0 c.append_two.new.desk.seen) none added.1)
+    (added.0, subst (λ (l : List Answer). AddedByBoth g.K.RecordKind.rules g.B.JournalName.base one.seen one.owns other.seen other.owns (record { moment = c.args.moment; event = c.args.event; answers = l; reply = Plain }) added.0 c.append_two.new.desk.seen) none added.1)
+
+pub append_two-requires-clause-begins : goal.append_two-requires-clause-begins
+append_two-requires-clause-begins g c = begins_none (cell_view c.args.other.now).seen (cell_view c.args.other.now).owns c.args.event c.requires.nothing.1

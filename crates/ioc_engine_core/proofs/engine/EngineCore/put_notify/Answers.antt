@@ -11,7 +11,7 @@ returns-clause-begun g c =
     record {
       held = c.deref_mut.result.now;
       held_then = c.put_notify-told.new.self;
-      here = subst (λ (s : HeldView g.row.K.Denot g.row.D.Denot). Contains (numbers_of s) c.args.number) (sym c.deref_mut.ensures.value) c.in_ok-held.ensures.here;
+      here = subst (λ (s : HeldView g.row.K.Denot g.row.D.Denot). Contains (numbers_of s) c.args.put.number) (sym c.deref_mut.ensures.value) c.in_ok-held.ensures.here;
       before = subst (λ (s : HeldView g.row.K.Denot g.row.D.Denot). IsSoundlyHeld k g.B.JournalName.base s) (sym c.deref_mut.ensures.value) c.in_ok-held.ensures.sound;
       begins = c.in_ok-reply.ensures.begins;
       after = subst (λ (s : HeldView g.row.K.Denot g.row.D.Denot). IsSoundlyHeld k g.B.JournalName.base s) c.deref.ensures c.is_sound.ensures;
@@ -21,7 +21,7 @@ pub returns-in_err-reply-clause-refused : goal.returns-in_err-reply-clause-refus
 returns-in_err-reply-clause-refused g c =
     let k = g.K.RecordKind.rules in
     let p = err_from_is_err_and c.from_residual-in_err-reply.result c.from_residual-in_err-reply.ensures.1 in
-    rw (p.1, p.2) (⊎_elim (λ full. inl full) (λ none. inr (refused_by_set k g.B.JournalName.base c.deref_mut.result.now c.args.self.now c.args.number (Put c.args.number c.args.field c.args.given) _
-    (subst (λ (s : HeldView g.row.K.Denot g.row.D.Denot). Contains (numbers_of s) c.args.number) (sym c.deref_mut.ensures.value) c.in_ok-held.ensures.here)
+    rw (p.1, p.2) (⊎_elim (λ full. inl full) (λ none. inr (refused_by_set k g.B.JournalName.base c.deref_mut.result.now c.args.self.now c.args.put.number (Put c.args.put.number c.args.put.field c.args.put.given) _
+    (subst (λ (s : HeldView g.row.K.Denot g.row.D.Denot). Contains (numbers_of s) c.args.put.number) (sym c.deref_mut.ensures.value) c.in_ok-held.ensures.here)
     (subst (λ (s : HeldView g.row.K.Denot g.row.D.Denot). IsSoundlyHeld k g.B.JournalName.base s) (sym c.deref_mut.ensures.value) c.in_ok-held.ensures.sound)
     none)) c.in_err-reply.ensures.refused)

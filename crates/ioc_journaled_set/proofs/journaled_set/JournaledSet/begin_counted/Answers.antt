@@ -43,13 +43,13 @@ module _ (g : Over) (c : After-is_counted g) where
   held : IsHeld g.K.RecordKind.rules g.B.JournalName.base (IsDeviceOf g.D.Device.gives g.B.SetsName.devices) g.B.CellName.table (Some c.in-Some.pass) c.self.inside.set
   held = subst (λ (o : Option Pass). IsHeld g.K.RecordKind.rules g.B.JournalName.base (IsDeviceOf g.D.Device.gives g.B.SetsName.devices) g.B.CellName.table o c.self.inside.set) (sym c.take.ensures.value ∙ c.in-Some.is) c.self.invariant.0
 
-  there : (n : ℕ) → Contains (names (Notify c.args.target c.args.notification c.args.field c.args.given)) n → Has (now_of c.self.inside.set) n
-  there n has = subst (λ (m : ℕ). Has (now_of c.self.inside.set) m) (one_there c.args.target n has) (key_there c.self.inside.set.records c.args.target (subst (λ (v : HeldView g.row.K.Denot g.row.D.Denot). Contains (numbers_of v) c.args.target) (sym c.self.view_is) c.requires.there))
+  there : (n : ℕ) → Contains (names (Notify c.args.put.number c.args.notification c.args.put.field c.args.put.given)) n → Has (now_of c.self.inside.set) n
+  there n has = subst (λ (m : ℕ). Has (now_of c.self.inside.set) m) (one_there c.args.put.number n has) (key_there c.self.inside.set.records c.args.put.number (subst (λ (v : HeldView g.row.K.Denot g.row.D.Denot). Contains (numbers_of v) c.args.put.number) (sym c.self.view_is) c.requires.there))
 
   can : CanBegin c.deref_mut-all.result.now c.args.notification
   can = subst (λ (v : PutsView). CanBegin v c.args.notification) (sym c.deref_mut-all.ensures.value) c.lock_taken-guard.ensures.can
 
-  done : IsDoneBeside g.K.RecordKind.rules g.D.Device.gives c.self.inside.set c.run_counted.new.set c.args.moment (Notify c.args.target c.args.notification c.args.field c.args.given) c.in_ok-ran.ran.reply (world_of c.run_counted.new.buffers.store) g.B.JournalName.base (cell_view c.in-Some.pass).seen c.deref_mut-all.result.now.seen (cell_view c.in-Some.pass).owns
+  done : IsDoneBeside g.K.RecordKind.rules g.D.Device.gives c.self.inside.set c.run_counted.new.set c.args.put.moment (Notify c.args.put.number c.args.notification c.args.put.field c.args.put.given) c.in_ok-ran.ran.reply (world_of c.run_counted.new.buffers.store) g.B.JournalName.base (cell_view c.in-Some.pass).seen c.deref_mut-all.result.now.seen (cell_view c.in-Some.pass).owns
       c.in_ok-ran.ran.entry
   done = record {
     does = c.in_ok-ran.ensures.does;
@@ -59,9 +59,9 @@ module _ (g : Over) (c : After-is_counted g) where
     holds = held.holds;
     cancels = λ log sound go legal h. tt;
     asks =
-        λ log sound go legal h. place_alike g.K.RecordKind.rules c.calls_have_laws.ensures.place c.calls_have_laws.ensures.live_lasts c.calls_have_laws.ensures.sound c.lines_tell_holders.ensures.live c.lines_tell_holders.ensures.held g.B.JournalName.base (now_of c.self.inside.set) c.deref_mut-all.result.now.seen log c.deref_mut-all.result.now.live c.args.notification c.args.moment
+        λ log sound go legal h. place_alike g.K.RecordKind.rules c.calls_have_laws.ensures.place c.calls_have_laws.ensures.live_lasts c.calls_have_laws.ensures.sound c.lines_tell_holders.ensures.live c.lines_tell_holders.ensures.held g.B.JournalName.base (now_of c.self.inside.set) c.deref_mut-all.result.now.seen log c.deref_mut-all.result.now.live c.args.notification c.args.put.moment
         c.is_counted.ensures.table c.is_counted.ensures.counted sound go legal h c.is_sound.ensures.counted (fewer_live c.deref_mut-all.result.now c.args.notification can) can.free;
-    entry_is = entry_is g.K.RecordKind.rules g.D.Device.gives c.self.inside.set c.run_counted.new.set c.args.moment (Notify c.args.target c.args.notification c.args.field c.args.given) c.in_ok-ran.ran.reply (world_of c.run_counted.new.buffers.store) c.in_ok-ran.ensures.does there (answers_of (world_of c.run_counted.new.buffers.store).calls) refl ∙ sym c.in_ok-ran.ensures.entry;
+    entry_is = entry_is g.K.RecordKind.rules g.D.Device.gives c.self.inside.set c.run_counted.new.set c.args.put.moment (Notify c.args.put.number c.args.notification c.args.put.field c.args.put.given) c.in_ok-ran.ran.reply (world_of c.run_counted.new.buffers.store) c.in_ok-ran.ensures.does there (answers_of (world_of c.run_counted.new.buffers.store).calls) refl ∙ sym c.in_ok-ran.ensures.entry;
   }
 
 pub unreachable-requires : goal.unreachable-requires
@@ -69,7 +69,7 @@ unreachable-requires g c =
     let k = g.K.RecordKind.rules in
     let none : c.self.inside.pass ≡ None = sym c.take.ensures.value ∙ c.in_default.is in
     let held = subst (λ (o : Option Pass). IsHeld k g.B.JournalName.base (IsDeviceOf g.D.Device.gives g.B.SetsName.devices) g.B.CellName.table o c.self.inside.set) none c.self.invariant.0 in
-    held.owner c.args.target (key_there c.self.inside.set.records c.args.target (subst (λ (v : HeldView g.row.K.Denot g.row.D.Denot). Contains (numbers_of v) c.args.target) (sym c.self.view_is) c.requires.there))
+    held.owner c.args.put.number (key_there c.self.inside.set.records c.args.put.number (subst (λ (v : HeldView g.row.K.Denot g.row.D.Denot). Contains (numbers_of v) c.args.put.number) (sym c.self.view_is) c.requires.there))
 
 pub keep_beside-appended-requires-clause-follows : goal.keep_beside-appended-requires-clause-follows
 keep_beside-appended-requires-clause-follows g c =
@@ -90,9 +90,9 @@ keep_beside-appended-requires-clause-counts g c =
 
 pub keep_beside-appended-requires-clause-backed : goal.keep_beside-appended-requires-clause-backed
 keep_beside-appended-requires-clause-backed g c =
-    let there = key_there c.self.inside.set.records c.args.target (subst (λ (v : HeldView g.row.K.Denot g.row.D.Denot). Contains (numbers_of v) c.args.target) (sym c.self.view_is) c.requires.there) in
+    let there = key_there c.self.inside.set.records c.args.put.number (subst (λ (v : HeldView g.row.K.Denot g.row.D.Denot). Contains (numbers_of v) c.args.put.number) (sym c.self.view_is) c.requires.there) in
     backed c.self.inside.share c.counts_since-counts.result.share c.self.inside.set c.counts_since-counts.result.before (c.counts_since-counts.ensures.share ∙ sym (sym c.take-2.ensures.value ∙ c.in-Some-take.is)) c.self.invariant.1
-    (c.counts_since-counts.ensures.counts.0 ∙ c.tally-tally.ensures) (some_len c.self.inside.set.records c.args.target there)
+    (c.counts_since-counts.ensures.counts.0 ∙ c.tally-tally.ensures) (some_len c.self.inside.set.records c.args.put.number there)
 
 pub keep_beside-appended-requires-clause-begins : goal.keep_beside-appended-requires-clause-begins
 keep_beside-appended-requires-clause-begins g c =
@@ -102,7 +102,7 @@ keep_beside-appended-requires-clause-begins g c =
 pub keep_beside-appended-requires-clause-moves : goal.keep_beside-appended-requires-clause-moves
 keep_beside-appended-requires-clause-moves g c =
     let at = (goal.at.keep_beside-appended-requires-clause-moves g c).After-is_counted in
-    λ log longer added. subst (λ (ls : List Live). AreMoved g.K.RecordKind.rules g.B.JournalName.base log longer ls c.run_counted.new.set.live) (sym (c.deref.ensures.value ∙ c.in_ok-ran.ensures.before))
+    λ log longer added. subst (λ (ls : List Live). AreMoved g.K.RecordKind.rules g.B.JournalName.base log longer ls c.run_counted.new.set.live) (sym c.in_ok-ran.ensures.before)
     (moved_beside (done g at) log longer added c.lines_tell_holders.ensures.holders c.is_sound.ensures.counted c.in_ok-ran.ensures.sound.counted)
 
 pub invariant_of-self-2 : goal.invariant_of-self-2
@@ -113,7 +113,7 @@ invariant_of-self-2 g c =
     let does = c.in_ok-ran.ensures.does in
     let pass = c.keep_beside-appended.ensures.pass in
     let added = c.keep_beside-appended.ensures.added in
-    let came = only g.K.RecordKind.rules g.D.Device.gives c.self.inside.set c.run_counted.new.set c.args.moment (Notify c.args.target c.args.notification c.args.field c.args.given) c.in_ok-ran.ran.reply (world_of c.run_counted.new.buffers.store) does (there g at) c.calls_have_laws.ensures.events.allowed c.calls_have_laws.ensures.events.kept held.holds.shut in (
+    let came = only g.K.RecordKind.rules g.D.Device.gives c.self.inside.set c.run_counted.new.set c.args.put.moment (Notify c.args.put.number c.args.notification c.args.put.field c.args.put.given) c.in_ok-ran.ran.reply (world_of c.run_counted.new.buffers.store) does (there g at) c.calls_have_laws.ensures.events.allowed c.calls_have_laws.ensures.events.kept held.holds.shut in (
       record {
         owner = owner_on g.B.CellName.table _ _ (cell_view c.in-Some.pass) (cell_view c.keep_beside-appended.new.pass) _ (now_of c.self.inside.set) (now_of c.run_counted.new.set) held.owner (pass.0 ∙ sym held.owner.same) pass.1 came;
         devices = keeps_on g.D.Device.gives g.B.SetsName.devices c.self.inside.set c.run_counted.new.set held.devices (worked_there does.work) came;
@@ -121,7 +121,7 @@ invariant_of-self-2 g c =
       },
       counted_then c.self.inside.share c.counts_since-counts.result.share c.keep_beside-appended.result.share c.self.inside.set c.run_counted.new.set c.counts_since-counts.result.after (c.counts_since-counts.ensures.share ∙ sym (sym c.take-2.ensures.value ∙ c.in-Some-take.is)) c.self.invariant.1
           c.keep_beside-appended.ensures.share c.counts_since-counts.ensures.counts.1
-          (as_many g.K.RecordKind.rules g.D.Device.gives c.self.inside.set c.run_counted.new.set c.args.moment (Notify c.args.target c.args.notification c.args.field c.args.given) c.in_ok-ran.ran.reply (world_of c.run_counted.new.buffers.store) does (there g at) c.calls_have_laws.ensures.events.allowed c.calls_have_laws.ensures.events.kept held.holds.shut),
+          (as_many g.K.RecordKind.rules g.D.Device.gives c.self.inside.set c.run_counted.new.set c.args.put.moment (Notify c.args.put.number c.args.notification c.args.put.field c.args.put.given) c.in_ok-ran.ran.reply (world_of c.run_counted.new.buffers.store) does (there g at) c.calls_have_laws.ensures.events.allowed c.calls_have_laws.ensures.events.kept held.holds.shut),
     )
 
 pub returns-clause-begins : goal.returns-clause-begins
@@ -138,10 +138,10 @@ returns-clause-begins g c =
     let note = noted (journalled added.desk added.call c.in_ok-ran.ran.entry) (((cell_view c.in-Some.pass).owns ++ puts_key) ++ added.own) in
     let then = held_view c.run_counted.new.set (cell_view c.keep_beside-appended.new.pass).seen in
     let served =
-    subst (λ (x : SetStore g.row.K.Denot g.row.D.Denot). Serves k g.D.Device.gives base c.args.self.now c.args.desk.now c.args.moment (Notify c.args.target c.args.notification c.args.field c.args.given) c.in_ok-ran.ran.reply then c.keep_beside-appended.new.desk (world_of x)) (sym c.keep_beside-appended.ensures.store)
-    (subst (λ (v : HeldView g.row.K.Denot g.row.D.Denot). Serves k g.D.Device.gives base v c.args.desk.now c.args.moment (Notify c.args.target c.args.notification c.args.field c.args.given) c.in_ok-ran.ran.reply then c.keep_beside-appended.new.desk (world_of c.run_counted.new.buffers.store)) c.self.view_is
+    subst (λ (x : SetStore g.row.K.Denot g.row.D.Denot). Serves k g.D.Device.gives base c.args.self.now c.args.desk.now c.args.put.moment (Notify c.args.put.number c.args.notification c.args.put.field c.args.put.given) c.in_ok-ran.ran.reply then c.keep_beside-appended.new.desk (world_of x)) (sym c.keep_beside-appended.ensures.store)
+    (subst (λ (v : HeldView g.row.K.Denot g.row.D.Denot). Serves k g.D.Device.gives base v c.args.desk.now c.args.put.moment (Notify c.args.put.number c.args.notification c.args.put.field c.args.put.given) c.in_ok-ran.ran.reply then c.keep_beside-appended.new.desk (world_of c.run_counted.new.buffers.store)) c.self.view_is
     (record {
-      is_call = subst (λ (v : HeldView g.row.K.Denot g.row.D.Denot). no_call k (now_of v.set) (Notify c.args.target c.args.notification c.args.field c.args.given) ≡ None) (sym c.self.view_is) c.requires.is_call;
+      is_call = subst (λ (v : HeldView g.row.K.Denot g.row.D.Denot). no_call k (now_of v.set) (Notify c.args.put.number c.args.notification c.args.put.field c.args.put.given) ≡ None) (sym c.self.view_is) c.requires.is_call;
       does = c.in_ok-ran.ensures.does;
       call = subst (λ (x : Entry). Call k base c.args.desk.now x c.keep_beside-appended.new.desk) (sym (done g at).entry_is) c.keep_beside-appended.ensures.call;
       seen = ap (λ (v : View). v.seen) c.keep_beside-appended.ensures.pass.1;

@@ -93,7 +93,7 @@ keep_beside-appended-requires-clause-begins g c =
 pub keep_beside-appended-requires-clause-moves : goal.keep_beside-appended-requires-clause-moves
 keep_beside-appended-requires-clause-moves g c =
     let at = (goal.at.keep_beside-appended-requires-clause-moves g c).After-deref_mut-all in
-    λ log longer added. subst (λ (ls : List Live). AreMoved g.K.RecordKind.rules g.B.JournalName.base log longer ls c.run_counted.new.set.live) (sym (c.deref.ensures.value ∙ c.in_ok-ran.ensures.before))
+    λ log longer added. subst (λ (ls : List Live). AreMoved g.K.RecordKind.rules g.B.JournalName.base log longer ls c.run_counted.new.set.live) (sym c.in_ok-ran.ensures.before)
     (moved_beside (done g at) log longer added c.lines_tell_holders.ensures.holders c.is_sound.ensures.counted c.in_ok-ran.ensures.sound.counted)
 
 pub invariant_of-self-2 : goal.invariant_of-self-2

@@ -1,0 +1,15 @@
+//! Access to the journal of all calls.
+use ioc_history::{JournalName, SharedJournal};
+use ioc_record::RecordKind;
+use std::alloc::Global;
+
+/// What each call needs to be added to the journal.
+#[derive(Drop)]
+pub struct JournalAccess<'a, K: RecordKind, B: JournalName<K>, R> {
+    /// The handle by which a call may wait for a lock.
+    pub rt: &'a R,
+    /// Where memory is allocated.
+    pub alloc: Global,
+    /// The journal of all calls.
+    pub journal: &'a SharedJournal<K, B>,
+}
