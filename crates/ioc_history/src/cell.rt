@@ -195,5 +195,12 @@ impl<S: NoteName> Outcome<[u64; 1], View> for Appends<S> {
 /// The cell of a list.
 pub type Cell = RuledSeqCell<[u64; 1], View, Line, 1>;
 
+/// The cell, and the handle by which a call may wait for it.
+#[derive(Drop)]
+pub struct SharedCell<'a, R> {
+    pub rt: &'a R,
+    pub cell: &'a Cell,
+}
+
 /// A pass: it has no bytes.
 pub type KeyPass = Pass<[u64; 1], View>;

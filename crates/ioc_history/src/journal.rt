@@ -16,6 +16,7 @@ ghost use Rattle.ioc_ledger.specs.Counts.{counts};
 ghost use Rattle.ioc_history.specs.Places.{AreAllowed, journal_of, one_more_desk, with_tickets};
 
 use crate::base::JournalBase;
+use crate::cell::SharedCell;
 use crate::desk::DeskAccount;
 use crate::entries::{Entries, Piece};
 use crate::event_counts::{EngineCounts, EventCounts, record_event};
@@ -67,7 +68,8 @@ impl<K: RecordKind, B: JournalName<K>> Model for Journal<K, B> {
 
     ghost view = { λ j. journal_of (cell_view j.pass).seen j.dropped j.entries.given j.entries.limit j.desks j.tickets };
 
-    ghost invariant = { λ j. IsKept K.rules B.base B.table j.pass.table_id (cell_view j.pass) j.entries.filled j.dropped j.from j.desks j.tickets j.counted };
+    ghost invariant = { λ j. IsKept K.rules B.base B.table j.pass.table_id (cell_view j.pass) j.entries.filled j.dropped j.from j.desks
+        j.tickets j.counted };
 }
 
 /// A call that was added to the journal.
@@ -222,7 +224,8 @@ impl<K: RecordKind, B: JournalName<K>> Journal<K, B> {
 
     /// Adds a piece of memory, whose places are free.
     pub fn add_piece(&mut self, piece: Piece) -> FreePlaces<K, B>
-        ensures given { self.new ≡ journal_of self.old.filled self.old.dropped (self.old.given + result) self.old.limit self.old.desks self.old.tickets }
+        ensures given { self.new ≡ journal_of self.old.filled self.old.dropped (self.old.given + result) self.old.limit self.old.desks
+            self.old.tickets }
         ensures none { (result ≡ 0) ↔ (self.old.given ≡ self.old.limit) }
     {
         self.entries.add_piece(piece)
@@ -233,15 +236,14 @@ impl<K: RecordKind, B: JournalName<K>> Journal<K, B> {
     #[inline(always)]
     pub fn append<S: EntryName, R: Wait>(
         &mut self,
-        rt: &R,
-        cell: &Cell,
+        shared: &SharedCell<'_, R>,
         place: Place<K, B>,
         set: &mut KeyPass,
         desk: &mut DeskAccount<K, B>,
         made: StoredEntry,
         counts: EventCounts<K, B>,
     ) -> Appended<K, B>
-        requires table { (cell.now.table.shared.table_id ≡ B.table) × (set.old.table_id ≡ B.table) }
+        requires table { (shared.now.cell.now.table.shared.table_id ≡ B.table) × (set.old.table_id ≡ B.table) }
         requires set { IsHolder (cell_view set.old) × AreNoDesks (cell_view set.old).owns }
         requires stored { IsStored (journalled desk.old.number desk.old.next S.entry) made }
         requires may { MayAppend K.rules B.base (cell_view set.old) S.entry counts.sent counts.share counts.before counts.after }
@@ -256,8 +258,8 @@ impl<K: RecordKind, B: JournalName<K>> Journal<K, B> {
         let index = self.len();
         let is_request = made.is_request();
         let pass = pass::append::<Brand, Brand, R>(
-            rt,
-            cell,
+            shared.rt,
+            shared.cell,
             &mut self.pass,
             set,
             &mut desk.pass,
@@ -276,8 +278,7 @@ impl<K: RecordKind, B: JournalName<K>> Journal<K, B> {
     #[inline(always)]
     pub fn append_two<P: Keys, S: EntryName, R: Wait>(
         &mut self,
-        rt: &R,
-        cell: &Cell,
+        shared: &SharedCell<'_, R>,
         place: Place<K, B>,
         one: &mut KeyPass,
         other: &mut KeyPass,
@@ -285,7 +286,8 @@ impl<K: RecordKind, B: JournalName<K>> Journal<K, B> {
         made: StoredEntry,
         counts: EventCounts<K, B>,
     ) -> Appended<K, B>
-        requires table { (cell.now.table.shared.table_id ≡ B.table) × (one.old.table_id ≡ B.table) × (other.old.table_id ≡ B.table) }
+        requires table { (shared.now.cell.now.table.shared.table_id ≡ B.table) × (one.old.table_id ≡ B.table)
+            × (other.old.table_id ≡ B.table) }
         requires one { IsHolder (cell_view one.old) × AreRecords (cell_view one.old).owns }
         requires other { IsHolder (cell_view other.old) × AreNoDesks (cell_view other.old).owns }
         requires within { (key : Key) → Has key (P.keys ++ P.rest) → Has key ((cell_view one.old).owns ++ (cell_view other.old).owns) }
@@ -307,8 +309,8 @@ impl<K: RecordKind, B: JournalName<K>> Journal<K, B> {
         let index = self.len();
         let is_request = made.is_request();
         let pass = deal::<Brand, Brand, Brand, R>(
-            rt,
-            cell,
+            shared.rt,
+            shared.cell,
             &mut self.pass,
             one,
             other,

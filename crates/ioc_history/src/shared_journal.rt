@@ -10,6 +10,7 @@ ghost use Rattle.ioc_history.specs.Counting.{MayAppend, BothMayAppend, MaySend, 
 ghost use Rattle.ioc_ledger.specs.Shared.{MayDivide, AreDivided};
 ghost use Rattle.ioc_values.specs.declared.error.IocError.TheVariants.{JournalFull};
 
+use crate::cell::SharedCell;
 use crate::desk::DeskAccount;
 use crate::entries::Piece;
 use crate::event_counts::{EngineCounts, EventCounts};
@@ -230,12 +231,17 @@ impl<K: RecordKind, B: JournalName<K>> SharedJournal<K, B> {
         ensures tickets { IsFew K.rules B.base desk.new.seen → result.tickets ≡ counts.sent }
         ensures share { IsGivenBack counts.share counts.after result.share }
         ensures set { (set.new.table_id ≡ set.old.table_id) × (cell_view set.new ≡ holder desk.new.seen (cell_view set.old).owns) }
-        ensures added { (log : List Note) × Added K.rules B.base (cell_view set.old).seen (cell_view set.old).owns S.entry log desk.new.seen }
+        ensures added { (log : List Note) × Added K.rules B.base (cell_view set.old).seen (cell_view set.old).owns S.entry log
+            desk.new.seen }
     {
         let made = StoredEntry::new(desk.number, desk.next, entry);
         let mut guard = lock_soon(rt, &self.journal);
         let journal = &mut *guard;
-        journal.append::<S, R>(rt, &self.cell, place, set, desk, made, counts)
+        let shared = SharedCell {
+            rt,
+            cell: &self.cell,
+        };
+        journal.append::<S, R>(&shared, place, set, desk, made, counts)
     }
 
     /// Adds a call of a desk, with what it counts. The caller holds the lock of the set that the call
@@ -302,7 +308,11 @@ impl<K: RecordKind, B: JournalName<K>> SharedJournal<K, B> {
         let made = StoredEntry::new(desk.number, call, entry);
         let mut guard = lock_soon(rt, &self.journal);
         let journal = &mut *guard;
-        journal.append_two::<P, S, R>(rt, &self.cell, place, one, other, desk, made, counts)
+        let shared = SharedCell {
+            rt,
+            cell: &self.cell,
+        };
+        journal.append_two::<P, S, R>(&shared, place, one, other, desk, made, counts)
     }
 
     /// Adds a call of a desk that concerns two sets, both of whose locks the caller holds, with what
