@@ -102,7 +102,8 @@ fn part_first<K: RecordKind + Drop, B: SetsName<K, D>, D: Device, R: Wait>(
     requires allowed { stops_put (common_at K.rules (now_of first.old.set) change.number) change.field ≡ false }
     requires within { (t : ℕ) → Contains (named_by (use_of change.link)) t → IsSome (get first.old.set.records t) }
     ensures parts { (second : HeldView K D)
-        → IfOk result (λ c. FellApart K.rules B.base first.old second spare.old desk.old change.moment change.number change.field change.link
+        → IfOk result (λ c. FellApart K.rules B.base first.old second spare.old desk.old change.moment change.number change.field
+        change.link
         c.reply c.moved first.new second spare.new desk.new (world_of buffers.new.store)) }
     ensures receipt { IfOk result (λ c. c.receipt ≡ desk.new.seen) }
     ensures ended { OnOk result (buffers.new.ended_everywhere.items ≡ []) }
@@ -135,7 +136,8 @@ fn lead_first<K: RecordKind + Drop, B: SetsName<K, D>, D: Device, R: Wait>(
     requires field { HasLink K.rules first.old.set.records change.number change.field }
     requires allowed { stops_put (common_at K.rules (now_of first.old.set) change.number) change.field ≡ false }
     requires to { (t : ℕ) × (named_by (use_of change.link) ≡ t ∷ []) × IsSome (get second.old.set.records t) }
-    ensures leads { IfOk result (λ c. WasLed K.rules B.base first.old second.old spare.old desk.old change.moment change.number change.field change.link
+    ensures leads { IfOk result (λ c. WasLed K.rules B.base first.old second.old spare.old desk.old change.moment change.number
+        change.field change.link
         c.reply c.moved first.new second.new spare.new desk.new (world_of buffers.new.store)) }
     ensures receipt { IfOk result (λ c. c.receipt ≡ desk.new.seen) }
     ensures ended { OnOk result (buffers.new.ended_everywhere.items ≡ []) }
@@ -179,7 +181,8 @@ pub fn change_link<K: RecordKind + Drop, B: SetsName<K, D>, D: Device, R: Wait>(
 ) -> Result<Changed<K, B>, IocError>
     requires base_link { change.base_link ≡ change.link }
     requires lent { AreLent numbers_of change.number (record_named (use_of change.link)) first.old second.old spare.old }
-    ensures relinks { IfOk result (λ c. Relinks K.rules B.base first.old second.old spare.old desk.old change.moment change.number change.field change.link
+    ensures relinks { IfOk result (λ c. Relinks K.rules B.base first.old second.old spare.old desk.old change.moment change.number
+        change.field change.link
         c.reply c.moved first.new second.new spare.new desk.new (world_of buffers.new.store)) }
     ensures receipt { IfOk result (λ c. c.receipt ≡ desk.new.seen) }
     ensures ended { OnOk result (buffers.new.ended_everywhere.items ≡ []) }

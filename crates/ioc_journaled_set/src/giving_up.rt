@@ -109,7 +109,8 @@ fn give_up_lent<K: RecordKind + Drop, B: SetsName<K, D>, D: Device, R: Wait>(
     requires keeper { (keeper.old.table_id ≡ B.table) × (cell_view keeper.old ≡ holder (cell_view keeper.old).seen puts_key) }
     requires total { put.holders ≡ holders_of put.number (map_of K.rules B.base (cell_view keeper.old).seen).live }
     requires some { put.holders ≢ 0 }
-    requires count { (length lent.sets.items ≡ length held.old) × (length lent.passes.items ≡ length held.old) × (length lent.shares.items ≡ length held.old) }
+    requires count { (length lent.sets.items ≡ length held.old) × (length lent.passes.items ≡ length held.old)
+        × (length lent.shares.items ≡ length held.old) }
     requires lent { EachIsLent K.rules B.base (IsDeviceOf D.gives B.devices) B.table lent.sets.items lent.passes.items }
     requires counted { EachIsCounted lent.sets.items lent.shares.items }
     ensures gave_up { IfOk result (λ given. IfSome given (λ _. HeldGaveUp K.rules B.base moment put.number desk.old lent.sets.items
@@ -200,7 +201,10 @@ pub fn cancel_on<K: RecordKind + Drop, B: SetsName<K, D>, D: Device, R: Wait>(
     );
     match given {
         Ok(Some(receipt)) => {
-            all.table.take_off(&[put]);
+            all.table.take_off(&[Live {
+                number,
+                holders: total,
+            }]);
             all.table.is_table();
             Ok(Some((Reply::Plain, receipt)))
         }

@@ -118,7 +118,8 @@ impl<K: RecordKind + Drop, B: SetsName<K, D>, D: Device> JournaledSet<K, B, D> {
         requires field { HasLink K.rules self.old.set.records change.number change.field }
         requires allowed { stops_put (common_at K.rules (now_of self.old.set) change.number) change.field ≡ false }
         requires within { (t : ℕ) → Contains (named_by (use_of change.link)) t → IsSome (get self.old.set.records t) }
-        ensures parts { IfOk result (λ x. Parts K.rules B.base self.old desk.old change.moment change.number change.field change.link self.new x.0 desk.new
+        ensures parts { IfOk result (λ x. Parts K.rules B.base self.old desk.old change.moment change.number change.field change.link
+            self.new x.0 desk.new
             (world_of buffers.new.store)) }
         ensures receipt { IfOk result (λ x. x.1 ≡ desk.new.seen) }
         ensures refused { IfErr result IsNoPlace }
@@ -233,7 +234,8 @@ impl<K: RecordKind + Drop, B: SetsName<K, D>, D: Device> JournaledSet<K, B, D> {
         requires field { HasLink K.rules self.old.set.records change.number change.field }
         requires allowed { stops_put (common_at K.rules (now_of self.old.set) change.number) change.field ≡ false }
         requires to { (t : ℕ) × (named_by (use_of change.link) ≡ t ∷ []) × IsSome (get other.old.set.records t) }
-        ensures leads { IfOk result (λ x. Leads K.rules B.base self.old other.old desk.old change.moment change.number change.field change.link self.new other.new
+        ensures leads { IfOk result (λ x. Leads K.rules B.base self.old other.old desk.old change.moment change.number change.field
+            change.link self.new other.new
             x.0 desk.new (world_of buffers.new.store)) }
         ensures receipt { IfOk result (λ x. x.1 ≡ desk.new.seen) }
         ensures refused { IfErr result IsNoPlace }
@@ -325,7 +327,8 @@ impl<K: RecordKind + Drop, B: SetsName<K, D>, D: Device> JournaledSet<K, B, D> {
         requires field { HasLink K.rules self.old.set.records change.now.number change.now.field }
         requires forbidden { stops_put (common_at K.rules (now_of self.old.set) change.now.number) change.now.field ≡ true }
         requires known { (t : ℕ) → Contains (named_by (use_of change.now.link)) t → IsKnown K.rules B.base t }
-        ensures refuses { IfOk result (λ x. Refuses K.rules B.base self.old desk.old change.now.moment change.now.number change.now.field change.now.link self.new desk.new) }
+        ensures refuses { IfOk result (λ x. Refuses K.rules B.base self.old desk.old change.now.moment change.now.number change.now.field
+            change.now.link self.new desk.new) }
         ensures reply { IfOk result (λ x. x.0 ≡ Refused PutDisabled) }
         ensures receipt { IfOk result (λ x. x.1 ≡ desk.new.seen) }
         ensures refused { IfErr result IsNoPlace }

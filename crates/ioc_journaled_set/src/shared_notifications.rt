@@ -102,7 +102,8 @@ impl<K: RecordKind, B: JournalName<K>> SharedNotifications<K, B> {
     /// Takes the next number, with a place, for a put with notification that is about to begin.
     /// Returns `None` if none may begin.
     pub fn take(&mut self) -> Option<NotifyId>
-        ensures taken { IfSome result (λ n. MayTake self.old n × (self.new ≡ puts_view self.old.live (self.old.taken ++ n ∷ []) n self.old.seen)) }
+        ensures taken { IfSome result (λ n. MayTake self.old n × (self.new
+            ≡ puts_view self.old.live (self.old.taken ++ n ∷ []) n self.old.seen)) }
         ensures full { IfNone result (NoneMayTake self.old × (self.new ≡ self.old)) }
     {
         self.table.is_table();
@@ -252,7 +253,8 @@ pub(crate) fn keep_beside<K: RecordKind, B: JournalName<K>, D, R: Wait>(
     requires counts { BothMayCount K.rules B.base (cell_view pass.old).seen (cell_view pass.old).owns all.old.seen puts_key ran.entry
         counts.share counts.before counts.after }
     requires backed { IsBacked counts.share counts.before }
-    requires moves { (log longer : List Note) → AddedByBoth K.rules B.base (cell_view pass.old).seen (cell_view pass.old).owns all.old.seen puts_key ran.entry log longer →
+    requires moves { (log longer : List Note) → AddedByBoth K.rules B.base (cell_view pass.old).seen (cell_view pass.old).owns
+        all.old.seen puts_key ran.entry log longer →
         AreMoved K.rules B.base log longer ran.before.items set.now.live }
     requires few { length set.now.live ≤ 256 }
     ensures call { Call K.rules B.base desk.old ran.entry desk.new }
