@@ -1,8 +1,9 @@
 -- What a set knows after an event of its own.
-use Rattle.std.proofs.Common.{◌≡◌, ◌↔◌, ℕ, Bool, true, false, cond, List, [], ◌∷◌, ◌++◌, length, Option, Some, None, refl, sym, ap, ◌∙◌, subst, zero, suc, arith}
-use Rattle.std.specs.Prelude.{◌==◌, Contains, is_some}
+use Rattle.std.proofs.Common.{◌≡◌, ◌↔◌, ℕ, Bool, true, false, cond, List, [], ◌∷◌, ◌++◌, length, Option, Some, None, Result, Ok, Err, refl, sym, ap, ◌∙◌, subst, zero, suc, arith}
+use Rattle.std.specs.Prelude.{◌==◌, Contains, is_some, IfOk, OnOk}
 use Rattle.std.specs.Ordering.{nat_cmp}
 use Rattle.std.specs.FinMap.{FinMap, get, len}
+use Rattle.std.specs.Option.{IfSome}
 use Rattle.atomic_table.specs.Seated.{TableId}
 use Rattle.ioc_device.specs.declared.Ask.{Ask}
 use Rattle.ioc_device.specs.declared.Answer.{Answer}
@@ -11,7 +12,7 @@ use Rattle.ioc_ledger.specs.Shared.{ShareView}
 use Rattle.ioc_ledger.specs.declared.tally.Tally.{Tally}
 use Rattle.ioc_fields.specs.declared.field_no.FieldNo.{FieldNo}
 use Rattle.ioc_record.specs.RecordRules.{RecordRules}
-use Rattle.ioc_store.specs.World.{World, Has, IsClosed, at, begun, begun_at}
+use Rattle.ioc_store.specs.World.{World, Has, IsClosed, at, begun, begun_at, has_place}
 use Rattle.ioc_store.specs.Given.{Answers, answers_of, listed}
 use Rattle.ioc_events.specs.declared.event.Event.{Event}
 use Rattle.ioc_events.specs.declared.event.Event.TheVariants.{Get, Process, Put, Complete, Link, Notify, Cancel, IsLive}
@@ -34,7 +35,7 @@ use Rattle.ioc_history.specs.Covering.{Holds, Cover, CancelsWithin, AreHeldAlike
 use Rattle.ioc_history.specs.Laws.{Lasts, OneMore, HoldersMove, MovesAlike, EndsOver, Asks, HeldAlike, GoesOn}
 use Rattle.ioc_history.specs.Account.{journalled, number_given, AreRecords, IsHolder, MayFollow, Added}
 use Rattle.ioc_journaled_set.specs.CallLaws.{CallLaws}
-use Rattle.ioc_journaled_set.specs.Holding.{IsOwner}
+use Rattle.ioc_journaled_set.specs.Holding.{is_on_record, IsOwner}
 use Rattle.ioc_set.specs.SetState.{SetState, NoneIsLive, now_of, folded, done_by, held_after}
 use Rattle.ioc_set.specs.Doing.{is_ordinary, with_place, Does}
 
@@ -49,15 +50,36 @@ false_true : false ≡ true → ⊥
 false_true e = cc
 
 -- An ordinary event names a record.
-pub names_one : (event : Event) → is_ordinary event ≡ true → (n : ℕ) × Contains (names event) n
+pub names_one : (event : Event) → is_on_record event ≡ true → (n : ℕ) × Contains (names event) n
 names_one (Get s field) is = absurd (false_true is)
 names_one (Process s) is = (s, (zero, omega arith, refl))
 names_one (Put s field given) is = (s, (zero, omega arith, refl))
 names_one (Complete s n x) is = (s, (zero, omega arith, refl))
 names_one (Link s field link) is = absurd (false_true is)
-names_one (Notify s n field given) is = absurd (false_true is)
+names_one (Notify s n field given) is = (s, (zero, omega arith, refl))
 names_one (Cancel n) is = absurd (false_true is)
 names_one (IsLive n) is = absurd (false_true is)
+
+-- An ordinary event is one on a record.
+pub ordinary_on : (event : Event) → is_ordinary event ≡ true → is_on_record event ≡ true
+ordinary_on (Get s field) is = absurd (false_true is)
+ordinary_on (Process s) is = refl
+ordinary_on (Put s field given) is = refl
+ordinary_on (Complete s n x) is = refl
+ordinary_on (Link s field link) is = absurd (false_true is)
+ordinary_on (Notify s n field given) is = absurd (false_true is)
+ordinary_on (Cancel n) is = absurd (false_true is)
+ordinary_on (IsLive n) is = absurd (false_true is)
+
+-- What follows for the value of a result, of which something is true whatever it is.
+pub begins_by : {A E : Type 0} {P R : A → Type 0} {Q : Type 0} (r : Result A E) → ((a : A) → Q → P a → R a) → OnOk r Q → IfOk r P → IfOk r R
+begins_by (Ok a) f q p = f a q p
+begins_by (Err e) f q p = tt
+
+-- What follows for the number that there may be.
+pub if_some_then : {A : Type 0} {P Q : A → Type 0} (o : Option A) → ((a : A) → P a → Q a) → IfSome o P → IfSome o Q
+if_some_then None f p = tt
+if_some_then (Some a) f p = f a p
 
 -- An ordinary event begins no put with notification.
 pub begins_no_put : (event : Event) → is_ordinary event ≡ true → number_given event ≡ None
@@ -80,7 +102,7 @@ owner_on table id id' v v' seen w w' owner same is only = record {
 }
 
 module _ {R : Type 0} (k : RecordRules R) where
-  pub no_cancel : (m v : World R) (event : Event) → is_ordinary event ≡ true → CancelsWithin k m v event
+  pub no_cancel : (m v : World R) (event : Event) → is_on_record event ≡ true → CancelsWithin k m v event
   no_cancel m v (Get s field) is = tt
   no_cancel m v (Process s) is = tt
   no_cancel m v (Put s field given) is = tt
@@ -90,15 +112,21 @@ module _ {R : Type 0} (k : RecordRules R) where
   no_cancel m v (Cancel n) is = absurd (false_true is)
   no_cancel m v (IsLive n) is = tt
 
+  -- An event on a record asks alike in two worlds if the put with notification that it may begin
+  -- has a place in both or in none.
+  pub asks_alike : (w v : World R) (event : Event) → is_on_record event ≡ true → IfSome (number_given event) (λ number. has_place w number ≡ has_place v number) → AskAlike w v event
+  asks_alike w v (Get s field) is same = tt
+  asks_alike w v (Process s) is same = tt
+  asks_alike w v (Put s field given) is same = tt
+  asks_alike w v (Complete s n x) is same = tt
+  asks_alike w v (Link s field link) is same = tt
+  asks_alike w v (Notify s n field given) is same = same
+  asks_alike w v (Cancel n) is same = absurd (false_true is)
+  asks_alike w v (IsLive n) is same = absurd (false_true is)
+
+  -- An ordinary event asks alike in any two worlds.
   pub asks_nothing : (w v : World R) (event : Event) → is_ordinary event ≡ true → AskAlike w v event
-  asks_nothing w v (Get s field) is = tt
-  asks_nothing w v (Process s) is = tt
-  asks_nothing w v (Put s field given) is = tt
-  asks_nothing w v (Complete s n x) is = tt
-  asks_nothing w v (Link s field link) is = tt
-  asks_nothing w v (Notify s n field given) is = absurd (false_true is)
-  asks_nothing w v (Cancel n) is = absurd (false_true is)
-  asks_nothing w v (IsLive n) is = absurd (false_true is)
+  asks_nothing w v event is = asks_alike w v event (ordinary_on event is) (subst (λ (o : Option ℕ). IfSome o (λ number. has_place w number ≡ has_place v number)) (sym (begins_no_put event is)) tt)
 
   closed_begun : (w : World R) (moment : ℕ) → IsClosed k w → IsClosed k (begun_at moment w)
   unfolding at begun_at begun
@@ -289,7 +317,7 @@ module _ {R D : Type 0} {k : RecordRules R} {gives : D → Ask → ℕ → Answe
     goes_on : GoesOn k base log (alone desk call own) (λ m. Holds k m (done_by k (now_of h) d.does.entry).world)
     goes_on =
         noted_on k gives h h' moment event reply come_to d.does d.there d.laws.one_more d.laws.moves base log desk call (owned ++ own) sound legal held_on covers_on
-        (no_cancel k (map_of k base log) (now_of h) event d.ordinary) (asks_nothing k (begun_at moment (now_of h)) (begun_at moment (map_of k base log)) event d.ordinary) (λ out. d.same)
+        (no_cancel k (map_of k base log) (now_of h) event (ordinary_on event d.ordinary)) (asks_nothing k (begun_at moment (now_of h)) (begun_at moment (map_of k base log)) event d.ordinary) (λ out. d.same)
 
   -- The event may follow any legal list.
   pub may_follow : MayFollow k base seen owned entry
@@ -300,7 +328,7 @@ module _ {R D : Type 0} {k : RecordRules R} {gives : D → Ask → ℕ → Answe
   may_send = subst (λ (x : Entry). MaySend k base seen owned x (length (once_in come_to.outbox))) d.entry_is
       (λ log desk call own sound go legal.
       sent_on k gives h h' moment event reply come_to d.does d.there d.laws.one_more d.laws.moves base log desk call (owned ++ own) sound legal (held_on log desk call own sound go legal) (covers_on log desk call own sound go legal)
-      (no_cancel k (map_of k base log) (now_of h) event d.ordinary) (asks_nothing k (begun_at moment (now_of h)) (begun_at moment (map_of k base log)) event d.ordinary) (λ out. d.same) d.laws.counts)
+      (no_cancel k (map_of k base log) (now_of h) event (ordinary_on event d.ordinary)) (asks_nothing k (begun_at moment (now_of h)) (begun_at moment (map_of k base log)) event d.ordinary) (λ out. d.same) d.laws.counts)
 
   -- The event counts as much after any legal list as on the set.
   pub may_count : (share : Option ShareView) (before then : Tally) → (share ≡ None → ⊥) → before ≡ h.tally → then ≡ h'.tally → MayCount k base seen owned entry share before then
@@ -309,7 +337,7 @@ module _ {R D : Type 0} {k : RecordRules R} {gives : D → Ask → ℕ → Answe
       counts_with k (map_of k base log) (alone desk call own) share before then there
       (now
       ∙ counted_on k gives h h' moment event reply come_to d.does d.there d.laws.one_more d.laws.moves base log desk call (owned ++ own) sound legal (held_on log desk call own sound go legal) (covers_on log desk call own sound go legal)
-      (no_cancel k (map_of k base log) (now_of h) event d.ordinary) (asks_nothing k (begun_at moment (now_of h)) (begun_at moment (map_of k base log)) event d.ordinary) (λ out. d.same) d.laws.counts
+      (no_cancel k (map_of k base log) (now_of h) event (ordinary_on event d.ordinary)) (asks_nothing k (begun_at moment (now_of h)) (begun_at moment (map_of k base log)) event d.ordinary) (λ out. d.same) d.laws.counts
       ∙ ap (λ (t : Tally). tallied_by k t (map_of k base log) (alone desk call own)) (sym was)))
 
   module _ (log longer : List Note) (added : Added k base seen owned entry log longer) where
@@ -322,7 +350,7 @@ module _ {R D : Type 0} {k : RecordRules R} {gives : D → Ask → ℕ → Answe
         let a = as_done in
         let over =
         ended_on k gives h h' moment event reply come_to d.does d.there d.laws.one_more d.laws.moves base log a.desk a.call (owned ++ a.own) a.sound a.legal (held_on log a.desk a.call a.own a.sound a.goes_on a.legal)
-        (covers_on log a.desk a.call a.own a.sound a.goes_on a.legal) (no_cancel k (map_of k base log) (now_of h) event d.ordinary)
+        (covers_on log a.desk a.call a.own a.sound a.goes_on a.legal) (no_cancel k (map_of k base log) (now_of h) event (ordinary_on event d.ordinary))
         (asks_nothing k (begun_at moment (now_of h)) (begun_at moment (map_of k base log)) event d.ordinary) (λ out. d.same) d.laws.over counted n in
         let here = (over.0 (subst (λ (l : List Note). Contains (map_of k base l).ended n) a.ends has)).0 in
         nothing_there n (subst (λ (ls : List ℕ). Contains ls n) (sym (ended_then k gives h h' moment event reply come_to d.does d.there) ∙ none) here)

@@ -28,7 +28,7 @@ use Rattle.ioc_set.specs.SetState.{SetState, now_of}
 use Rattle.ioc_set.specs.Sound.{IsSound}
 use Rattle.ioc_set.specs.NoCalls.{no_call}
 use Rattle.ioc_set.specs.Doing.{Does}
-use Rattle.ioc_journaled_set.specs.Puts.{PutsView, CanBegin, IsUpToDate}
+use Rattle.ioc_journaled_set.specs.Puts.{BeginsUnder}
 
 -- A set, and the beginning of the journal's list that its pass has seen.
 pub record HeldView (R D : Type 0) : Type 0 where
@@ -66,6 +66,15 @@ pub record IsOwner {R : Type 0} (table id : TableId) (v : View) (w : World R) : 
 -- such field, the field can't be put, the journal has no place left, or allocation fails.
 abbrev pub IsNoCall : {R D : Type 0} → RecordRules R → SetState R D → Event → IocError → Type 0
 IsNoCall k h event error = (no_call k (now_of h) event ≡ Some error) ⊎ IsNoPlace error
+
+-- Holds if the event is a request, a put, with or without a notification, or a completion: it
+-- concerns one record.
+abbrev pub is_on_record : Event → Bool
+is_on_record (Process s) = true
+is_on_record (Put s field given) = true
+is_on_record (Complete s number finished) = true
+is_on_record (Notify s number field given) = true
+is_on_record _ = false
 
 module _ {R D : Type 0} (k : RecordRules R) (base : World R) where
   -- The invariant of a journaled set: it has a pass for its records, the set is equal to the world
@@ -107,14 +116,8 @@ module _ {R D : Type 0} (k : RecordRules R) (gives : D → Ask → ℕ → Answe
     pub call : Call k base desk does.entry desk_then
     pub seen : held_then.seen ≡ desk_then.seen
 
-  -- A put with notification of a desk begins on a set, under a number that was taken for it. `puts`
-  -- is the table of all sets after all calls before this one, without this number: fewer than 256
-  -- are live in it or have a number taken for them, none that is live has this number, and none has
-  -- begun under it.
+  -- A put with notification of a desk begins on a set, under a number that was taken for it.
   pub record Begins (held : HeldView R D) (desk : DeskView) (at_moment target : ℕ) (field : FieldNo) (given : Input) (reply : Reply) (held_then : HeldView R D) (desk_then : DeskView) (come_to : World R) : Type 0 where
     pub number : ℕ
-    pub puts : PutsView
-    pub can : CanBegin puts number
-    pub up_to_date : IsUpToDate k base puts
-    pub before : (n : Note) × (desk_then.seen ≡ puts.seen ++ n ∷ [])
+    pub under : BeginsUnder k base number desk_then.seen
     pub serves : Serves held desk at_moment (Notify target number field given) reply held_then desk_then come_to

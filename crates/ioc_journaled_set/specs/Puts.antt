@@ -1,7 +1,7 @@
 -- The puts with notification of all lock sets, in one table beside the journal. Application
 -- Developer's Guide, "Put with Notification" (dbPutNotify): it is complete when all processing that
 -- it has caused is done. The table and its place beside the journal are this project's own.
-use Rattle.std.specs.Prelude.{◌≡◌, ◌⊎◌, ◌↔◌, ◌+◌, ◌-◌, ◌≤◌, ◌<◌, ◌^◌, ℕ, true, false, not, List, [], length, All, Contains}
+use Rattle.std.specs.Prelude.{◌≡◌, ◌⊎◌, ◌↔◌, ◌+◌, ◌-◌, ◌≤◌, ◌<◌, ◌^◌, ◌∷◌, ◌++◌, ℕ, true, false, not, List, [], length, All, Contains}
 use Rattle.std.specs.List.{filter}
 use Rattle.atomic_table.specs.Seated.{TableId}
 use Rattle.crossbeam_utils.specs.Seq.{cell_view}
@@ -88,6 +88,16 @@ module _ {R : Type 0} (k : RecordRules R) (base : World R) where
     pub counted : AreCounted p.live p.seen
     pub below : NoneIsAbove p.last p.seen
     pub taken : AreTaken p.live p.taken p.last p.seen
+
+  -- A put with notification begins in the last of these calls, under a number that was taken for
+  -- it. `puts` is the table of all sets after all calls before this one, without this number: fewer
+  -- than 256 are live in it or have a number taken for them, none that is live has this number, and
+  -- none has begun under it.
+  pub record BeginsUnder (number : ℕ) (seen : List Note) : Type 0 where
+    pub puts : PutsView
+    pub can : CanBegin puts number
+    pub up_to_date : IsUpToDate puts
+    pub before : (n : Note) × (seen ≡ puts.seen ++ n ∷ [])
 
   -- Holds if no put with notification may begin by what such a table has.
   pub record NoneMayBegin : Type 0 where

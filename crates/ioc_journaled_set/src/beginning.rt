@@ -1,85 +1,27 @@
 //! Puts with notification on journaled sets.
-ghost use Rattle.std.specs.Prelude.{◌≡◌, ◌⊎◌, None, IfOk, IfErr, OnOk, OnErr, Contains};
+ghost use Rattle.std.specs.Prelude.{◌≡◌, ◌⊎◌, IfOk, IfErr, OnOk, OnErr, Contains};
 ghost use Rattle.ioc_values.specs.declared.error.IocError.TheVariants.{QueueFull};
-ghost use Rattle.ioc_events.specs.declared.event.Event.TheVariants.{Put, Notify};
+ghost use Rattle.ioc_events.specs.declared.event.Event.TheVariants.{Put};
 ghost use Rattle.ioc_journaled_set.specs.Sent.{AreTicketsFor};
-ghost use Rattle.ioc_history.specs.Places.{IsNoPlace};
 ghost use Rattle.ioc_set_store.specs.SetStore.{world_of};
-ghost use Rattle.ioc_set.specs.SetState.{now_of};
-ghost use Rattle.ioc_set.specs.NoCalls.{no_call};
 ghost use Rattle.ioc_journaled_set.specs.Holding.{numbers_of, Begins, IsNoCall};
 ghost use Rattle.ioc_journaled_set.specs.Puts.{NoneMayBegin, HaveEnded};
 
-use crate::call_laws::calls_have_laws;
-use crate::counts::{counts_since, wait_forever};
 use crate::field_put::FieldPut;
 use crate::journal_access::JournalAccess;
 use crate::journaled_set::JournaledSet;
-use crate::running::{Served, run_counted};
+use crate::running::Served;
 use crate::sets_name::SetsName;
-use crate::shared_notifications::{SharedNotifications, keep_beside, lock_taken, take_number};
+use crate::shared_notifications::{SharedNotifications, take_number};
 use ioc_device::Device;
 use ioc_events::Event;
 use ioc_history::DeskAccount;
-use ioc_notify::NotifyId;
-use ioc_notify::table_laws::lines_tell_holders;
 use ioc_record::RecordKind;
 use ioc_set_store::EventBuffers;
 use ioc_values::IocError;
 use std::sync::{Mutex, Wait};
 
 impl<K: RecordKind + Drop, B: SetsName<K, D>, D: Device> JournaledSet<K, B, D> {
-    // Makes a put with notification on the set, under a number that was taken for it.
-    fn begin_counted<R: Wait>(
-        &mut self,
-        access: &JournalAccess<'_, K, B, R>,
-        puts: &Mutex<SharedNotifications<K, B>>,
-        desk: &mut DeskAccount<K, B>,
-        buffers: &mut EventBuffers<K, D>,
-        notification: NotifyId,
-        put: FieldPut,
-    ) -> Result<Served<K, B>, IocError>
-        requires there { Contains (numbers_of self.old) put.number }
-        requires is_call { no_call K.rules (now_of self.old.set) (Notify put.number notification put.field put.given) ≡ None }
-        ensures begins { IfOk result (λ x. Begins K.rules D.gives B.base self.old desk.old put.moment put.number put.field put.given
-            x.reply self.new desk.new (world_of buffers.new.store)) }
-        ensures receipt { IfOk result (λ x. x.receipt ≡ desk.new.seen) }
-        ensures tickets { IfOk result (λ x. AreTicketsFor K.rules B.base desk.new.seen (world_of buffers.new.store).outbox x.tickets) }
-        ensures ended { OnOk result (HaveEnded K.rules B.base (world_of buffers.new.store).ended desk.new.seen
-            buffers.new.ended_everywhere.items) }
-        ensures refused { IfErr result IsNoPlace }
-        ensures err { OnErr result ((self.new ≡ self.old) × (desk.new ≡ desk.old)) }
-    {
-        calls_have_laws::<K>();
-        lines_tell_holders();
-        self.set.is_sound();
-        let tally = self.set.tally();
-        let event = Event::Notify(put.number, notification, put.field, put.given);
-        let ran = run_counted(access, desk, &mut self.set, buffers, &event, put.moment)?;
-        let Some(mut pass) = self.pass.take() else {
-            unreachable!();
-        };
-        let Some(share) = self.share.take() else {
-            wait_forever(access.rt);
-            unreachable!();
-        };
-        let counts = counts_since(share, tally, &self.set, buffers);
-        let mut guard = lock_taken(access.rt, puts, notification);
-        let all = &mut *guard;
-        all.is_counted();
-        let reply = ran.reply;
-        let appended = keep_beside(
-            access, ran, &mut pass, all, desk, buffers, counts, &self.set,
-        );
-        self.pass = Some(pass);
-        self.share = appended.share;
-        Ok(Served {
-            reply,
-            receipt: appended.receipt,
-            tickets: appended.tickets,
-        })
-    }
-
     /// Puts a value into a field as [`JournaledSet::put`] does, with a notification, and adds the
     /// call to the journal. The put with notification ends when all that it has caused is done. Its
     /// number is in the reply, and no other has it. The table of all puts with notification isn't
@@ -116,7 +58,8 @@ impl<K: RecordKind + Drop, B: SetsName<K, D>, D: Device> JournaledSet<K, B, D> {
         let Some(number) = take_number(access.rt, puts) else {
             return Err(IocError::QueueFull);
         };
-        let begun = self.begin_counted(access, puts, desk, buffers, number, put);
+        let event = Event::Notify(put.number, number, put.field, put.given);
+        let begun = self.serve_counted(access, puts, desk, buffers, &event, put.moment);
         if begun.is_err() {
             puts.lock(access.rt).give_back(number);
         }

@@ -1,5 +1,6 @@
 //! Sets whose events are added to the journal.
 ghost use Rattle.std.specs.Prelude.{◌≡◌, ℕ, true, None, Some, IfOk, IfErr, OnOk, OnErr, Contains};
+ghost use Rattle.std.specs.Option.{IfSome};
 ghost use Rattle.crossbeam_utils.specs.Seq.{cell_view};
 ghost use Rattle.ioc_events.specs.declared.event.Event.TheVariants.{Get};
 ghost use Rattle.ioc_events.specs.Step.{names};
@@ -13,16 +14,17 @@ ghost use Rattle.ioc_set.specs.Doing.{is_ordinary};
 ghost use Rattle.ioc_history.specs.Places.{IsNoPlace};
 ghost use Rattle.ioc_set_records.specs.Slots.{devices_of, records_of};
 ghost use Rattle.ioc_set_store.specs.SetStore.{world_of};
-ghost use Rattle.ioc_journaled_set.specs.Puts.{HaveEnded};
-ghost use Rattle.ioc_journaled_set.specs.Holding.{IsCounted, IsLent, IsOwner, KeepsDevices, held_view, numbers_of, Serves, Tells, IsNoCall};
+ghost use Rattle.ioc_history.specs.Account.{number_given};
+ghost use Rattle.ioc_journaled_set.specs.Puts.{BeginsUnder, HaveEnded};
+ghost use Rattle.ioc_journaled_set.specs.Holding.{is_on_record, IsCounted, IsLent, IsOwner, KeepsDevices, held_view, numbers_of, Serves, Tells, IsNoCall};
 ghost use Rattle.ioc_journaled_set.specs.SameDevice.{IsDeviceOf};
 
 use crate::call_laws::calls_have_laws;
 use crate::counts::{counts_since, wait_forever};
 use crate::journal_access::JournalAccess;
-use crate::running::{Ran, Served, run_counted, run_with_answers};
+use crate::running::{Served, run_counted, run_with_answers};
 use crate::sets_name::SetsName;
-use crate::shared_notifications::{SharedNotifications, keep_beside};
+use crate::shared_notifications::{SharedNotifications, keep_beside, lock_for};
 use ioc_device::Device;
 use ioc_events::{Entry, Event, KeptAnswers, Reply};
 use ioc_fields::FieldNo;
@@ -242,10 +244,10 @@ impl<K: RecordKind + Drop, B: SetsName<K, D>, D: Device> JournaledSet<K, B, D> {
         })
     }
 
-    // Performs a request, a put or a completion on a set on which puts with notification are live:
-    // the counts of all are updated with it. Not inlined, because such sets are rare.
+    // Performs an event on a set on which puts with notification are live, or one may begin: the
+    // counts of all are updated with it. Not inlined, because such events are rare.
     #[inline(never)]
-    fn serve_counted<R: Wait>(
+    pub(crate) fn serve_counted<R: Wait>(
         &mut self,
         access: &JournalAccess<'_, K, B, R>,
         puts: &Mutex<SharedNotifications<K, B>>,
@@ -254,11 +256,12 @@ impl<K: RecordKind + Drop, B: SetsName<K, D>, D: Device> JournaledSet<K, B, D> {
         event: &Event,
         moment: u64,
     ) -> Result<Served<K, B>, IocError>
-        requires ordinary { is_ordinary event.now ≡ true }
+        requires on_record { is_on_record event.now ≡ true }
         requires there { (n : ℕ) → Contains (names event.now) n → Contains (numbers_of self.old) n }
         requires is_call { no_call K.rules (now_of self.old.set) event.now ≡ None }
         ensures serves { IfOk result (λ x. Serves K.rules D.gives B.base self.old desk.old moment event.now x.reply self.new desk.new
             (world_of buffers.new.store)) }
+        ensures begins { OnOk result (IfSome (number_given event.now) (λ number. BeginsUnder K.rules B.base number desk.new.seen)) }
         ensures receipt { IfOk result (λ x. x.receipt ≡ desk.new.seen) }
         ensures tickets { IfOk result (λ x. AreTicketsFor K.rules B.base desk.new.seen (world_of buffers.new.store).outbox x.tickets) }
         ensures ended { OnOk result (HaveEnded K.rules B.base (world_of buffers.new.store).ended desk.new.seen
@@ -279,8 +282,9 @@ impl<K: RecordKind + Drop, B: SetsName<K, D>, D: Device> JournaledSet<K, B, D> {
             unreachable!();
         };
         let counts = counts_since(share, tally, &self.set, buffers);
-        let mut guard = puts.lock(access.rt);
+        let mut guard = lock_for(access.rt, puts, event);
         let all = &mut *guard;
+        all.is_counted();
         let reply = ran.reply;
         let appended = keep_beside(
             access, ran, &mut pass, all, desk, buffers, counts, &self.set,

@@ -162,7 +162,7 @@ pub(crate) fn take_number<K: RecordKind, B: JournalName<K>, R: Wait>(
 // Locks the table, in which a number was taken, for a put with notification that begins under it.
 // The first turn finds the number: it stays taken until its call begins or gives it back. No clause
 // says so, because the table was free meanwhile.
-pub(crate) fn lock_taken<'a, K: RecordKind, B: JournalName<K>, R: Wait>(
+fn lock_taken<'a, K: RecordKind, B: JournalName<K>, R: Wait>(
     rt: &R,
     puts: &'a Mutex<SharedNotifications<K, B>>,
     number: NotifyId,
@@ -176,6 +176,21 @@ pub(crate) fn lock_taken<'a, K: RecordKind, B: JournalName<K>, R: Wait>(
         }
     }
     unreachable!()
+}
+
+// Locks the table for an event on a set. If it begins a put with notification, its number was taken
+// in the table.
+pub(crate) fn lock_for<'a, K: RecordKind, B: JournalName<K>, R: Wait>(
+    rt: &R,
+    puts: &'a Mutex<SharedNotifications<K, B>>,
+    event: &Event,
+) -> MutexGuard<'a, SharedNotifications<K, B>>
+    ensures can { IfSome (number_given event.now) (λ number. CanBegin (mutex_guard_value result) number) }
+{
+    match event {
+        Event::Notify(_, number, _, _) => lock_taken(rt, puts, *number),
+        _ => puts.lock(rt),
+    }
 }
 
 // Gives a place to the put with notification that an event begins, if it begins one.

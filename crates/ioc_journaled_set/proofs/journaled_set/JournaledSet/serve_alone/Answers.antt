@@ -18,7 +18,7 @@ use Rattle.ioc_journaled_set.specs.SameDevice.{IsDeviceOf}
 use Rattle.ioc_journaled_set.proofs.Keys.{key_there}
 use Rattle.ioc_journaled_set.proofs.Devices.{worked_there, keeps_on}
 use Rattle.ioc_journaled_set.proofs.Ended.{none_have_ended}
-use Rattle.ioc_journaled_set.proofs.Serving.{IsDoneAlone, names_one, begins_no_put, owner_on, entry_is, none_held, none_ended, may_follow, may_send, may_count, held_then, only, as_many}
+use Rattle.ioc_journaled_set.proofs.Serving.{IsDoneAlone, names_one, ordinary_on, begins_no_put, owner_on, entry_is, none_held, none_ended, may_follow, may_send, may_count, held_then, only, as_many}
 use Rattle.ioc_journaled_set.proofs.Counting.{some_len}
 use Rattle.ioc_journaled_set.proofs.Shares.{backed, counted_then, is_there}
 use Rattle.ioc_journaled_set.proofs.journaled_set.JournaledSet.serve_alone.Given.{Over}
@@ -57,7 +57,7 @@ unreachable-requires g c =
     let k = g.K.RecordKind.rules in
     let none : c.self.inside.pass ≡ None = sym c.take.ensures.value ∙ c.in_default.is in
     let held = subst (λ (o : Option Pass). IsHeld k g.B.JournalName.base (IsDeviceOf g.D.Device.gives g.B.SetsName.devices) g.B.CellName.table o c.self.inside.set) none c.self.invariant.0 in
-    let one = names_one c.args.event.now c.requires.ordinary in
+    let one = names_one c.args.event.now (ordinary_on c.args.event.now c.requires.ordinary) in
     held.owner one.0 (key_there c.self.inside.set.records one.0 (subst (λ (v : HeldView g.row.K.Denot g.row.D.Denot). Contains (numbers_of v) one.0) (sym c.self.view_is) (c.requires.there one.0 one.1)))
 
 pub append-appended-requires-clause-set : goal.append-appended-requires-clause-set
@@ -85,7 +85,7 @@ append-appended-requires-clause-counts g c =
 
 pub append-appended-requires-clause-backed : goal.append-appended-requires-clause-backed
 append-appended-requires-clause-backed g c =
-    let one = names_one c.args.event.now c.requires.ordinary in
+    let one = names_one c.args.event.now (ordinary_on c.args.event.now c.requires.ordinary) in
     let there = key_there c.self.inside.set.records one.0 (subst (λ (v : HeldView g.row.K.Denot g.row.D.Denot). Contains (numbers_of v) one.0) (sym c.self.view_is) (c.requires.there one.0 one.1)) in
     backed c.self.inside.share c.counts_since-counts.result.share c.self.inside.set c.counts_since-counts.result.before (c.counts_since-counts.ensures.share ∙ sym (sym c.take-2.ensures.value ∙ c.in-Some-take.is)) c.self.invariant.1
     (c.counts_since-counts.ensures.counts.0 ∙ c.tally-before.ensures) (some_len c.self.inside.set.records one.0 there)
