@@ -19,7 +19,8 @@ impl<T, const LIMIT: usize> Model for Queue<T, LIMIT> {
 
     ghost view = { λ q. q.items.items };
 
-    ghost invariant = { λ q. (length q.items.items ≤ LIMIT) × (deque_len q.items ≡ length q.items.items) × (deque_capacity q.items ≡ LIMIT) };
+    ghost invariant = { λ q. (length q.items.items ≤ LIMIT) × (deque_len q.items ≡ length q.items.items)
+        × (deque_capacity q.items ≡ LIMIT) };
 }
 
 impl<T, const LIMIT: usize> Queue<T, LIMIT> {
