@@ -1,6 +1,6 @@
 -- Sets under their locks, and the calls on them. Application Developer's Guide, "Database Locking,
 -- Scanning, and Processing". The journal is this project's own.
-use Rattle.std.specs.Prelude.{◌≡◌, ◌⊎◌, ℕ, List, [], ◌∷◌, ◌++◌, Option, Some, None, MatchOption, unwrap_or}
+use Rattle.std.specs.Prelude.{◌≡◌, ◌⊎◌, ℕ, Bool, true, false, List, [], ◌∷◌, ◌++◌, Option, Some, None, MatchOption, unwrap_or}
 use Rattle.std.specs.Option.{option_map, IfSome}
 use Rattle.ioc_ledger.specs.Shared.{ShareView, share_view}
 use Rattle.std.specs.FinMap.{get, keys, len}
@@ -14,7 +14,7 @@ use Rattle.ioc_store.specs.Given.{Answers}
 use Rattle.ioc_fields.specs.declared.field_no.FieldNo.{FieldNo}
 use Rattle.ioc_values.specs.declared.input.Input.{Input}
 use Rattle.ioc_events.specs.declared.event.Event.{Event}
-use Rattle.ioc_events.specs.declared.event.Event.TheVariants.{Notify}
+use Rattle.ioc_events.specs.declared.event.Event.TheVariants.{Process, Put, Complete, Notify}
 use Rattle.ioc_events.specs.declared.reply.Reply.{Reply}
 use Rattle.ioc_events.specs.Step.{stepped}
 use Rattle.ioc_history.specs.declared.entry.Note.{Note}
