@@ -1,3 +1,4 @@
 mod Inverse
 mod Positions
+mod StatusNumbers
 mod TextsAreDistinct

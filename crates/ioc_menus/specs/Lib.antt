@@ -1,3 +1,4 @@
+pub mod Counting
 pub mod Laws
 pub mod Numbers
 pub mod Texts

@@ -1,5 +1,5 @@
 -- The numbers of the choices, in the order of each menu. Record Reference Manual, "Menu Types".
-use Rattle.std.specs.Prelude.{ℕ, List, [], ◌∷◌}
+use Rattle.std.specs.Prelude.{◌≡◌, ◌↔◌, ℕ, Option, Some, List, [], ◌∷◌}
 use Rattle.ioc_menus.specs.declared.severity.Severity.{Severity}
 use Rattle.ioc_menus.specs.declared.severity.Severity.TheVariants as severity
 use Rattle.ioc_menus.specs.declared.status.Status.{Status}
@@ -129,3 +129,7 @@ selm_number selm.Mask = 2
 abbrev pub selms : List Selm
 selms =
     selm.All ∷ selm.Specified ∷ selm.Mask ∷ []
+
+-- Holds if the answer is a choice exactly if this is its number.
+abbrev pub IsNumbered : {C : Type 0} → (C → ℕ) → ℕ → Option C → Type 0
+IsNumbered {C} number_of number answer = (choice : C) → (answer ≡ Some choice) ↔ (number_of choice ≡ number)

@@ -1,7 +1,7 @@
 //! The numbers of the choices, which are counted from 0 in the order of each menu. Record
 //! Reference Manual, "Menu Types".
 ghost use Rattle.std.specs.Prelude.{◌≡◌, slice_get};
-ghost use Rattle.ioc_menus.specs.Numbers.{severity_number, severities, status_number, statuses, scan_number, scans, priority_number, priorities, pini_number, pinis, omsl_number, omsls, ivoa_number, ivoas, selm_number, selms};
+ghost use Rattle.ioc_menus.specs.Numbers.{severity_number, severities, status_number, statuses, scan_number, scans, priority_number, priorities, pini_number, pinis, omsl_number, omsls, ivoa_number, ivoas, selm_number, selms, IsNumbered};
 
 use crate::ivoa::Ivoa;
 use crate::omsl::Omsl;
@@ -90,6 +90,7 @@ impl Severity {
     /// Returns the choice with this number, or `None` if there is none.
     pub fn from_number(number: u16) -> Option<Self>
         ensures value { result ≡ slice_get severities number }
+        ensures numbered { IsNumbered severity_number number result }
     {
         choice_at(&SEVERITIES, number)
     }
@@ -106,6 +107,7 @@ impl Status {
     /// Returns the choice with this number, or `None` if there is none.
     pub fn from_number(number: u16) -> Option<Self>
         ensures value { result ≡ slice_get statuses number }
+        ensures numbered { IsNumbered status_number number result }
     {
         choice_at(&STATUSES, number)
     }
@@ -122,6 +124,7 @@ impl Scan {
     /// Returns the choice with this number, or `None` if there is none.
     pub fn from_number(number: u16) -> Option<Self>
         ensures value { result ≡ slice_get scans number }
+        ensures numbered { IsNumbered scan_number number result }
     {
         choice_at(&SCANS, number)
     }
@@ -138,6 +141,7 @@ impl Priority {
     /// Returns the choice with this number, or `None` if there is none.
     pub fn from_number(number: u16) -> Option<Self>
         ensures value { result ≡ slice_get priorities number }
+        ensures numbered { IsNumbered priority_number number result }
     {
         choice_at(&PRIORITIES, number)
     }
@@ -154,6 +158,7 @@ impl Pini {
     /// Returns the choice with this number, or `None` if there is none.
     pub fn from_number(number: u16) -> Option<Self>
         ensures value { result ≡ slice_get pinis number }
+        ensures numbered { IsNumbered pini_number number result }
     {
         choice_at(&PINIS, number)
     }
@@ -170,6 +175,7 @@ impl Omsl {
     /// Returns the choice with this number, or `None` if there is none.
     pub fn from_number(number: u16) -> Option<Self>
         ensures value { result ≡ slice_get omsls number }
+        ensures numbered { IsNumbered omsl_number number result }
     {
         choice_at(&OMSLS, number)
     }
@@ -186,6 +192,7 @@ impl Ivoa {
     /// Returns the choice with this number, or `None` if there is none.
     pub fn from_number(number: u16) -> Option<Self>
         ensures value { result ≡ slice_get ivoas number }
+        ensures numbered { IsNumbered ivoa_number number result }
     {
         choice_at(&IVOAS, number)
     }
@@ -202,6 +209,7 @@ impl Selm {
     /// Returns the choice with this number, or `None` if there is none.
     pub fn from_number(number: u16) -> Option<Self>
         ensures value { result ≡ slice_get selms number }
+        ensures numbered { IsNumbered selm_number number result }
     {
         choice_at(&SELMS, number)
     }
