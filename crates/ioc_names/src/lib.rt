@@ -4,7 +4,6 @@
 
 pub mod entered;
 pub mod laws;
-mod name_key;
 pub mod names;
 pub mod record_no;
 

@@ -6,7 +6,6 @@ ghost use Rattle.std.specs.FinMap.{get, insert};
 ghost use Rattle.ioc_names.specs.Entries.{number_map};
 
 use crate::entered::Entered;
-use crate::name_key::NameKey;
 use crate::record_no::RecordNo;
 use indexmap::IndexMap;
 use indexmap::map::Entry;
@@ -18,7 +17,7 @@ use std::marker::Model;
 /// names to numbers, and the number of records.
 #[derive(Drop)]
 pub struct Names {
-    numbers: IndexMap<NameKey, RecordNo>,
+    numbers: IndexMap<Name, RecordNo>,
     count: usize,
 }
 
@@ -127,7 +126,7 @@ impl Names {
 
 // Returns the number that the name was entered with, or enters the name with this number.
 fn find_or_enter(
-    numbers: &mut IndexMap<NameKey, RecordNo>,
+    numbers: &mut IndexMap<Name, RecordNo>,
     name: Name,
     number: RecordNo,
 ) -> Result<Option<RecordNo>, AllocError>
@@ -136,7 +135,8 @@ fn find_or_enter(
     ensures err { OnErr result (numbers.new.entries ≡ numbers.old.entries) }
     ensures short { length name ≤ 60 }
 {
-    match numbers.entry(NameKey::new(name))? {
+    let _bytes = name.as_slice();
+    match numbers.entry(name)? {
         Entry::Occupied(entry) => Ok(Some(*entry.get())),
         Entry::Vacant(entry) => {
             entry.insert(number);
@@ -147,7 +147,7 @@ fn find_or_enter(
 
 // Enters a new name with its number, by one look-up.
 fn enter(
-    numbers: &mut IndexMap<NameKey, RecordNo>,
+    numbers: &mut IndexMap<Name, RecordNo>,
     name: Name,
     number: RecordNo,
 ) -> Result<(), AllocError>
@@ -156,6 +156,7 @@ fn enter(
     ensures err { OnErr result (numbers.new.entries ≡ numbers.old.entries) }
     ensures short { length name ≤ 60 }
 {
-    numbers.insert(NameKey::new(name), number)?;
+    let _bytes = name.as_slice();
+    numbers.insert(name, number)?;
     Ok(())
 }

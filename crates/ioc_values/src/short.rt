@@ -1,11 +1,20 @@
 //! Byte strings of fixed capacity, which never allocate.
 
-ghost use Rattle.std.specs.Prelude.{◌≡◌, ◌≤◌, ◌↔◌, ◌<◌, ◌+◌, List, ℕ, [], ◌++◌, ◌∷◌, length, take, IsSome, IfSome};
+ghost use Rattle.std.specs.Prelude.{◌≡◌, ◌≤◌, ◌↔◌, ◌<◌, ◌+◌, List, ℕ, [], ◌++◌, ◌∷◌, length, take, nat_eq, IsSome, IfSome};
+ghost use Rattle.std.specs.Ordering.{nat_cmp, as_partial_cmp};
+ghost use Rattle.std.specs.Hash as fed;
+ghost use Rattle.std.specs.Cmp.Lexicographic.{pointwise, slice_cmp, bytes_decides, nat_list_eq_equiv, nat_list_cmp_total};
+ghost use Rattle.std.specs.Cmp.{partial_equiv_from_equiv, partial_order_from_own_ties};
+ghost use Rattle.std.specs.Cmp.Rules.{comparing, hashing};
+ghost use Rattle.std.proofs.Common.{ap, rules};
 
+use indexmap::Equivalent;
+use std::cmp::Ordering;
+use std::hash::{Hash, Hasher};
 use std::marker::Model;
 
-/// A byte string of at most `CAP` bytes.
-#[derive(Clone, Copy, PartialEq, Eq)]
+/// A byte string of at most `CAP` bytes, which is compared, ordered and hashed by its bytes.
+#[derive(Clone, Copy)]
 pub struct Short<const CAP: usize> {
     bytes: [u8; CAP],
     len: usize,
@@ -104,6 +113,68 @@ impl<const CAP: usize> Short<CAP> {
         for b in bytes {
             self.push(*b);
         }
+    }
+}
+
+impl<const CAP: usize> PartialEq for Short<CAP> {
+    ghost eq = { pointwise nat_eq };
+
+    ghost laws = { partial_equiv_from_equiv nat_list_eq_equiv };
+
+    fn eq(&self, other: &Self) -> bool {
+        self.as_slice() == other.as_slice()
+    }
+}
+
+impl<const CAP: usize> Eq for Short<CAP> {
+    ghost laws = { nat_list_eq_equiv };
+}
+
+impl<const CAP: usize> Ord for Short<CAP> {
+    ghost cmp = { slice_cmp nat_cmp };
+
+    ghost total = { nat_list_cmp_total };
+
+    ghost matches_partial_cmp = { Prim.search (comparing, rules) };
+
+    ghost matches_eq = { Prim.search (comparing, rules) };
+
+    fn cmp(&self, other: &Self) -> Ordering {
+        self.as_slice().cmp(other.as_slice())
+    }
+}
+
+impl<const CAP: usize> PartialOrd for Short<CAP> {
+    ghost partial_cmp = { as_partial_cmp (slice_cmp nat_cmp) };
+
+    ghost laws = { partial_order_from_own_ties (Prim.search (comparing, rules)) (Prim.search (comparing, rules)) };
+
+    fn partial_cmp(&self, other: &Self) -> Option<Ordering> {
+        Some(self.cmp(other))
+    }
+}
+
+impl<const CAP: usize> Hash for Short<CAP> {
+    ghost hash_input = { fed.slice fed.u8 };
+
+    ghost respects_eq = { Prim.search (hashing, rules) };
+
+    fn hash<H: Hasher>(&self, state: &mut H) {
+        self.as_slice().hash(state);
+    }
+}
+
+/// A key of a map is equivalent to its bytes, so that it can be looked up by reference, without a
+/// copy.
+impl<const CAP: usize> Equivalent<Short<CAP>> for &[u8] {
+    ghost equivalent = { λ q k. pointwise nat_eq q.now k };
+
+    ghost respects_hash = { λ q k h. ap (fed.slice fed.u8) ((bytes_decides q.now k).0 h) };
+
+    ghost respects_eq = { λ q x y. nat_list_eq_equiv.congr q.now x y };
+
+    fn equivalent(&self, key: &Short<CAP>) -> bool {
+        *self == key.as_slice()
     }
 }
 
