@@ -18,9 +18,9 @@ use Rattle.ioc_scan.specs.declared.list_name.Placement.{Placement}
 use Rattle.ioc_scan.specs.declared.position.Position.{Position}
 use Rattle.ioc_scan.specs.declared.position.Listed.{Listed}
 use Rattle.ioc_scan.specs.declared.position.ListEntry.{ListEntry}
-use Rattle.ioc_scan.specs.Positions.{position, listed, new_entry, entry_of}
+use Rattle.ioc_scan.specs.Positions.{position, listed, entry_of}
 use Rattle.ioc_scan.specs.Scanned.{Scanned}
-use Rattle.ioc_scan.specs.Members.{StandsAt, Agree}
+use Rattle.ioc_scan.specs.Members.{Agree}
 use Rattle.ioc_scan.specs.Standing.{standing}
 use Rattle.ioc_scan.specs.Walked.{standing_by, all_standing, walked}
 use Rattle.ioc_scan.proofs.Ordered.{exact, itself, total}

@@ -13,4 +13,4 @@ pub use list_name::{ListName, Placement};
 pub use period::Period;
 pub use position::{ListEntry, Listed};
 pub use scan_lists::ScanLists;
-pub use word::Word;
+pub use word::{Word, event_word, given_word};

@@ -2,7 +2,7 @@
 ghost use Rattle.std.specs.Prelude.{◌≡◌};
 
 use crate::period::{Period, period_of};
-use crate::word::Word;
+use crate::word::{Word, event_word, link_word};
 use ioc_links::MAX_DEVICE_BYTES;
 use ioc_menus::{Priority, Scan};
 use ioc_values::{Short, Text};
@@ -41,8 +41,8 @@ impl ListName {
     {
         match scan {
             Scan::Passive => None,
-            Scan::Event => Some(ListName::Event(Word::of_event(event)?)),
-            Scan::IoIntr => Some(ListName::Interrupt(Word::first_of(device?))),
+            Scan::Event => Some(ListName::Event(event_word(event)?)),
+            Scan::IoIntr => Some(ListName::Interrupt(link_word(device?))),
             _ => Some(ListName::Period(period_of(scan)?)),
         }
     }

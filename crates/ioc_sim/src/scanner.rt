@@ -9,7 +9,7 @@ ghost use Rattle.ioc_sim.specs.Scanner.{with_change, with_item, with_items, with
 use crate::first_lists::place_by;
 use ioc_callback::Queues;
 use ioc_names::RecordNo;
-use ioc_scan::{ListName, Listed, ScanLists, Word};
+use ioc_scan::{ListName, Listed, ScanLists, event_word, given_word};
 use ioc_store::outbox::Outbox;
 use ioc_store::{OutboxItem, ScanChange};
 use ioc_values::Text;
@@ -53,14 +53,14 @@ fn call_each(queues: &mut Queues<RecordNo>, listed: &[Listed]) -> u64
 pub fn event_list(name: Text) -> Option<ListName>
     ensures { result ≡ event_list name }
 {
-    Some(ListName::Event(Word::of_event(name)?))
+    Some(ListName::Event(event_word(name)?))
 }
 
 /// Returns the list of the records with a device link whose first word is this.
 pub fn interrupt_list(word: &[u8]) -> Option<ListName>
     ensures { result ≡ interrupt_list word.now }
 {
-    Some(ListName::Interrupt(Word::given(word)?))
+    Some(ListName::Interrupt(given_word(word)?))
 }
 
 impl Scanner {

@@ -1,6 +1,6 @@
 use Rattle.std.proofs.Common.{◌∙◌}
 use Rattle.std.proofs.lemmas.List.{take_all}
-use Rattle.ioc_scan.proofs.word.Word.of.Goals as goal
+use Rattle.ioc_scan.proofs.word.whole.Goals as goal
 
 pub returns : goal.returns
 returns c = c.cut.ensures ∙ take_all 119 c.args.bytes.now c.requires
