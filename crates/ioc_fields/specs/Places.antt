@@ -6,7 +6,7 @@ use Rattle.ioc_fields.specs.declared.field_no.FieldNo.{FieldNo}
 use Rattle.ioc_fields.specs.declared.field_no.FieldNo.TheVariants.{Common, Own}
 use Rattle.ioc_fields.specs.declared.field_no.CommonField.TheVariants.{Name}
 use Rattle.ioc_fields.specs.declared.field_no.OwnField.TheVariants.{StateValue, StateText, StateSeverity, Lnk}
-use Rattle.ioc_fields.specs.declared.field_no.Slot.TheVariants.{N0}
+use Rattle.ioc_fields.specs.declared.field_no.FieldSlot.TheVariants.{N0}
 use Rattle.ioc_fields.specs.declared.places.TheConstants.{FACTOR, PLACES}
 use Rattle.ioc_fields.specs.Names.{common_name, own_name, link_name, state_value_name, state_text_name, state_severity_name, name_of, all_fields}
 

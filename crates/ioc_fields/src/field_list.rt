@@ -2,7 +2,7 @@
 ghost use Rattle.std.specs.Prelude.{◌≡◌};
 ghost use Rattle.ioc_fields.specs.Names.{all_fields};
 
-use crate::field_no::{CommonField, FieldNo, OwnField, Slot};
+use crate::field_no::{CommonField, FieldNo, FieldSlot, OwnField};
 
 /// Writes an array of fields: some that every record has, some type-specific ones, and for each
 /// group the sixteen of its slots.
@@ -12,22 +12,22 @@ macro_rules! field_array {
             $(FieldNo::Common(CommonField::$common),)*
             $(FieldNo::Own(OwnField::$own),)*
             $(
-                FieldNo::Own(OwnField::$group(Slot::N0)),
-                FieldNo::Own(OwnField::$group(Slot::N1)),
-                FieldNo::Own(OwnField::$group(Slot::N2)),
-                FieldNo::Own(OwnField::$group(Slot::N3)),
-                FieldNo::Own(OwnField::$group(Slot::N4)),
-                FieldNo::Own(OwnField::$group(Slot::N5)),
-                FieldNo::Own(OwnField::$group(Slot::N6)),
-                FieldNo::Own(OwnField::$group(Slot::N7)),
-                FieldNo::Own(OwnField::$group(Slot::N8)),
-                FieldNo::Own(OwnField::$group(Slot::N9)),
-                FieldNo::Own(OwnField::$group(Slot::N10)),
-                FieldNo::Own(OwnField::$group(Slot::N11)),
-                FieldNo::Own(OwnField::$group(Slot::N12)),
-                FieldNo::Own(OwnField::$group(Slot::N13)),
-                FieldNo::Own(OwnField::$group(Slot::N14)),
-                FieldNo::Own(OwnField::$group(Slot::N15)),
+                FieldNo::Own(OwnField::$group(FieldSlot::N0)),
+                FieldNo::Own(OwnField::$group(FieldSlot::N1)),
+                FieldNo::Own(OwnField::$group(FieldSlot::N2)),
+                FieldNo::Own(OwnField::$group(FieldSlot::N3)),
+                FieldNo::Own(OwnField::$group(FieldSlot::N4)),
+                FieldNo::Own(OwnField::$group(FieldSlot::N5)),
+                FieldNo::Own(OwnField::$group(FieldSlot::N6)),
+                FieldNo::Own(OwnField::$group(FieldSlot::N7)),
+                FieldNo::Own(OwnField::$group(FieldSlot::N8)),
+                FieldNo::Own(OwnField::$group(FieldSlot::N9)),
+                FieldNo::Own(OwnField::$group(FieldSlot::N10)),
+                FieldNo::Own(OwnField::$group(FieldSlot::N11)),
+                FieldNo::Own(OwnField::$group(FieldSlot::N12)),
+                FieldNo::Own(OwnField::$group(FieldSlot::N13)),
+                FieldNo::Own(OwnField::$group(FieldSlot::N14)),
+                FieldNo::Own(OwnField::$group(FieldSlot::N15)),
             )*
         ]
     };

@@ -3,7 +3,7 @@ ghost use Rattle.std.specs.Prelude.{◌≡◌};
 ghost use Rattle.ioc_fields.specs.LinkFields.{link_fields};
 
 use crate::field_list::field_array;
-use crate::field_no::{CommonField, FieldNo, OwnField, Slot};
+use crate::field_no::{CommonField, FieldNo, FieldSlot, OwnField};
 use crate::record_type::RecordType;
 
 static INPUT_LINKS: [FieldNo; 3] = field_array![common: Sdis Flnk; own: Inp; slots:];

@@ -2,7 +2,7 @@
 ghost use Rattle.std.specs.Prelude.{map};
 ghost use Rattle.ioc_fields.specs.Names.{IsNameAt};
 
-use crate::field_no::Slot;
+use crate::field_no::FieldSlot;
 
 /// The names of the fields with the values of the states.
 pub static STATE_VALUES: [&str; 16] = [
@@ -30,7 +30,7 @@ pub static LINKS: [&str; 16] = [
 
 /// Returns the name of the slot's field among these names.
 #[inline]
-pub fn name_at(names: &[&'static str; 16], slot: Slot) -> &'static str
+pub fn name_at(names: &[&'static str; 16], slot: FieldSlot) -> &'static str
     ensures { IsNameAt (map (λ n. n.now) names.now) slot result.now }
 {
     names[slot.index()]

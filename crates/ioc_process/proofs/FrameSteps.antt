@@ -2,7 +2,7 @@
 use Rattle.std.proofs.Common.{◌≡◌, ℕ, zero, suc, ◌+◌, ◌≤◌, ◌<◌, Bool, true, false, cond, List, [], ◌∷◌, length, Option, Some, None as Nothing_, refl, sym, ap, subst, ◌∙◌, arith}
 use Rattle.std.specs.Prelude.{slice_get, drop}
 use Rattle.ioc_fields.specs.Names.{all_slots}
-use Rattle.ioc_fields.specs.declared.field_no.Slot.{Slot}
+use Rattle.ioc_fields.specs.declared.field_no.FieldSlot.{FieldSlot}
 use Rattle.ioc_values.specs.declared.value.Finished.{Finished}
 use Rattle.ioc_ledger.specs.declared.tally.Tally.{Tally}
 use Rattle.ioc_ledger.specs.declared.outcome.Outcome.{Outcome}
@@ -64,7 +64,7 @@ pub none_of : {X : Type 0} (o : Option X) → ((x : X) → o ≡ Some x → ⊥)
 none_of Nothing_ none = refl
 none_of (Some x) none = absurd (none x refl)
 
-pub slot_below : (n : ℕ) (slot : Slot) → slice_get all_slots n ≡ Some slot → n < 16
+pub slot_below : (n : ℕ) (slot : FieldSlot) → slice_get all_slots n ≡ Some slot → n < 16
 slot_below n slot is = below_length all_slots n slot is
 
 pub followed_by-none : (r : Requests) → followed_by r None ≡ r
@@ -226,11 +226,11 @@ module _ {R : Type 0} (k : RecordRules R) (lawful : IsLawful k) where
   writing-calls answers w s target inactive = rw (inactive, asked-ran answers (changed k w s (with_active true)) s target) refl
 
   -- The remaining links begin with this one if it is chosen, and are those after it otherwise.
-  pub remaining-chosen : (links next : ℕ) (slot : Slot) → slice_get all_slots next ≡ Some slot → is_chosen links slot ≡ true → remaining links next ≡ slot ∷ remaining links (next + 1)
+  pub remaining-chosen : (links next : ℕ) (slot : FieldSlot) → slice_get all_slots next ≡ Some slot → is_chosen links slot ≡ true → remaining links next ≡ slot ∷ remaining links (next + 1)
   unfolding remaining
   remaining-chosen links next slot is chosen = let e : next + 1 ≡ suc next = omega arith in rw (e, drop-get all_slots next slot is, chosen) refl
 
-  pub remaining-other : (links next : ℕ) (slot : Slot) → slice_get all_slots next ≡ Some slot → is_chosen links slot ≡ false → remaining links next ≡ remaining links (next + 1)
+  pub remaining-other : (links next : ℕ) (slot : FieldSlot) → slice_get all_slots next ≡ Some slot → is_chosen links slot ≡ false → remaining links next ≡ remaining links (next + 1)
   unfolding remaining
   remaining-other links next slot is other = let e : next + 1 ≡ suc next = omega arith in rw (e, drop-get all_slots next slot is, other) refl
 
@@ -242,12 +242,12 @@ module _ {R : Type 0} (k : RecordRules R) (lawful : IsLawful k) where
   unfolding remaining chosen_links
   remaining-all links = refl
 
-  pub each-none : (answers : Answers) (w : World R) (s : ℕ) (slot : Slot) (slots : List Slot) → passive_named k w (link_at k w s slot) ≡ Nothing_ →
+  pub each-none : (answers : Answers) (w : World R) (s : ℕ) (slot : FieldSlot) (slots : List FieldSlot) → passive_named k w (link_at k w s slot) ≡ Nothing_ →
       followed_each k (request k answers) w s (slot ∷ slots) ≡ followed_each k (request k answers) w s slots
   unfolding followed_each
   each-none answers w s slot slots none = rw (followed-none answers w s (link_at k w s slot) none) refl
 
-  pub each-calls : (answers : Answers) (w : World R) (s links next : ℕ) (slot : Slot) (target : ℕ) → (common_at k w s).active ≡ false → passive_named k w (link_at k w s slot) ≡ Some target →
+  pub each-calls : (answers : Answers) (w : World R) (s links next : ℕ) (slot : FieldSlot) (target : ℕ) → (common_at k w s).active ≡ false → passive_named k w (link_at k w s slot) ≡ Some target →
       processed (then_finished k answers s (followed_each k (request k answers) w s (slot ∷ remaining links next)))
       ≡ after_turn k answers (changed k w s (with_active true)) (Calls (record { source = s; place = FollowingEach links target next }))
   unfolding followed_each caused after_turn then_frame went_on ran_after

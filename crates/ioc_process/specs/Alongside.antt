@@ -13,7 +13,7 @@ use Rattle.ioc_dbcommon.specs.declared.body.Output.TheVariants.{NoOutput, WriteL
 use Rattle.ioc_fields.specs.declared.field_no.FieldNo.{FieldNo}
 use Rattle.ioc_fields.specs.declared.field_no.FieldNo.TheVariants.{Own}
 use Rattle.ioc_fields.specs.declared.field_no.OwnField.TheVariants.{Lnk}
-use Rattle.ioc_fields.specs.declared.field_no.Slot.{Slot}
+use Rattle.ioc_fields.specs.declared.field_no.FieldSlot.{FieldSlot}
 use Rattle.ioc_values.specs.declared.input.Input.{Input}
 use Rattle.ioc_values.specs.declared.input.Input.TheVariants.{Value as InputValue}
 use Rattle.ioc_device.specs.declared.Answer.{Answer}
@@ -450,10 +450,10 @@ module _ {R : Type 0} (k : RecordRules R) (lawful : IsLawful k) (May : ℕ → T
     write_link-goes inv s may OwnDevice there x = record { inv = faulted-goes inv s may; requests = refl }
     write_link-goes inv s may Absent there x = record { inv = faulted-goes inv s may; requests = refl }
 
-    link_at-there : {w v : World R} → Inv w v → (s : ℕ) → May s → (slot : Slot) (t : StandingLink) → link_at k w s slot ≡ Standing t → May t.number
+    link_at-there : {w v : World R} → Inv w v → (s : ℕ) → May s → (slot : FieldSlot) (t : StandingLink) → link_at k w s slot ≡ Standing t → May t.number
     link_at-there {w} inv s may slot t is = g.link (g.good inv s may) t.number (link_named k lawful (at k w s) (Own (Lnk slot)) t is)
 
-    pub followed_each-goes : (slots : List Slot) {w v : World R} → Inv w v → (s : ℕ) → May s → Goes Inv (followed_each k ask w s slots) (followed_each k other v s slots)
+    pub followed_each-goes : (slots : List FieldSlot) {w v : World R} → Inv w v → (s : ℕ) → May s → Goes Inv (followed_each k ask w s slots) (followed_each k other v s slots)
     unfolding followed_each
     followed_each-goes [] inv s may = record { inv = inv; requests = refl }
     followed_each-goes (slot ∷ slots) {w} {v} inv s may =

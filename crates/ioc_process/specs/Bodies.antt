@@ -5,7 +5,7 @@ use Rattle.ioc_dbcommon.specs.declared.body.Got.{Got}
 use Rattle.ioc_dbcommon.specs.declared.body.Want.TheVariants.{ReadLink}
 use Rattle.ioc_fields.specs.declared.field_no.FieldNo.TheVariants.{Own}
 use Rattle.ioc_fields.specs.declared.field_no.OwnField.TheVariants.{Lnk}
-use Rattle.ioc_fields.specs.declared.field_no.Slot.{Slot}
+use Rattle.ioc_fields.specs.declared.field_no.FieldSlot.{FieldSlot}
 use Rattle.ioc_values.specs.declared.value.Value.{Value}
 use Rattle.ioc_values.specs.declared.value.Finished.{Finished}
 use Rattle.ioc_dbcommon.specs.declared.body.Output.TheVariants.{WriteLink}
@@ -51,5 +51,5 @@ module _ {R : Type 0} (k : RecordRules R) (lawful : IsLawful k) where
   pub output_stands : (w : World R) (s : ℕ) (got : Got) → IsClosed k w → (t : StandingLink) (v : Value) → k.output (at k w s) got ≡ WriteLink (Standing t) v → Has w t.number
   output_stands w s got is t v writes = is.closed s t.number (lawful.output_named (at k w s) got t v writes)
 
-  pub slot_stands : (w : World R) (s : ℕ) (slot : Slot) → IsClosed k w → IsStanding w (link_at k w s slot)
+  pub slot_stands : (w : World R) (s : ℕ) (slot : FieldSlot) → IsClosed k w → IsStanding w (link_at k w s slot)
   slot_stands w s slot is = λ t e. is.closed s t.number (link_named k lawful (at k w s) (Own (Lnk slot)) t e)

@@ -11,7 +11,7 @@ use Rattle.ioc_dbcommon.specs.declared.body.Want.{Want}
 use Rattle.ioc_dbcommon.specs.declared.body.Want.TheVariants.{NoInput, ReadLink}
 use Rattle.ioc_dbcommon.specs.declared.body.Output.{Output}
 use Rattle.ioc_dbcommon.specs.declared.body.Output.TheVariants.{NoOutput, WriteLink, WriteDevice, FollowLinks, PostEvent}
-use Rattle.ioc_fields.specs.declared.field_no.Slot.{Slot}
+use Rattle.ioc_fields.specs.declared.field_no.FieldSlot.{FieldSlot}
 use Rattle.ioc_values.specs.declared.input.Input.{Input}
 use Rattle.ioc_values.specs.declared.input.Input.TheVariants.{Value as InputValue}
 use Rattle.ioc_record.specs.Values.{put_untested, converted_for}
@@ -387,14 +387,14 @@ module _ {R : Type 0} (k : RecordRules R) (lawful : IsLawful k) where
     write_link-same w s OwnDevice v room = refl
     write_link-same w s Absent v room = refl
 
-    pub followed_each-stays : (slots : List Slot) (w : World R) (s : ℕ) → FewIdle k bound w s → Stays k w s (followed_each k ask w s slots).world
+    pub followed_each-stays : (slots : List FieldSlot) (w : World R) (s : ℕ) → FewIdle k bound w s → Stays k w s (followed_each k ask w s slots).world
     unfolding followed_each
     followed_each-stays [] w s room = stays_here k w s
     followed_each-stays (slot ∷ slots) w s room =
         let first = followed-stays w s (link_at k w s slot) room in
         stays_on k first (followed_each-stays slots _ s (room_on k bound w _ s room first))
 
-    followed_each-same : (slots : List Slot) (w : World R) (s : ℕ) → FewIdle k bound w s → followed_each k ask w s slots ≡ followed_each k other w s slots
+    followed_each-same : (slots : List FieldSlot) (w : World R) (s : ℕ) → FewIdle k bound w s → followed_each k ask w s slots ≡ followed_each k other w s slots
     unfolding followed_each
     followed_each-same [] w s room = refl
     followed_each-same (slot ∷ slots) w s room =

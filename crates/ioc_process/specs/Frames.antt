@@ -8,7 +8,7 @@ use Rattle.ioc_ledger.specs.declared.outcome.Outcome.{Outcome}
 use Rattle.ioc_ledger.specs.declared.outcome.Outcome.TheVariants.{Active, Reprocess}
 use Rattle.ioc_ledger.specs.Requests.{None, followed_by, counted}
 use Rattle.ioc_fields.specs.Names.{all_slots}
-use Rattle.ioc_fields.specs.declared.field_no.Slot.{Slot}
+use Rattle.ioc_fields.specs.declared.field_no.FieldSlot.{FieldSlot}
 use Rattle.ioc_dbcommon.specs.Steps.{with_active, disable_kind}
 use Rattle.ioc_record.specs.RecordRules.{RecordRules}
 use Rattle.ioc_store.specs.declared.frames.ResumePoint.{ResumePoint}
@@ -116,7 +116,7 @@ pub record Turns {R : Type 0} (k : RecordRules R) (w after : World R) (more most
   pub left : turn_left turn ≤ most
 
 -- The numbers of the chosen links from this number on.
-unfoldable pub remaining : ℕ → ℕ → List Slot
+unfoldable pub remaining : ℕ → ℕ → List FieldSlot
 remaining links next = filter (is_chosen links) (drop next all_slots)
 
 module _ {R : Type 0} (k : RecordRules R) (answers : Answers) where

@@ -22,7 +22,7 @@ use Rattle.ioc_values.specs.declared.value.Value.{Value}
 use Rattle.ioc_values.specs.declared.error.IocError.{IocError}
 use Rattle.ioc_record.specs.Values.{read_as, converted_to, put_untested}
 use Rattle.ioc_values.specs.declared.input.Input.TheVariants.{Value as InputValue}
-use Rattle.ioc_fields.specs.declared.field_no.Slot.{Slot}
+use Rattle.ioc_fields.specs.declared.field_no.FieldSlot.{FieldSlot}
 use Rattle.ioc_dbcommon.specs.declared.body.Output.{Output}
 use Rattle.ioc_dbcommon.specs.declared.body.Output.TheVariants.{NoOutput, WriteLink, WriteDevice, FollowLinks, PostEvent}
 use Rattle.ioc_dbcommon.specs.Steps.{inherited, unblocked, with_active, shown, is_passive, disabled, disable_kind}
@@ -227,7 +227,7 @@ module _ {R : Type 0} (k : RecordRules R) (lawful : IsLawful k) (answers : Answe
     input-allowed w s (ReadLink link) room = of_link (read_link-allowed k.input_kind w s link room)
     input-allowed w s ReadDevice room = device-allowed w s
 
-    followed_each-allowed : (slots : List Slot) (w : World R) (s : ℕ) → FewIdle k bound w s → FollowsEach k answers w s slots (followed_each k ask w s slots).world (followed_each k ask w s slots).requests
+    followed_each-allowed : (slots : List FieldSlot) (w : World R) (s : ℕ) → FewIdle k bound w s → FollowsEach k answers w s slots (followed_each k ask w s slots).world (followed_each k ask w s slots).requests
     unfolding followed_each
     followed_each-allowed [] w s room = no_more
     followed_each-allowed (slot ∷ slots) w s room =

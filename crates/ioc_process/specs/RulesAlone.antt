@@ -12,7 +12,7 @@ use Rattle.ioc_device.specs.declared.Answer.{Answer}
 use Rattle.ioc_dbcommon.specs.Links.{use_of}
 use Rattle.ioc_record.specs.Values.{read_as}
 use Rattle.ioc_values.specs.declared.value.Value.{Value}
-use Rattle.ioc_fields.specs.declared.field_no.Slot.{Slot}
+use Rattle.ioc_fields.specs.declared.field_no.FieldSlot.{FieldSlot}
 use Rattle.ioc_dbcommon.specs.declared.body.Output.{Output}
 use Rattle.ioc_dbcommon.specs.Steps.{unblocked, with_active, shown, is_passive, disabled, disable_kind}
 use Rattle.ioc_store.specs.Links.{link_at, requests_first, requests_after, handed_on}
@@ -182,7 +182,7 @@ module _ {R : Type 0} (k : RecordRules R) (lawful : IsLawful k) (answers : Answe
   unfolding followed
   followed-scanned w s t is = rw is refl
 
-  each-step : (w : World R) (s : ℕ) (slot : Slot) (slots : List Slot) (first rest : Done R) → followed k ask w s (link_at k w s slot) ≡ first → followed_each k ask first.world s slots ≡ rest
+  each-step : (w : World R) (s : ℕ) (slot : FieldSlot) (slots : List FieldSlot) (first rest : Done R) → followed k ask w s (link_at k w s slot) ≡ first → followed_each k ask first.world s slots ≡ rest
       → followed_each k ask w s (slot ∷ slots) ≡ record { world = rest.world; requests = followed_by first.requests rest.requests }
   unfolding followed_each
   each-step w s slot slots first rest is more = rw (is, more) refl
@@ -279,7 +279,7 @@ module _ {R : Type 0} (k : RecordRules R) (lawful : IsLawful k) (answers : Answe
     write_link-is (alone {w} {w'} {s} {t} {v} p none) = write-step w s t v _ _ (puts-is k s p) (alone-step (handed_on k w' s t) s t none)
     write_link-is (and_requests {w} {w'} {w''} {s} {t} {v} p some c) = write-step w s t v _ _ (puts-is k s p) (requests-step (handed_on k w' s t) s t some ∙ caused-is c)
 
-    pub followed_each-is : {w : World R} {s : ℕ} {slots : List Slot} {w' : World R} {requests : Requests} → FollowsEach k answers w s slots w' requests → followed_each k ask w s slots ≡ record { world = w'; requests = requests }
+    pub followed_each-is : {w : World R} {s : ℕ} {slots : List FieldSlot} {w' : World R} {requests : Requests} → FollowsEach k answers w s slots w' requests → followed_each k ask w s slots ≡ record { world = w'; requests = requests }
     followed_each-is no_more = refl
     followed_each-is (one_more {w} {w'} {w''} {s} {slot} {slots} {first} {rest} f more) =
         each-step w s slot slots (record { world = w'; requests = first }) (record { world = w''; requests = rest }) (followed-is f) (followed_each-is more)

@@ -4,7 +4,7 @@ use Rattle.std.proofs.Common.{◌≡◌, ◌≢◌, ℕ, Bool, true, false, cond
 use Rattle.std.proofs.lemmas.Grind.{common_steps}
 use Rattle.ioc_device.specs.declared.Answer.{Answer}
 use Rattle.ioc_ledger.specs.Requests.{Requests, more}
-use Rattle.ioc_fields.specs.declared.field_no.Slot.{Slot}
+use Rattle.ioc_fields.specs.declared.field_no.FieldSlot.{FieldSlot}
 use Rattle.ioc_values.specs.declared.value.Value.{Value}
 use Rattle.ioc_values.specs.declared.input.Input.TheVariants.{Value as InputValue}
 use Rattle.ioc_record.specs.Values.{put_untested, converted_for}
@@ -393,7 +393,7 @@ module _ {R : Type 0} (k : RecordRules R) (lawful : IsLawful k) where
       writes-both (alone {w} {w'} {s} {t} p _) = both_on (puts-both s p) (handed-both w' s t)
       writes-both (and_requests {w} {w'} {w''} {s} {t} p _ c) = both_on (both_on (puts-both s p) (handed-both w' s t)) (causes-both c)
 
-      each-both : {w : World R} {s : ℕ} {slots : List Slot} {w' : World R} {requests : Requests} → FollowsEach k answers w s slots w' requests → Both s w w'
+      each-both : {w : World R} {s : ℕ} {slots : List FieldSlot} {w' : World R} {requests : Requests} → FollowsEach k answers w s slots w' requests → Both s w w'
       each-both (no_more {w} {s}) = both_here w s
       each-both (one_more f rest) = both_on (follows-both f) (each-both rest)
 

@@ -6,7 +6,7 @@ use Rattle.ioc_device.specs.declared.Answer.{Answer}
 use Rattle.ioc_device.specs.declared.Ask.{Ask}
 use Rattle.ioc_ledger.specs.Requests.{Requests, more}
 use Rattle.ioc_fields.specs.declared.field_no.FieldNo.{FieldNo}
-use Rattle.ioc_fields.specs.declared.field_no.Slot.{Slot}
+use Rattle.ioc_fields.specs.declared.field_no.FieldSlot.{FieldSlot}
 use Rattle.ioc_values.specs.declared.value.Value.{Value}
 use Rattle.ioc_values.specs.declared.value.Finished.{Finished}
 use Rattle.ioc_values.specs.declared.input.Input.TheVariants.{Value as InputValue}
@@ -284,7 +284,7 @@ module _ {R : Type 0} (k : RecordRules R) (lawful : IsLawful k) (n : ℕ) where
       writes-told (alone {w} {w'} {s} {t} p _) but = λ apart. handed-told w' s t (puts-told p (but apart))
       writes-told (and_requests {w} {w'} {w''} {s} {t} p _ c) but = causes-told c (λ apart. handed-told w' s t (puts-told p (but apart)))
 
-      each-told : {w : World R} {s : ℕ} {slots : List Slot} {w' : World R} {requests : Requests} → FollowsEach k answers w s slots w' requests → But s w → But s w'
+      each-told : {w : World R} {s : ℕ} {slots : List FieldSlot} {w' : World R} {requests : Requests} → FollowsEach k answers w s slots w' requests → But s w → But s w'
       each-told no_more but = but
       each-told (one_more f rest) but = each-told rest (follows-told f but)
 

@@ -17,7 +17,7 @@ use crate::outputs::{
 };
 use crate::steps::{finish_request, raise, take};
 use ioc_dbcommon::{Got, LinkUse, Output, StandingLink};
-use ioc_fields::Slot;
+use ioc_fields::FieldSlot;
 use ioc_ledger::Outcome;
 use ioc_menus::{Severity, Status};
 use ioc_names::RecordNo;
@@ -121,7 +121,7 @@ pub fn follow_each<S: Store>(
     ensures takes { TakesTurn S.Record.rules (S.world store.old) (S.world store.new) ((16 - first) + 1) frames.old frames.new result }
 {
     let mut next = first;
-    while let Some(slot) = Slot::from_index(next) {
+    while let Some(slot) = FieldSlot::from_index(next) {
         next += 1;
         if is_chosen(links, slot) {
             let link = link_at(store, number, slot);

@@ -14,7 +14,7 @@ use crate::scanning::rescan;
 use crate::steps::{hand_on, passes_on, passive, raise, wait};
 use ioc_dbcommon::{LinkUse, StandingLink};
 use ioc_device::{Answer, Ask};
-use ioc_fields::{CommonField, FieldNo, OwnField, Slot};
+use ioc_fields::{CommonField, FieldNo, FieldSlot, OwnField};
 use ioc_menus::{Severity, Status};
 use ioc_names::RecordNo;
 use ioc_record::{RecordKind, put_untested};
@@ -32,14 +32,14 @@ pub fn is_proc(field: FieldNo) -> bool
 }
 
 /// Returns whether the link with this number is chosen.
-pub fn is_chosen(links: u16, slot: Slot) -> bool
+pub fn is_chosen(links: u16, slot: FieldSlot) -> bool
     ensures { result ≡ is_chosen links slot }
 {
     links >> slot.index() & 1 == 1
 }
 
 /// Returns how a record uses its link with this number.
-pub fn link_at<S: Store>(store: &S, number: RecordNo, slot: Slot) -> LinkUse
+pub fn link_at<S: Store>(store: &S, number: RecordNo, slot: FieldSlot) -> LinkUse
     requires { Has (S.world store.now) number }
     ensures { result ≡ link_at S.Record.rules (S.world store.now) number slot }
 {

@@ -5,7 +5,7 @@ use Rattle.ioc_values.specs.declared.value.Value.{Value}
 use Rattle.ioc_values.specs.declared.value.Finished.{Finished}
 use Rattle.ioc_fields.specs.declared.field_no.FieldNo.TheVariants.{Own}
 use Rattle.ioc_fields.specs.declared.field_no.OwnField.TheVariants.{Lnk}
-use Rattle.ioc_fields.specs.declared.field_no.Slot.{Slot}
+use Rattle.ioc_fields.specs.declared.field_no.FieldSlot.{FieldSlot}
 use Rattle.ioc_ledger.specs.Requests.{Requests}
 use Rattle.ioc_dbcommon.specs.declared.common.Common.{Common}
 use Rattle.ioc_dbcommon.specs.declared.link_field.LinkUse.{LinkUse}
@@ -167,7 +167,7 @@ module _ {R : Type 0} (k : RecordRules R) (lawful : IsLawful k) (answers : Answe
         let put_first = under-alike k lawful w0 closed (puts-alike k lawful p (there-now under t.number (leads t refl))) under in
         causes-under c (leads t refl) (under-alike k lawful w0 closed (alike-handed_on k lawful w' s t (there-now put_first t.number (leads t refl))) put_first)
 
-    each-under : {due : ℕ} {w : World R} {s : ℕ} {slots : List Slot} {w' : World R} {requests : Requests} → FollowsEach k answers w s slots w' requests → Under_ due s w → Under_ due s w'
+    each-under : {due : ℕ} {w : World R} {s : ℕ} {slots : List FieldSlot} {w' : World R} {requests : Requests} → FollowsEach k answers w s slots w' requests → Under_ due s w → Under_ due s w'
     each-under no_more under = under
     each-under (one_more {w} {w'} {w''} {s} {slot} f rest) under =
         each-under rest (follows-under f under (λ t is. target-has k lawful w0 closed under.fine s t.number (link_named k lawful (at k w s) (Own (Lnk slot)) t is)))

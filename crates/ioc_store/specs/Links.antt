@@ -8,7 +8,7 @@ use Rattle.ioc_fields.specs.declared.field_no.FieldNo.{FieldNo}
 use Rattle.ioc_fields.specs.declared.field_no.FieldNo.TheVariants.{Common as Common-field, Own}
 use Rattle.ioc_fields.specs.declared.field_no.OwnField.TheVariants.{Lnk}
 use Rattle.ioc_fields.specs.declared.field_no.CommonField.TheVariants.{Proc}
-use Rattle.ioc_fields.specs.declared.field_no.Slot.{Slot}
+use Rattle.ioc_fields.specs.declared.field_no.FieldSlot.{FieldSlot}
 use Rattle.ioc_dbcommon.specs.declared.link_field.LinkField.{LinkField}
 use Rattle.ioc_dbcommon.specs.declared.link_field.LinkUse.{LinkUse}
 use Rattle.ioc_dbcommon.specs.declared.link_field.LinkUse.TheVariants.{Unused}
@@ -24,11 +24,11 @@ is_proc (Common-field Proc) = true
 is_proc _ = false
 
 -- Holds if the bit of this link number is set.
-abbrev pub is_chosen : ℕ → Slot → Bool
+abbrev pub is_chosen : ℕ → FieldSlot → Bool
 is_chosen links slot = (links / 2 ^ slot_number slot) % 2 == 1
 
 -- The link numbers whose bits are set, from the lowest on.
-unfoldable pub chosen_links : ℕ → List Slot
+unfoldable pub chosen_links : ℕ → List FieldSlot
 chosen_links links = filter (is_chosen links) all_slots
 
 -- How a body uses a link field.
@@ -38,7 +38,7 @@ use_of_field (Some field) = use_of field
 
 module _ {R : Type 0} (k : RecordRules R) where
   -- The link with this number.
-  abbrev pub link_at : World R → ℕ → Slot → LinkUse
+  abbrev pub link_at : World R → ℕ → FieldSlot → LinkUse
   link_at w s slot = use_of_field (k.link (at k w s) (Own (Lnk slot)))
 
   -- Holds if the record that a link names is requested before it is read: the link has PP, and the

@@ -14,7 +14,7 @@ use Rattle.ioc_menus.specs.Numbers.{severity_number, severities}
 use Rattle.ioc_fields.specs.declared.field_kind.FieldKind.TheVariants.{Number, Text, Menu}
 use Rattle.ioc_fields.specs.declared.field_no.OwnField.{OwnField}
 use Rattle.ioc_fields.specs.declared.field_no.OwnField.TheVariants.{Shft, Nobt, Unsv, StateValue, StateText, StateSeverity}
-use Rattle.ioc_fields.specs.declared.field_no.Slot.{Slot}
+use Rattle.ioc_fields.specs.declared.field_no.FieldSlot.{FieldSlot}
 use Rattle.ioc_fields.specs.declared.record_type.RecordType.TheVariants as type
 use Rattle.ioc_fields.specs.declared.row.Row.{Row}
 use Rattle.ioc_fields.specs.Rows.{plain, passive}
@@ -56,7 +56,7 @@ sixteen_get t (StateSeverity state) = Some (value.Enum (severity_number (slot_at
 sixteen_get t _ = None
 
 -- The list with an item set, if there is one.
-abbrev pub slotted_if : {X : Type 0} → X → List X → Slot → Option X → List X
+abbrev pub slotted_if : {X : Type 0} → X → List X → FieldSlot → Option X → List X
 slotted_if none items slot None = items
 slotted_if none items slot (Some item) = slotted none items slot item
 
@@ -147,7 +147,7 @@ sixteen_states = record {
 
 -- ---- Laws
 
-severity_back_at : (t : SixteenStates) (s : Slot) (n : ℕ) → n < 4
+severity_back_at : (t : SixteenStates) (s : FieldSlot) (n : ℕ) → n < 4
     → severity_number (slot_at NoAlarm (slotted_if NoAlarm t.severities s (slice_get severities n)) s) ≡ n
 severity_back_at t s zero h = ap severity_number (slotted-here NoAlarm t.severities s NoAlarm)
 severity_back_at t s (suc zero) h = ap severity_number (slotted-here NoAlarm t.severities s Minor)

@@ -4,7 +4,7 @@ use crate::tests::facts::Fact::{
 };
 use crate::tests::facts::{Made, Refused, first_unrefused, makes};
 use ioc_dbfile::Macros;
-use ioc_fields::{CommonField, FieldNo, OwnField, Slot};
+use ioc_fields::{CommonField, FieldNo, FieldSlot, OwnField};
 use ioc_main::{RunFault, run};
 use ioc_values::BadDbKind;
 use std::alloc::Global;
@@ -54,7 +54,7 @@ static LOADS: [(&[u8], &[Fact]); 17] = [
             LeadsNowhere(2, FLNK),
             Leads(
                 3,
-                FieldNo::Own(OwnField::Lnk(Slot::N3)),
+                FieldNo::Own(OwnField::Lnk(FieldSlot::N3)),
                 1,
                 FieldNo::Own(OwnField::Znam),
             ),
@@ -106,7 +106,7 @@ static LOADS: [(&[u8], &[Fact]); 17] = [
             Shows(0, "NAME", b"a"),
             Shows(0, "VAL", b"3"),
             Shows(1, "LNK0", b"c.VAL NPP NMS"),
-            Leads(1, FieldNo::Own(OwnField::Lnk(Slot::N0)), 0, VAL),
+            Leads(1, FieldNo::Own(OwnField::Lnk(FieldSlot::N0)), 0, VAL),
         ],
     ),
     (

@@ -5,7 +5,7 @@ use crate::tests::steps::Step::{
 };
 use crate::tests::steps::{Came, Does, Step, Wants, follow};
 use ioc_dbcommon::{BodyBox, InputKind};
-use ioc_fields::{FieldNo, OwnField, Slot};
+use ioc_fields::{FieldNo, FieldSlot, OwnField};
 use ioc_links::Mode;
 use ioc_record::RecordBody;
 use ioc_values::{IocError, Range, Value};
@@ -54,7 +54,7 @@ pub static TESTS: [Step<'static>; 35] = [
         ("LNKF", "c.SCAN"),
     ]),
     SetRefused("LNK2", "@card", IocError::BadLink),
-    Stands(FieldNo::Own(OwnField::Lnk(Slot::N10))),
+    Stands(FieldNo::Own(OwnField::Lnk(FieldSlot::N10))),
     HasAll(&[
         ("LNK0", "a.VAL NPP NMS"),
         ("LNK1", "65536"),

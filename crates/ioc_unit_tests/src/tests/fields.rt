@@ -5,7 +5,7 @@ use Fact::{
     ProcessPassive, Role, Row, Rows, Type,
 };
 use ioc_fields::{
-    CommonField, FieldKind, FieldNo, LinkRole, OwnField, RecordType, Slot, can_put, can_set,
+    CommonField, FieldKind, FieldNo, FieldSlot, LinkRole, OwnField, RecordType, can_put, can_set,
     default_of, field, is_kept_only, is_process_passive, kind_of, link_fields, name_of, row_of,
 };
 use ioc_links::LinkKind;
@@ -77,7 +77,7 @@ enum Fact {
     CanSet(FieldNo),
     // The kind of links that fields of this role take.
     Role(LinkRole, LinkKind),
-    Index(Slot, usize),
+    Index(FieldSlot, usize),
 }
 
 const VAL: FieldNo = FieldNo::Own(OwnField::Val);
@@ -128,7 +128,7 @@ static TYPES: [Fact; 123] = [
     Role(LinkRole::Forward, LinkKind::NoDevice),
     NoType("longi"),
     NoType("Bo"),
-    Index(Slot::N10, 10),
+    Index(FieldSlot::N10, 10),
     Type(RecordType::Longin, "longin", true, 3),
     Rows(&["VAL", "HIHI", "LOLO", "HIGH", "LOW"], LONG, Mark::P),
     Row("INP", INPUT, Mark::Set),
@@ -174,7 +174,7 @@ static TYPES: [Fact; 123] = [
     Row("SELL", PLAIN_INPUT, Mark::Set),
     Rows(&["OFFS", "SHFT"], SHORT, Mark::Plain),
     Rows(&["LNK0", "LNK9", "LNKA", "LNKF"], FORWARD, Mark::Set),
-    Field("LNKA", FieldNo::Own(OwnField::Lnk(Slot::N10))),
+    Field("LNKA", FieldNo::Own(OwnField::Lnk(FieldSlot::N10))),
     NoField("LNKG"),
     NoField("LALM"),
     Default("SELM", 0),
@@ -214,20 +214,29 @@ static TYPES: [Fact; 123] = [
     Row("TEST", FieldKind::Text, Mark::P),
     Rows(&["FFSV", "UNSV", "COSV"], SEVERITY, Mark::P),
     Row("LALM", USHORT, Mark::N),
-    Field("ONVL", FieldNo::Own(OwnField::StateValue(Slot::N1))),
-    Field("TWST", FieldNo::Own(OwnField::StateText(Slot::N2))),
-    Field("THSV", FieldNo::Own(OwnField::StateSeverity(Slot::N3))),
-    Field("FRVL", FieldNo::Own(OwnField::StateValue(Slot::N4))),
-    Field("FVVL", FieldNo::Own(OwnField::StateValue(Slot::N5))),
-    Field("SXVL", FieldNo::Own(OwnField::StateValue(Slot::N6))),
-    Field("SVVL", FieldNo::Own(OwnField::StateValue(Slot::N7))),
-    Field("EIST", FieldNo::Own(OwnField::StateText(Slot::N8))),
-    Field("NIST", FieldNo::Own(OwnField::StateText(Slot::N9))),
-    Field("TEST", FieldNo::Own(OwnField::StateText(Slot::N10))),
-    Field("ELST", FieldNo::Own(OwnField::StateText(Slot::N11))),
-    Field("TVSV", FieldNo::Own(OwnField::StateSeverity(Slot::N12))),
-    Field("TTSV", FieldNo::Own(OwnField::StateSeverity(Slot::N13))),
-    Field("FTSV", FieldNo::Own(OwnField::StateSeverity(Slot::N14))),
+    Field("ONVL", FieldNo::Own(OwnField::StateValue(FieldSlot::N1))),
+    Field("TWST", FieldNo::Own(OwnField::StateText(FieldSlot::N2))),
+    Field("THSV", FieldNo::Own(OwnField::StateSeverity(FieldSlot::N3))),
+    Field("FRVL", FieldNo::Own(OwnField::StateValue(FieldSlot::N4))),
+    Field("FVVL", FieldNo::Own(OwnField::StateValue(FieldSlot::N5))),
+    Field("SXVL", FieldNo::Own(OwnField::StateValue(FieldSlot::N6))),
+    Field("SVVL", FieldNo::Own(OwnField::StateValue(FieldSlot::N7))),
+    Field("EIST", FieldNo::Own(OwnField::StateText(FieldSlot::N8))),
+    Field("NIST", FieldNo::Own(OwnField::StateText(FieldSlot::N9))),
+    Field("TEST", FieldNo::Own(OwnField::StateText(FieldSlot::N10))),
+    Field("ELST", FieldNo::Own(OwnField::StateText(FieldSlot::N11))),
+    Field(
+        "TVSV",
+        FieldNo::Own(OwnField::StateSeverity(FieldSlot::N12)),
+    ),
+    Field(
+        "TTSV",
+        FieldNo::Own(OwnField::StateSeverity(FieldSlot::N13)),
+    ),
+    Field(
+        "FTSV",
+        FieldNo::Own(OwnField::StateSeverity(FieldSlot::N14)),
+    ),
     Default("SHFT", 0),
     NoField("SXXX"),
     NoField("ZNAM"),
