@@ -66,20 +66,6 @@ pub fn disable_kind() -> InputKind
 
 #[tactic(auto, unfolding(crate::specs::Steps::blocked))]
 impl Common {
-    /// Raises an alarm.
-    pub fn raise(&mut self, status: Status, severity: Severity)
-        ensures { self.new ≡ raised status severity self.old }
-    {
-        self.condition.raise(status, severity);
-    }
-
-    /// Takes over another record's alarm, according to the link's mode.
-    pub fn inherit(&mut self, mode: Mode, status: Status, severity: Severity)
-        ensures { self.new ≡ inherited mode status severity self.old }
-    {
-        self.condition.inherit(mode, status, severity);
-    }
-
     /// Counts a request that found the record active. The eleventh in a row raises SCAN with
     /// INVALID. Application Developer's Guide, "dbProcess".
     pub fn block(&mut self)

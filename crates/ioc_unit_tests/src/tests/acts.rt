@@ -36,8 +36,8 @@ pub enum Act {
 /// Carries out a step, and returns whether it has the expected result.
 pub fn is_done(common: &mut Common, act: Act) -> bool {
     match act {
-        Act::Raise(status, severity) => common.raise(status, severity),
-        Act::Inherit(mode, status, severity) => common.inherit(mode, status, severity),
+        Act::Raise(status, severity) => common.condition.raise(status, severity),
+        Act::Inherit(mode, status, severity) => common.condition.inherit(mode, status, severity),
         Act::Show => common.show(0),
         Act::ShowAt(moment) => common.show(moment),
         Act::Disable => common.disable(),
