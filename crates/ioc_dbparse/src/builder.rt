@@ -6,7 +6,7 @@ ghost use Rattle.ioc_dbparse.specs.declared.builder.BuildError.TheVariants.{Memo
 use ioc_fields::{FieldNo, RecordType};
 use ioc_names::RecordNo;
 use ioc_values::BadDbKind;
-use std::alloc::{AllocError, AllocFailed};
+use std::alloc::AllocError;
 
 /// The error of a database that can't take a statement.
 #[derive(Clone, Copy, Debug, PartialEq, Eq)]
@@ -21,14 +21,6 @@ impl From<AllocError> for BuildError {
     ghost from_gives = { λ _ e. e ≡ Memory };
 
     fn from(_e: AllocError) -> BuildError {
-        BuildError::Memory
-    }
-}
-
-impl<T: Drop> From<AllocFailed<T>> for BuildError {
-    ghost from_gives = { λ _ e. e ≡ Memory };
-
-    fn from(_e: AllocFailed<T>) -> BuildError {
         BuildError::Memory
     }
 }

@@ -5,7 +5,7 @@ ghost use Rattle.ioc_dbparse.specs.Rules.{Builds};
 ghost use Rattle.ioc_dblex.specs.SeenToken.{seen};
 
 use crate::builder::{BuildError, Builder};
-use crate::entries::{Body, braces_at, second_at};
+use crate::entries::RecordEntries;
 use crate::words::{
     begins_record, expect, fault, is_sign_of, is_value, is_word, name_line, next_at, refused_word,
     sound, text_of, value_at,
@@ -110,12 +110,12 @@ fn record_at<B: Builder>(
     expect(b',', last, tokens)?;
     let number = name_at(alloc, last, begun, record_type, builder, tokens)?;
     expect(b')', last, tokens)?;
-    let body = Body {
+    let entries = RecordEntries {
         alloc,
         last,
         number,
     };
-    braces_at(turns, &body, builder, tokens)
+    entries.braces_at(turns, builder, tokens)
 }
 
 /// Reads NAME of `alias(NAME, A)`.
@@ -149,12 +149,12 @@ fn alias_at<B: Builder>(
     expect(b'(', last, tokens)?;
     let number = found_at(alloc, last, &*builder, tokens)?;
     expect(b',', last, tokens)?;
-    let body = Body {
+    let entries = RecordEntries {
         alloc,
         last,
         number,
     };
-    second_at(&body, builder, tokens)?;
+    entries.second_at(builder, tokens)?;
     expect(b')', last, tokens)?;
     Ok(())
 }

@@ -1,6 +1,0 @@
-use Rattle.std.proofs.Common.{◌≡◌, ◌-◌}
-use Rattle.ioc_dbparse.specs.Statements.{body_at}
-use Rattle.ioc_dbparse.proofs.entries.body_at.Given as goal
-
-abbrev pub invariant-loop : goal.invariant-loop
-invariant-loop g l = body_at g.B.Builder.rules (l.turns - l.counter) l.body.last l.body.number l.builder l.tokens ≡ body_at g.B.Builder.rules l.turns l.body.last l.body.number l.initial.builder l.initial.tokens
