@@ -6,7 +6,6 @@
 
 pub mod database;
 pub mod database_builder;
-pub mod device_name;
 pub mod finish;
 pub mod loading;
 mod new_records;
@@ -14,8 +13,7 @@ pub mod owners;
 
 pub use database::Database;
 pub use database_builder::{DatabaseBuilder, MAX_RECORDS};
-pub use device_name::DeviceName;
 pub use finish::{leads_to, target_field, types_of};
 pub use ioc_dblex::{MAX_BYTES, Macros};
 pub use loading::load;
-pub use owners::{Owners, owners_of, owns_device};
+pub use owners::{DeviceName, Owners, owners_of, owns_device};

@@ -37,8 +37,7 @@ pub fn push_new<R: NewRecord>(
     ensures ok { OnOk result (records.new.items ≡ records.old.items ++ R.created record_type name ∷ []) }
     ensures err { OnErr result (records.new.items ≡ records.old.items) }
 {
-    // ByteBuffer is reserved first, because a push that can fail returns the record, which is
-    // large.
+    // Room is reserved first, because a push that can fail returns the record, which is large.
     records.reserve(1)?;
     let record = R::create(alloc, record_type, name)?;
     records.push_reserved(record);

@@ -5,7 +5,6 @@ ghost use Rattle.rec_types.specs.Record.{record_rules};
 ghost use Rattle.ioc_dbfile.specs.Owners.{names_device, asks_for, owner_of, device_lead, leads_home, owns_device};
 ghost use Rattle.ioc_dbfile.specs.OwnerTable.{owner_in, or_else};
 
-use crate::device_name::DeviceName;
 use ioc_dbcommon::{Lead, LinkBox, LinkUse};
 use ioc_links::{Link, MAX_DEVICE_BYTES};
 use ioc_names::RecordNo;
@@ -14,6 +13,9 @@ use ioc_values::Short;
 use rec_types::Record;
 use std::alloc::{AllocError, Global};
 use std::collections::HashMap;
+
+/// The name of a device, which is the text behind the `@` of a device link.
+pub type DeviceName = Short<MAX_DEVICE_BYTES>;
 
 /// The owner of each device, which is the first record with a link to it.
 #[derive(Drop)]
@@ -28,9 +30,8 @@ fn add_link(owners: &mut Owners, number: RecordNo, link: &Link) -> Result<(), Al
         ≡ or_else (owner_in owners.old text) (if names_device text link.now then Some number else None)) }
 {
     if let Link::Device(text) = link {
-        let name = DeviceName::new(*text);
-        if !owners.numbers.contains_key(&name) {
-            owners.numbers.insert(name, number)?;
+        if !owners.numbers.contains_key(text) {
+            owners.numbers.insert(*text, number)?;
         }
     }
     Ok(())
@@ -72,13 +73,6 @@ pub fn owners_of(alloc: Global, records: &[Record]) -> Result<Owners, AllocError
 }
 
 impl Owners {
-    fn find(&self, text: &Short<MAX_DEVICE_BYTES>) -> Option<RecordNo>
-        ensures { result ≡ owner_in self.now text.now }
-    {
-        let name = DeviceName::new(*text);
-        self.owner(&name)
-    }
-
     /// Returns the record that owns the device with this name.
     pub fn owner(&self, name: &DeviceName) -> Option<RecordNo>
         ensures { result ≡ owner_in self.now name.now }
@@ -87,10 +81,10 @@ impl Owners {
     }
 
     /// Returns where a link of this record to the device with this name leads.
-    pub fn lead(&self, number: RecordNo, text: &Short<MAX_DEVICE_BYTES>) -> Lead
-        ensures { result ≡ device_lead number (owner_in self.now text.now) }
+    pub fn lead(&self, number: RecordNo, name: &DeviceName) -> Lead
+        ensures { result ≡ device_lead number (owner_in self.now name.now) }
     {
-        match self.find(text) {
+        match self.owner(name) {
             Some(owner) if owner == number => Lead::OwnDevice,
             _ => Lead::Nowhere,
         }

@@ -9,7 +9,7 @@ pub returns-in_ok-insert : goal.returns-in_ok-insert
 unfolding owner_in
 returns-in_ok-insert c =
     let none : is_some (get (pointwise nat_eq) c.args.owners.now.numbers c.in-Device.text) ≡ false = cc in
-    λ text. rw c.in-Device.is (put_first (get (pointwise nat_eq) c.args.owners.now.numbers) c.in-Device.text text c.args.number _ _ refl none (rw c.new-name.ensures at (c.in_ok-insert.ensures.updates.0 text)))
+    λ text. rw c.in-Device.is (put_first (get (pointwise nat_eq) c.args.owners.now.numbers) c.in-Device.text text c.args.number _ _ refl none (c.in_ok-insert.ensures.updates.0 text))
 
 pub returns-else-not-contains_key : goal.returns-else-not-contains_key
 unfolding owner_in
