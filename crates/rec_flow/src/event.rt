@@ -6,8 +6,8 @@ use ioc_dbcommon::{Condition, Got, Output};
 use ioc_fields::{OwnField, RecordType};
 use rec_text::{TextBody, TextInput, TextKind};
 
-/// The type-specific fields of an event. Record Reference Manual, "Event Record".
-pub type Event = TextBody<Posted>;
+/// The type-specific fields of an event record. Record Reference Manual, "Event Record".
+pub type EventBody = TextBody<Posted>;
 
 /// A text that names the event that is posted.
 #[derive(Clone, Copy, Drop)]

@@ -6,7 +6,7 @@ use ioc_dbcommon::{BodyBox, Condition, Got, InputKind, LinkBox, LinkUse, Need, O
 use ioc_fields::{OwnField, RecordType};
 use ioc_record::RecordBody;
 use ioc_values::{Range, Text, Value};
-use rec_flow::{Event, Fanout};
+use rec_flow::{EventBody, Fanout};
 use rec_numeric::{Int64in, Int64out, Longin, Longout};
 use rec_state::{Bi, Bo, Mbbi, Mbbo};
 use rec_text::{Stringin, Stringout};
@@ -27,7 +27,7 @@ pub enum Body {
     Stringin(Stringin),
     Stringout(BodyBox<Stringout>),
     Fanout(BodyBox<Fanout>),
-    Event(Event),
+    Event(EventBody),
 }
 
 /// A record of any type.
@@ -121,7 +121,7 @@ impl Body {
             RecordType::Stringin => Body::Stringin(Stringin::new()),
             RecordType::Stringout => Body::Stringout(BodyBox::<Stringout>::fresh(alloc)?),
             RecordType::Fanout => Body::Fanout(BodyBox::<Fanout>::fresh(alloc)?),
-            RecordType::Event => Body::Event(Event::new()),
+            RecordType::Event => Body::Event(EventBody::new()),
         })
     }
 }

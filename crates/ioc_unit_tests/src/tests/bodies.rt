@@ -5,7 +5,7 @@ use crate::tests::{bi, bo, fanout, int64, longin, longout, multi, records, texts
 use ioc_dbcommon::InputKind;
 use ioc_links::Mode;
 use ioc_values::Range;
-use rec_flow::{Event, Fanout};
+use rec_flow::{EventBody, Fanout};
 use rec_numeric::{Int64in, Int64out, Longin, Longout};
 use rec_state::{Bi, Bo, Mbbi, Mbbo};
 use rec_text::{Stringin, Stringout};
@@ -50,6 +50,6 @@ fn records_by_themselves(rt: HostRuntime) {
     follow::<Mbbo>(&rt, alloc, "select", &DESIRED);
     follow::<Stringin>(&rt, alloc, "text", &texts::STRINGIN);
     follow::<Stringout>(&rt, alloc, "text", &texts::STRINGOUT);
-    follow::<Event>(&rt, alloc, "event", &texts::EVENT);
+    follow::<EventBody>(&rt, alloc, "event", &texts::EVENT);
     follow::<Fanout>(&rt, alloc, "all", &fanout::TESTS);
 }
