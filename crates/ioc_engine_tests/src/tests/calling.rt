@@ -1,7 +1,6 @@
-//! Calls of a desk, each in a function of its own, so that the contract of one isn't carried along
-//! to the next. The calls of a test are data.
+//! Calls of a desk. The calls of a test are data.
 use ioc_engine::{
-    Channel, Clock, Desk, Device, Engine, EngineName, Finished, Input, IocError, NotifyId,
+    Channel, Clock, Desk, Device, Engine, EngineName, Finished, Input, IocError, NotifyId, Receipt,
     RecordNo, Reply, Value,
 };
 use std::sync::Wait;
@@ -23,6 +22,19 @@ pub enum Call {
     Complete(&'static [u8], u64, i32),
 }
 
+/// A call, with its record or field by number.
+#[derive(Clone, Copy)]
+pub enum Addressed<'a> {
+    Put(Channel, &'a [u8]),
+    Get(Channel),
+    Process(RecordNo),
+    SetLink(Channel, &'a [u8]),
+    PutNotify(Channel, &'a [u8]),
+    Cancel(u64),
+    Live(u64),
+    Complete(RecordNo, u64, i32),
+}
+
 /// The reply to a call, its place in the journal, and the number of records that it moved to other
 /// sets.
 #[derive(Clone, Copy)]
@@ -33,110 +45,30 @@ pub struct Answered {
 }
 
 // Returns the outcome of a call that moves no records.
-fn outcome_of(reply: Reply, place: u64) -> Answered {
-    Answered {
-        reply,
-        place,
-        moved: 0,
-    }
-}
-
-/// Puts a text into a field.
-pub fn put<B: EngineName<D>, D: Device, C: Clock + Drop, R: Wait>(
-    rt: &R,
-    engine: &Engine<B, D, C>,
-    desk: &mut Desk<B, D>,
-    channel: Channel,
-    text: &[u8],
+fn outcome_of<B: EngineName<D>, D: Device>(
+    told: Result<(Reply, Receipt<B>), IocError>,
 ) -> Result<Answered, IocError> {
-    let (reply, receipt) = engine.put(rt, desk, channel, Input::from_text(text))?;
-    Ok(outcome_of(reply, receipt.place()))
-}
-
-/// Gets a field.
-pub fn get<B: EngineName<D>, D: Device, C: Clock + Drop, R: Wait>(
-    rt: &R,
-    engine: &Engine<B, D, C>,
-    desk: &mut Desk<B, D>,
-    channel: Channel,
-) -> Result<Answered, IocError> {
-    let (reply, receipt) = engine.get(rt, desk, channel)?;
-    Ok(outcome_of(reply, receipt.place()))
-}
-
-/// Requests a record.
-pub fn process<B: EngineName<D>, D: Device, C: Clock + Drop, R: Wait>(
-    rt: &R,
-    engine: &Engine<B, D, C>,
-    desk: &mut Desk<B, D>,
-    number: RecordNo,
-) -> Result<Answered, IocError> {
-    let (reply, receipt) = engine.process(rt, desk, number)?;
-    Ok(outcome_of(reply, receipt.place()))
-}
-
-/// Changes a link.
-pub fn set_link<B: EngineName<D>, D: Device, C: Clock + Drop, R: Wait>(
-    rt: &R,
-    engine: &Engine<B, D, C>,
-    desk: &mut Desk<B, D>,
-    channel: Channel,
-    text: &[u8],
-) -> Result<Answered, IocError> {
-    let (reply, receipt) = engine.set_link(rt, desk, channel, text)?;
+    let (reply, receipt) = told?;
     Ok(Answered {
         reply,
         place: receipt.place(),
-        moved: desk.moved(),
+        moved: 0,
     })
 }
 
-/// Puts a text into a field with notification.
-pub fn put_notify<B: EngineName<D>, D: Device, C: Clock + Drop, R: Wait>(
+// Changes a link.
+fn set_link<B: EngineName<D>, D: Device, C: Clock + Drop, R: Wait>(
     rt: &R,
     engine: &Engine<B, D, C>,
     desk: &mut Desk<B, D>,
     channel: Channel,
     text: &[u8],
 ) -> Result<Answered, IocError> {
-    let (reply, receipt) = engine.put_notify(rt, desk, channel, Input::from_text(text))?;
-    Ok(outcome_of(reply, receipt.place()))
-}
-
-/// Cancels a put with notification.
-pub fn cancel<B: EngineName<D>, D: Device, C: Clock + Drop, R: Wait>(
-    rt: &R,
-    engine: &Engine<B, D, C>,
-    desk: &mut Desk<B, D>,
-    number: u64,
-) -> Result<Answered, IocError> {
-    let (reply, receipt) = engine.cancel(rt, desk, NotifyId::new(number))?;
-    Ok(outcome_of(reply, receipt.place()))
-}
-
-// Asks whether a put with notification is live.
-fn live<B: EngineName<D>, D: Device, C: Clock + Drop, R: Wait>(
-    rt: &R,
-    engine: &Engine<B, D, C>,
-    desk: &mut Desk<B, D>,
-    number: u64,
-) -> Result<Answered, IocError> {
-    let (reply, receipt) = engine.live(rt, desk, NotifyId::new(number))?;
-    Ok(outcome_of(reply, receipt.place()))
-}
-
-/// Completes a record.
-pub fn complete<B: EngineName<D>, D: Device, C: Clock + Drop, R: Wait>(
-    rt: &R,
-    engine: &Engine<B, D, C>,
-    desk: &mut Desk<B, D>,
-    number: RecordNo,
-    wait: u64,
-    value: i32,
-) -> Result<Answered, IocError> {
-    let given = Finished::Done(Value::Long(value));
-    let (reply, receipt) = engine.complete(rt, desk, number, wait, given)?;
-    Ok(outcome_of(reply, receipt.place()))
+    let told = outcome_of::<B, D>(engine.set_link(rt, desk, channel, text))?;
+    Ok(Answered {
+        moved: desk.moved(),
+        ..told
+    })
 }
 
 /// Makes a call.
@@ -144,18 +76,40 @@ pub fn make<B: EngineName<D>, D: Device, C: Clock + Drop, R: Wait>(
     rt: &R,
     engine: &Engine<B, D, C>,
     desk: &mut Desk<B, D>,
-    call: Call,
+    call: Addressed<'_>,
 ) -> Result<Answered, IocError> {
     match call {
-        Call::Put(name, text) => put(rt, engine, desk, engine.channel(name)?, text),
-        Call::Get(name) => get(rt, engine, desk, engine.channel(name)?),
-        Call::Process(name) => process(rt, engine, desk, engine.record(name)?),
-        Call::SetLink(name, text) => set_link(rt, engine, desk, engine.channel(name)?, text),
-        Call::PutNotify(name, text) => put_notify(rt, engine, desk, engine.channel(name)?, text),
-        Call::Cancel(number) => cancel(rt, engine, desk, number),
-        Call::Live(number) => live(rt, engine, desk, number),
-        Call::Complete(name, wait, value) => {
-            complete(rt, engine, desk, engine.record(name)?, wait, value)
+        Addressed::Put(channel, text) => {
+            outcome_of::<B, D>(engine.put(rt, desk, channel, Input::from_text(text)))
+        }
+        Addressed::Get(channel) => outcome_of::<B, D>(engine.get(rt, desk, channel)),
+        Addressed::Process(number) => outcome_of::<B, D>(engine.process(rt, desk, number)),
+        Addressed::SetLink(channel, text) => set_link(rt, engine, desk, channel, text),
+        Addressed::PutNotify(channel, text) => {
+            outcome_of::<B, D>(engine.put_notify(rt, desk, channel, Input::from_text(text)))
+        }
+        Addressed::Cancel(put) => outcome_of::<B, D>(engine.cancel(rt, desk, NotifyId::new(put))),
+        Addressed::Live(put) => outcome_of::<B, D>(engine.live(rt, desk, NotifyId::new(put))),
+        Addressed::Complete(number, wait, value) => {
+            let given = Finished::Done(Value::Long(value));
+            outcome_of::<B, D>(engine.complete(rt, desk, number, wait, given))
         }
     }
+}
+
+/// Looks the record or field of a call up.
+pub fn looked_up<B: EngineName<D>, D: Device, C: Clock + Drop>(
+    engine: &Engine<B, D, C>,
+    call: Call,
+) -> Result<Addressed<'static>, IocError> {
+    Ok(match call {
+        Call::Put(name, text) => Addressed::Put(engine.channel(name)?, text),
+        Call::Get(name) => Addressed::Get(engine.channel(name)?),
+        Call::Process(name) => Addressed::Process(engine.record(name)?),
+        Call::SetLink(name, text) => Addressed::SetLink(engine.channel(name)?, text),
+        Call::PutNotify(name, text) => Addressed::PutNotify(engine.channel(name)?, text),
+        Call::Cancel(put) => Addressed::Cancel(put),
+        Call::Live(put) => Addressed::Live(put),
+        Call::Complete(name, wait, value) => Addressed::Complete(engine.record(name)?, wait, value),
+    })
 }

@@ -4,10 +4,7 @@ use crate::tests::eight::{CALLS, RECORDS, THREADS, text};
 use crate::tests::running::{Ended, Work, run_text};
 use crate::tests::sensor::Sensor;
 use crate::tests::sessions::AtEnd::{self, Counts, Devices, Records, Sets};
-use crate::tests::sessions::{
-    CALLS as DESK_CALLS, CHECKPOINTS, LINK_CHANGES, MORE_PUTS_OVER_LINK_CHANGES, PUTS,
-    PUTS_OVER_LINK_CHANGES, Session,
-};
+use crate::tests::sessions::{Session, sessions};
 use crate::tests::steps::Step::{self, Makes};
 use crate::tests::steps::{Says, Wanted};
 use ioc_engine::{DeviceName, FieldText, IocError, Limits, Tally, TicketTally};
@@ -118,40 +115,9 @@ fn failing<R: Threads + Wait + Sync>(
 
 #[test]
 fn calls_of_a_desk(rt: HostRuntime) -> Result<(), Fail> {
-    assert_eq!(rt; failing(&rt, rt.alloc(), &DESK_CALLS)?, None);
-    Ok(())
-}
-
-#[test]
-fn checkpoints(rt: HostRuntime) -> Result<(), Fail> {
-    assert_eq!(rt; failing(&rt, rt.alloc(), &CHECKPOINTS)?, None);
-    Ok(())
-}
-
-#[test]
-fn link_changes(rt: HostRuntime) -> Result<(), Fail> {
-    assert_eq!(rt; failing(&rt, rt.alloc(), &LINK_CHANGES)?, None);
-    Ok(())
-}
-
-#[test]
-fn puts_with_notification(rt: HostRuntime) -> Result<(), Fail> {
-    assert_eq!(rt; failing(&rt, rt.alloc(), &PUTS)?, None);
-    Ok(())
-}
-
-#[test]
-fn puts_over_link_changes(rt: HostRuntime) -> Result<(), Fail> {
-    assert_eq!(rt; failing(&rt, rt.alloc(), &PUTS_OVER_LINK_CHANGES)?, None);
-    Ok(())
-}
-
-#[test]
-fn more_puts_over_link_changes(rt: HostRuntime) -> Result<(), Fail> {
-    assert_eq!(rt;
-        failing(&rt, rt.alloc(), &MORE_PUTS_OVER_LINK_CHANGES)?,
-        None
-    );
+    for sessions in &sessions() {
+        assert_eq!(rt; failing(&rt, rt.alloc(), sessions)?, None);
+    }
     Ok(())
 }
 
@@ -233,27 +199,29 @@ fn are_both_answered<R: Threads + Wait + Sync>(
     Ok(result(ended, &[Sets(sets), Records(5), Devices(2)]) == (steps, true))
 }
 
+// Returns what the first of these calls on two sets was that waited for the other, if one did. The
+// number of lock sets at the end is expected too.
+fn waiting<R: Threads + Wait + Sync>(
+    rt: &R,
+    alloc: Global,
+) -> Result<Option<&'static str>, IocError> {
+    let calls: [(&'static str, &[Step], &[Step], usize); 4] = [
+        ("a request", &HOLDS, &REQUEST, 5),
+        ("a link change", &HOLDS, &LINK_CHANGE, 4),
+        ("a cancel", &HOLDS, &CANCEL, 5),
+        ("a put beside a put", &HOLDS_PUT, &OTHER_PUT, 5),
+    ];
+    for (name, first, others, sets) in &calls {
+        if !are_both_answered(rt, alloc, first, others, *sets)? {
+            return Ok(Some(*name));
+        }
+    }
+    Ok(None)
+}
+
 #[test]
 fn two_sets_at_once(rt: HostRuntime) -> Result<(), Fail> {
-    assert!(rt; are_both_answered(&rt, rt.alloc(), &HOLDS, &REQUEST, 5)?);
-    Ok(())
-}
-
-#[test]
-fn link_beside_work(rt: HostRuntime) -> Result<(), Fail> {
-    assert!(rt; are_both_answered(&rt, rt.alloc(), &HOLDS, &LINK_CHANGE, 4)?);
-    Ok(())
-}
-
-#[test]
-fn cancel_beside_work(rt: HostRuntime) -> Result<(), Fail> {
-    assert!(rt; are_both_answered(&rt, rt.alloc(), &HOLDS, &CANCEL, 5)?);
-    Ok(())
-}
-
-#[test]
-fn puts_beside_each_other(rt: HostRuntime) -> Result<(), Fail> {
-    assert!(rt; are_both_answered(&rt, rt.alloc(), &HOLDS_PUT, &OTHER_PUT, 5)?);
+    assert_eq!(rt; waiting(&rt, rt.alloc())?, None);
     Ok(())
 }
 

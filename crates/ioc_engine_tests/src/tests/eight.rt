@@ -1,5 +1,5 @@
 //! Eight threads on one engine, each with a desk of its own.
-use crate::tests::calling::{Answered, cancel, complete, get, process, put, put_notify, set_link};
+use crate::tests::calling::{self, Addressed, Answered};
 use crate::tests::replayed::{Call, Kept, OneThread, replayed};
 use crate::tests::walk::{are_walked, least_joined};
 use ioc_engine::{Channel, Clock, Desk, Device, Engine, EngineName, IocError, Reply};
@@ -88,17 +88,18 @@ fn make<B: EngineName<D>, D: Device, C: Clock + Drop, R: Wait>(
     let (Some(target), Some(other)) = (targets.get(number), targets.get(call.other())) else {
         return Err(IocError::NoRecord);
     };
-    match call {
-        Call::Put(_) => put(rt, engine, desk, target.value, b"3"),
-        Call::Process(_) => process(rt, engine, desk, target.value.record()),
-        Call::Get(_) => get(rt, engine, desk, target.value),
-        Call::GetLink(_) => get(rt, engine, desk, target.forward),
-        Call::Cut(_) => set_link(rt, engine, desk, target.forward, b""),
-        Call::Lead(_, _) => set_link(rt, engine, desk, target.forward, other.name.as_bytes()),
-        Call::PutNotify(_) => put_notify(rt, engine, desk, target.value, b"4"),
-        Call::Cancel(put) => cancel(rt, engine, desk, put),
-        Call::Complete(_, wait) => complete(rt, engine, desk, target.value.record(), wait, 5),
-    }
+    let call = match call {
+        Call::Put(_) => Addressed::Put(target.value, b"3"),
+        Call::Process(_) => Addressed::Process(target.value.record()),
+        Call::Get(_) => Addressed::Get(target.value),
+        Call::GetLink(_) => Addressed::Get(target.forward),
+        Call::Cut(_) => Addressed::SetLink(target.forward, b""),
+        Call::Lead(_, _) => Addressed::SetLink(target.forward, other.name.as_bytes()),
+        Call::PutNotify(_) => Addressed::PutNotify(target.value, b"4"),
+        Call::Cancel(put) => Addressed::Cancel(put),
+        Call::Complete(_, wait) => Addressed::Complete(target.value.record(), wait, 5),
+    };
+    calling::make(rt, engine, desk, call)
 }
 
 // Makes a call, or gets the record's value if the call is a put with notification and too many are
@@ -175,7 +176,8 @@ fn is_shown_alike<B: EngineName<D>, D: Device, C: Clock + Drop, R: Wait>(
 ) -> Result<bool, IocError> {
     for (name, field) in &FIELDS {
         let name = format!(in alloc; "r{record}.{name}")?;
-        let told = get(rt, engine, desk, engine.channel(name.as_bytes())?)?;
+        let channel = engine.channel(name.as_bytes())?;
+        let told = calling::make(rt, engine, desk, Addressed::Get(channel))?;
         if told.reply != one.shown(record, *field) {
             return Ok(false);
         }

@@ -83,8 +83,8 @@ record(longin,\"a\"){field(INP,\"@d\")}
 record(longin,\"b\"){field(INP,\"@e\")}
 ";
 
-/// Calls of a desk.
-pub static CALLS: [Session; 5] = [
+// Calls of a desk.
+static CALLS: [Session; 5] = [
     // A put to a record that awaits its device marks it for reprocessing, so its completion sends a
     // once request, which waits until the end. A put that is no request has no ticket.
     Session {
@@ -183,8 +183,8 @@ pub static CALLS: [Session; 5] = [
     },
 ];
 
-/// Checkpoints of the journal.
-pub static CHECKPOINTS: [Session; 4] = [
+// Checkpoints of the journal.
+static CHECKPOINTS: [Session; 4] = [
     Session {
         name: "places after a checkpoint",
         text: b"record(longin,\"a\"){}\n",
@@ -274,8 +274,8 @@ pub static CHECKPOINTS: [Session; 4] = [
     },
 ];
 
-/// Link changes.
-pub static LINK_CHANGES: [Session; 3] = [
+// Link changes.
+static LINK_CHANGES: [Session; 3] = [
     Session {
         name: "moved by link changes",
         text: TEN_AND_ONE,
@@ -350,8 +350,8 @@ record(longin,\"b\"){}
     },
 ];
 
-/// Puts with notification.
-pub static PUTS: [Session; 4] = [
+// Puts with notification.
+static PUTS: [Session; 4] = [
     // The put that awaits the device is live until the device answers. One that is done at once,
     // and one that processes nothing, end at once.
     Session {
@@ -440,8 +440,8 @@ record(fanout,\"f\"){field(LNK1,\"a\") field(LNK2,\"p\")}
     },
 ];
 
-/// Puts with notification whose records come to other sets.
-pub static PUTS_OVER_LINK_CHANGES: [Session; 4] = [
+// Puts with notification whose records come to other sets.
+static PUTS_OVER_LINK_CHANGES: [Session; 4] = [
     Session {
         name: "joined while a put is live",
         text: NOTIFIED,
@@ -537,8 +537,8 @@ record(longin,\"b\"){field(INP,\"@e\")}
     },
 ];
 
-/// More of them, and a stop while a put with notification is live.
-pub static MORE_PUTS_OVER_LINK_CHANGES: [Session; 3] = [
+// More of them, and a stop while a put with notification is live.
+static MORE_PUTS_OVER_LINK_CHANGES: [Session; 3] = [
     // The record that the first one reads is processed for the put too. Both await their devices
     // when they are parted.
     Session {
@@ -612,3 +612,15 @@ record(longin,\"q\"){field(INP,\"@e\")}
         ],
     },
 ];
+
+/// Returns all sessions.
+pub fn sessions() -> [&'static [Session]; 6] {
+    [
+        &CALLS,
+        &CHECKPOINTS,
+        &LINK_CHANGES,
+        &PUTS,
+        &PUTS_OVER_LINK_CHANGES,
+        &MORE_PUTS_OVER_LINK_CHANGES,
+    ]
+}

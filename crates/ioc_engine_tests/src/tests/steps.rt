@@ -1,5 +1,5 @@
 //! The calls of one desk as lists of steps, each with its expected result.
-use crate::tests::calling::{Answered, Call, make};
+use crate::tests::calling::{Answered, Call, looked_up, make};
 use ioc_engine::{
     Clock, Desk, Device, Engine, EngineName, FieldText, IocError, NotifyId, Outcome, RecordNo,
     Reply,
@@ -94,7 +94,11 @@ fn answers<B: EngineName<D>, D: Device, C: Clock + Drop, R: Wait>(
     wanted: Wanted,
     ended: &[u64],
 ) -> bool {
-    match (make(rt, engine, desk, call), wanted) {
+    let told = match looked_up(engine, call) {
+        Ok(call) => make(rt, engine, desk, call),
+        Err(error) => Err(error),
+    };
+    match (told, wanted) {
         (Ok(told), wanted) => { is_as_wanted(&told, wanted) && are_numbered(desk.ended(), ended) }
         (Err(error), Wanted::Fails(expected)) => error == expected,
         (Err(_), _) => false,
