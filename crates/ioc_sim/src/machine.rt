@@ -2,10 +2,14 @@
 ghost use Rattle.std.specs.Prelude.{◌≡◌, ◌≤◌, [], map, Ok, IfOk, OnOk};
 ghost use Rattle.std.specs.FinMap.{len};
 ghost use Rattle.std.specs.Vec.{vec_capacity};
-ghost use Rattle.rec_types.specs.Record.{record_rules};
+ghost use Rattle.rec_types.specs.Record.{Record, record_rules};
 ghost use Rattle.ioc_process.specs.Rules.{IsSettled};
 ghost use Rattle.ioc_dbfile.specs.FirstWorld.{first_world};
+ghost use Rattle.ioc_events.specs.declared.event.Event.{Event};
+ghost use Rattle.ioc_events.specs.Step.{stepped};
+ghost use Rattle.ioc_store.specs.Given.{Answers};
 ghost use Rattle.ioc_store.specs.OneMap.{world_of};
+ghost use Rattle.ioc_store.specs.World.{World, begun};
 ghost use Rattle.ioc_callback.specs.Serving.{no_items};
 ghost use Rattle.ioc_sim.specs.declared.first_lists.Occasion.TheVariants.{Scanning};
 ghost use Rattle.ioc_sim.specs.FirstLists.{first_lists};
@@ -51,6 +55,17 @@ pub struct Machine {
     ghost settled: { IsSettled record_rules (world_of map) },
     ghost empty: { frames.items ≡ [] },
     ghost room: { len (world_of map).records ≤ vec_capacity frames },
+}
+
+// Begins an event, which leaves a settled database settled.
+fn begin_event(map: &mut OneMap<Record, Scripted>)
+    ensures world { world_of map.new ≡ begun (world_of map.old) }
+    ensures devices { map.new.devices ≡ map.old.devices }
+    ensures settled { (answers : Answers) (w : World Record) (event : Event) → IsSettled record_rules w
+        → IsSettled record_rules (stepped record_rules answers w event).world }
+{
+    event_leaves_settled();
+    map.begin();
 }
 
 // Returns a device without queued answers for each record that owns a device.
@@ -184,8 +199,7 @@ impl Machine {
     fn request(&mut self, number: RecordNo) -> Effect
         ensures { Gives (stepped_on record_rules (machine_of self.old) (Process number)) (machine_of self.new) (reply_of result) }
     {
-        event_leaves_settled();
-        self.map.begin();
+        begin_event(&mut self.map);
         make_request(&mut self.map, &mut self.frames, number, &mut self.tally)
     }
 
@@ -195,16 +209,9 @@ impl Machine {
         ensures { Gives (stepped_on record_rules (machine_of self.old) (Put number field (input_of text.now)))
             (machine_of self.new) (reply_of result) }
     {
-        event_leaves_settled();
-        self.map.begin();
-        make_spelled_put(
-            &mut self.map,
-            &mut self.frames,
-            number,
-            field,
-            text,
-            &mut self.tally,
-        )
+        let map = &mut self.map;
+        begin_event(map);
+        make_spelled_put(map, &mut self.frames, number, field, text, &mut self.tally)
     }
 
     // Completes a record with the asynchronous answer of its device, without taking what the event
@@ -214,17 +221,10 @@ impl Machine {
         ensures { Gives (stepped_on record_rules (machine_of self.old) (Complete number wait finished))
             (machine_of self.new) result }
     {
-        event_leaves_settled();
-        self.map.begin();
-        run_complete(
-            &mut self.map,
-            &mut self.frames,
-            number,
-            wait,
-            finished,
-            &mut self.tally,
-        )
-        .reply()
+        let map = &mut self.map;
+        let frames = &mut self.frames;
+        begin_event(map);
+        run_complete(map, frames, number, wait, finished, &mut self.tally).reply()
     }
 
     // Changes a link, without taking what the event sends.
@@ -232,9 +232,8 @@ impl Machine {
         ensures { Gives (stepped_on record_rules (machine_of self.old) (Link_event number field link))
             (machine_of self.new) result }
     {
-        event_leaves_settled();
         event_keeps_count();
-        self.map.begin();
+        begin_event(&mut self.map);
         run_link(&mut self.map, number, field, link)
     }
 
@@ -250,18 +249,11 @@ impl Machine {
         ensures { Gives (stepped_on record_rules (machine_of self.old) (Notify number notification field given))
             (machine_of self.new) result }
     {
-        event_leaves_settled();
-        self.map.begin();
-        run_notify(
-            &mut self.map,
-            &mut self.frames,
-            number,
-            notification,
-            field,
-            given,
-            &mut self.tally,
-        )
-        .reply()
+        let map = &mut self.map;
+        let frames = &mut self.frames;
+        let tally = &mut self.tally;
+        begin_event(map);
+        run_notify(map, frames, number, notification, field, given, tally).reply()
     }
 
     // Cancels a put with notification, without taking what the event sends.
@@ -269,15 +261,9 @@ impl Machine {
     fn give_up(&mut self, notification: NotifyId) -> Reply
         ensures { Gives (stepped_on record_rules (machine_of self.old) (Cancel notification)) (machine_of self.new) result }
     {
-        event_leaves_settled();
-        self.map.begin();
-        run_cancel(
-            &mut self.map,
-            &mut self.frames,
-            notification,
-            &mut self.tally,
-        )
-        .reply()
+        let map = &mut self.map;
+        begin_event(map);
+        run_cancel(map, &mut self.frames, notification, &mut self.tally).reply()
     }
 
     // Keeps the puts with notification that ended in an event. Not inlined, because in most events

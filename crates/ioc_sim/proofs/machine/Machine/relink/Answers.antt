@@ -15,13 +15,13 @@ same_count is few = rw is few
 
 pub invariant_of-self : goal.invariant_of-self
 invariant_of-self c =
-    let settled = settled_on c.args.self.now c.begin.new.self c.begin.ensures.world in
+    let settled = settled_on c.args.self.now c.begin_event.new.map c.begin_event.ensures.world in
     let step = c.run_link.ensures.step no_answers in
     record {
-      settled = (event_alone_on c.args.self.now (Link c.args.number c.args.field c.args.link) c.begin.new.self c.run_link.new.store c.begin.ensures.world c.begin.ensures.devices c.run_link.result c.run_link.ensures.given refl c.run_link.ensures.step).settled c.event_leaves_settled.ensures;
+      settled = (event_alone_on c.args.self.now (Link c.args.number c.args.field c.args.link) c.begin_event.new.map c.run_link.new.store c.begin_event.ensures.world c.begin_event.ensures.devices c.run_link.result c.run_link.ensures.given refl c.run_link.ensures.step).settled c.begin_event.ensures.settled;
       empty = c.args.self.now.empty;
-      room = same_count (sym (ap (λ s. len s.world.records) step) ∙ c.event_keeps_count.ensures no_answers _ _ settled.closed) (room_on c.args.self.now c.begin.new.self c.begin.ensures.world);
+      room = same_count (sym (ap (λ s. len s.world.records) step) ∙ c.event_keeps_count.ensures no_answers _ _ settled.closed) (room_on c.args.self.now c.begin_event.new.map c.begin_event.ensures.world);
     }
 
 pub returns : goal.returns
-returns c = (event_alone_on c.args.self.now (Link c.args.number c.args.field c.args.link) c.begin.new.self c.run_link.new.store c.begin.ensures.world c.begin.ensures.devices c.run_link.result c.run_link.ensures.given refl c.run_link.ensures.step).gives
+returns c = (event_alone_on c.args.self.now (Link c.args.number c.args.field c.args.link) c.begin_event.new.map c.run_link.new.store c.begin_event.ensures.world c.begin_event.ensures.devices c.run_link.result c.run_link.ensures.given refl c.run_link.ensures.step).gives
