@@ -27,6 +27,9 @@ stands_before before now since e = (since, e)
 pub stands_alone : (before now : List ℕ) → now ≡ before → Stands before now
 stands_alone before now e = ([], e ∙ sym (append-nil before))
 
+-- What a reply says, behind the replies that were pending.
+pub ruleset replies_behind = (said_shortly, stands_before, stands_alone)
+
 -- A sign, a text and a line feed follow the pending replies.
 pub shown_behind : (old signed more last sign text : List ℕ) → signed ≡ old ++ sign → more ≡ signed ++ text → last ≡ more ++ 10 ∷ [] → last ≡ old ++ (sign ++ text) ++ 10 ∷ []
 shown_behind old signed more last sign text e f g =

@@ -67,7 +67,7 @@ impl Replay {
     }
 
     // Carries out a command and appends its reply.
-    #[tactic(auto, unfolding(crate::specs::Replay::carried_out), using(crate::proofs::Getting::said_shortly, crate::proofs::Getting::stands_before, crate::proofs::Getting::stands_alone))]
+    #[tactic(auto, unfolding(crate::specs::Replay::carried_out), using(crate::proofs::Getting::replies_behind))]
     fn carry_out(
         &mut self,
         command: &Command<'_>,
@@ -121,7 +121,7 @@ impl Replay {
     // Carries out a line, and returns whether nothing is printed for it. A put is recognized by its
     // first bytes, because most lines with a value are puts.
     #[inline(always)]
-    #[tactic(auto, using(crate::proofs::Telling::put_speaks, crate::proofs::Getting::said_shortly, crate::proofs::Getting::stands_before, crate::proofs::Getting::stands_alone))]
+    #[tactic(auto, using(crate::proofs::Telling::put_speaks, crate::proofs::Getting::replies_behind))]
     fn do_line(&mut self, line: &[u8], said: &mut PendingOutput) -> Result<bool, AllocError>
         requires room { length said.old.replies + 256 ≤ 4096 }
         requires none { said.old.more.items ≡ [] }

@@ -214,16 +214,42 @@ impl fmt::Display for Stop {
 }
 
 // The help text.
-const USAGE: &str =
-    "ioc-replay DB SCRIPT [NAME=VALUE]..\n\nLoads the database text DB, in which the macros NAME stand for VALUE, does the script SCRIPT to it, and prints a line for each reply.\nWhere SCRIPT is - it is standard input.\n\n  -h, --help     prints this\n  -V, --version  prints the version";
+const USAGE: &str = "ioc-replay DB SCRIPT [NAME=VALUE]..
+
+Loads the database text DB, in which the macros NAME stand for VALUE, does the script SCRIPT to it, and prints a line for each reply.
+Where SCRIPT is - it is standard input.
+
+  -h, --help     prints this
+  -V, --version  prints the version";
 
 // The lines of a script.
-const LINES: &str =
-    "\n\nThe lines of a script:\n  process REC         requests a record\n  put REC.F TEXT      puts a value\n  get REC.F           prints a field\n  at N                the moment of the lines that follow, in nanoseconds\n  next REC done TEXT  the device of the record will answer this\n  next REC fault      the device of the record will answer a fault\n  next REC later      the device of the record will answer later\n  done REC N TEXT     the device answers the Nth wait of the record\n  fault REC N         the device answers the Nth wait of the record with a fault\n  event NAME          posts an event\n  io WORD             an interrupt of the devices whose link begins with WORD\n  scan CHOICE         requests the records of a period, as: scan 1 second\n  link REC.F TEXT     changes a link\n  tally               prints how many requests had which outcome\n  notify REC.F TEXT   puts a value with notification: ended N tells that all is done\n  cancel N            gives up a put with notification\n  sets                prints which records are joined by links\n  # TEXT              a comment";
+const LINES: &str = "
+
+The lines of a script:
+  process REC         requests a record
+  put REC.F TEXT      puts a value
+  get REC.F           prints a field
+  at N                the moment of the lines that follow, in nanoseconds
+  next REC done TEXT  the device of the record will answer this
+  next REC fault      the device of the record will answer a fault
+  next REC later      the device of the record will answer later
+  done REC N TEXT     the device answers the Nth wait of the record
+  fault REC N         the device answers the Nth wait of the record with a fault
+  event NAME          posts an event
+  io WORD             an interrupt of the devices whose link begins with WORD
+  scan CHOICE         requests the records of a period, as: scan 1 second
+  link REC.F TEXT     changes a link
+  tally               prints how many requests had which outcome
+  notify REC.F TEXT   puts a value with notification: ended N tells that all is done
+  cancel N            gives up a put with notification
+  sets                prints which records are joined by links
+  # TEXT              a comment";
 
 // The exit statuses.
-const STATUSES: &str =
-    "\n\nThe exit status: 0 the script is done, 1 the database is refused, 2 the command line is wrong, 3 a file cannot be read or the replies cannot be written, 4 memory ran out";
+const STATUSES: &str = "
+
+The exit status: 0 the script is done, 1 the database is refused, 2 the command line is wrong, \
+    3 a file cannot be read or the replies cannot be written, 4 memory ran out";
 
 #[tactic(auto, unfolding(crate::specs::Faults::ending_text))]
 impl fmt::Display for Ending {

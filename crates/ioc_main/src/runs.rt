@@ -50,7 +50,8 @@ pub fn run<R: Read + Drop, W: Write>(
     ensures ok { OnOk result (IsDatabase macros.now db.now
         × IfSome (R.remaining script) (λ text. Appends (W.contents out.old) (W.contents out.new)
         (transcript_of macros.now db.now text))) }
-    ensures err { IfErr result (λ fault. StopsWith fault macros.now db.now (R.remaining script) (W.contents out.old) (W.contents out.new)) }
+    ensures err { IfErr result (λ fault. StopsWith fault macros.now db.now (R.remaining script) (W.contents out.old)
+        (W.contents out.new)) }
 {
     let Database { names, records } = load(alloc, db, macros)?;
     let replay = Replay::new(alloc, names, records)?;

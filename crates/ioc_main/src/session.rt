@@ -1,5 +1,6 @@
 //! Sessions, which answer the lines of a script.
-ghost use Rattle.std.specs.Prelude.{◌≡◌, ◌↔◌, ◌≤◌, ◌+◌, ◌∷◌, ◌++◌, [], IsTrue, List, ℕ, length, OnOk, OnErr};
+ghost use Rattle.std.specs.Prelude.{◌≡◌, ◌↔◌, ◌≤◌, ◌+◌, ◌∷◌, ◌++◌, [], List, ℕ, length};
+ghost use Rattle.std.specs.Prelude.{IsTrue, OnOk, OnErr};
 ghost use Rattle.ioc_main.specs.Script.{cut};
 ghost use Rattle.ioc_main.specs.Coming.{still, Stands};
 
