@@ -28,10 +28,14 @@ pub type Longin = NumericInput<i32>;
 /// The fields of an int64in, whose numbers have 64 bits.
 pub type Int64in = NumericInput<i64>;
 
-impl<N: Number> NumericInput<N> {
+impl<N: Number> Fresh for NumericInput<N> {
+    ghost use Rattle.rec_numeric.specs.Input.{new_input};
+
+    ghost new_one = { new_input N.number };
+
     /// Creates the fields of a new record, all 0 or empty.
     #[tactic(auto, unfolding(crate::specs::Input::new_input))]
-    pub fn new() -> Self
+    fn fresh() -> Self
         ensures value { result ≡ new_input N.number }
         ensures defaults { IsNewBody (numeric_input N.number N.whole) result }
     {
@@ -39,16 +43,6 @@ impl<N: Number> NumericInput<N> {
             numbers: Numeric::new(),
             source: Source::new(),
         }
-    }
-}
-
-impl<N: Number> Fresh for NumericInput<N> {
-    ghost use Rattle.rec_numeric.specs.Input.{new_input};
-
-    ghost new_one = { new_input N.number };
-
-    fn fresh() -> Self {
-        NumericInput::new()
     }
 }
 
@@ -152,7 +146,7 @@ impl<N: Number> RecordBody for NumericInput<N> {
     fn load(&mut self, condition: &mut Condition) {
         let link = self.source.input.get().link;
         put_constant::<N, Self>(self, condition, link);
-        self.numbers.last_alarmed = self.numbers.value;
+        self.numbers.settle();
     }
 
     fn copy(&self, alloc: Global) -> Result<Self, AllocError> {

@@ -50,21 +50,6 @@ fn within<N: Number>(value: N, low: N, high: N) -> N
 }
 
 impl<N: Number> NumericOutput<N> {
-    /// Creates the fields of a new record, all 0 or empty.
-    #[tactic(auto, unfolding(crate::specs::Output::new_output))]
-    pub fn new() -> Self
-        ensures value { result ≡ new_output N.number }
-        ensures defaults { IsNewBody (numeric_output N.number N.whole) result }
-    {
-        NumericOutput {
-            numbers: Numeric::new(),
-            drive: Drive::new(),
-            drive_high: N::zero(),
-            drive_low: N::zero(),
-            invalid_value: N::zero(),
-        }
-    }
-
     // Returns VAL within the drive limits, which only apply if DRVH is greater than DRVL.
     #[tactic(auto, unfolding(crate::specs::Output::limited_value))]
     fn limited_value(&self) -> N
@@ -100,8 +85,19 @@ impl<N: Number> Fresh for NumericOutput<N> {
 
     ghost new_one = { new_output N.number };
 
-    fn fresh() -> Self {
-        NumericOutput::new()
+    /// Creates the fields of a new record, all 0 or empty.
+    #[tactic(auto, unfolding(crate::specs::Output::new_output))]
+    fn fresh() -> Self
+        ensures value { result ≡ new_output N.number }
+        ensures defaults { IsNewBody (numeric_output N.number N.whole) result }
+    {
+        NumericOutput {
+            numbers: Numeric::new(),
+            drive: Drive::new(),
+            drive_high: N::zero(),
+            drive_low: N::zero(),
+            invalid_value: N::zero(),
+        }
     }
 }
 
@@ -231,18 +227,12 @@ impl<N: Number> RecordBody for NumericOutput<N> {
     fn load(&mut self, condition: &mut Condition) {
         let link = self.drive.desired.get().link;
         put_constant::<N, Self>(self, condition, link);
-        self.numbers.last_alarmed = self.numbers.value;
+        self.numbers.settle();
     }
 
     fn copy(&self, alloc: Global) -> Result<Self, AllocError> {
         let drive = self.drive.copy(alloc)?;
-        Ok(NumericOutput {
-            numbers: self.numbers,
-            drive_high: self.drive_high,
-            drive_low: self.drive_low,
-            invalid_value: self.invalid_value,
-            drive,
-        })
+        Ok(NumericOutput { drive, ..*self })
     }
 
     fn copy_from(&mut self, other: &Self) {

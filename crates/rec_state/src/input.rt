@@ -30,10 +30,14 @@ pub type Bi = StateInput<TwoStates>;
 /// The fields of an mbbi, which has sixteen states.
 pub type Mbbi = StateInput<SixteenStates>;
 
-impl<S: States> StateInput<S> {
+impl<S: States> Fresh for StateInput<S> {
+    ghost use Rattle.rec_state.specs.Input.{new_input};
+
+    ghost new_one = { new_input S.rules };
+
     /// Creates the fields of a new record, all 0 or empty.
     #[tactic(auto, unfolding(crate::specs::Input::new_input))]
-    pub fn new() -> Self
+    fn fresh() -> Self
         ensures value { result ≡ new_input S.rules }
         ensures defaults { IsNewBody (state_input S.rules) result }
     {
@@ -41,16 +45,6 @@ impl<S: States> StateInput<S> {
             fields: StateFields::new(),
             source: Source::new(),
         }
-    }
-}
-
-impl<S: States> Fresh for StateInput<S> {
-    ghost use Rattle.rec_state.specs.Input.{new_input};
-
-    ghost new_one = { new_input S.rules };
-
-    fn fresh() -> Self {
-        StateInput::new()
     }
 }
 

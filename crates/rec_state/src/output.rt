@@ -35,19 +35,6 @@ pub type Bo = StateOutput<TwoStates>;
 pub type Mbbo = StateOutput<SixteenStates>;
 
 impl<S: States> StateOutput<S> {
-    /// Creates the fields of a new record, all 0 or empty.
-    #[tactic(auto, unfolding(crate::specs::Output::new_output))]
-    pub fn new() -> Self
-        ensures value { result ≡ new_output S.rules }
-        ensures defaults { IsNewBody (state_output S.rules) result }
-    {
-        StateOutput {
-            fields: StateFields::new(),
-            drive: Drive::new(),
-            invalid_value: 0,
-        }
-    }
-
     // Returns the value that is driven.
     #[tactic(auto, unfolding(crate::specs::Output::driven_value))]
     fn driven_value(&self, condition: &Condition) -> Value
@@ -66,8 +53,17 @@ impl<S: States> Fresh for StateOutput<S> {
 
     ghost new_one = { new_output S.rules };
 
-    fn fresh() -> Self {
-        StateOutput::new()
+    /// Creates the fields of a new record, all 0 or empty.
+    #[tactic(auto, unfolding(crate::specs::Output::new_output))]
+    fn fresh() -> Self
+        ensures value { result ≡ new_output S.rules }
+        ensures defaults { IsNewBody (state_output S.rules) result }
+    {
+        StateOutput {
+            fields: StateFields::new(),
+            drive: Drive::new(),
+            invalid_value: 0,
+        }
     }
 }
 
@@ -157,11 +153,7 @@ impl<S: States> RecordBody for StateOutput<S> {
 
     fn copy(&self, alloc: Global) -> Result<Self, AllocError> {
         let drive = self.drive.copy(alloc)?;
-        Ok(StateOutput {
-            fields: self.fields,
-            invalid_value: self.invalid_value,
-            drive,
-        })
+        Ok(StateOutput { drive, ..*self })
     }
 
     fn copy_from(&mut self, other: &Self) {

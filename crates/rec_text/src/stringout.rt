@@ -25,19 +25,6 @@ pub struct Stringout {
 }
 
 impl Stringout {
-    /// Creates the fields of a new record, which are empty.
-    #[tactic(auto, unfolding(crate::specs::Stringout::new_stringout))]
-    pub fn new() -> Self
-        ensures value { result ≡ new_stringout }
-        ensures defaults { IsNewBody stringout result }
-    {
-        Stringout {
-            value: Text::new(),
-            drive: Drive::new(),
-            invalid_value: Text::new(),
-        }
-    }
-
     // Takes the input, and raises the alarm of an undefined value.
     #[tactic(auto, unfolding(crate::specs::Stringout::worked))]
     fn work(&mut self, condition: &mut Condition, got: &Got)
@@ -56,8 +43,17 @@ impl Fresh for Stringout {
 
     ghost new_one = { new_stringout };
 
-    fn fresh() -> Self {
-        Stringout::new()
+    /// Creates the fields of a new record, which are empty.
+    #[tactic(auto, unfolding(crate::specs::Stringout::new_stringout))]
+    fn fresh() -> Self
+        ensures value { result ≡ new_stringout }
+        ensures defaults { IsNewBody stringout result }
+    {
+        Stringout {
+            value: Text::new(),
+            drive: Drive::new(),
+            invalid_value: Text::new(),
+        }
     }
 }
 
@@ -149,11 +145,7 @@ impl RecordBody for Stringout {
 
     fn copy(&self, alloc: Global) -> Result<Self, AllocError> {
         let drive = self.drive.copy(alloc)?;
-        Ok(Stringout {
-            value: self.value,
-            invalid_value: self.invalid_value,
-            drive,
-        })
+        Ok(Stringout { drive, ..*self })
     }
 
     fn copy_from(&mut self, other: &Self) {

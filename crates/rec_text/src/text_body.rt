@@ -50,26 +50,20 @@ pub struct TextBody<K> {
     pub kind: K,
 }
 
-impl<K: TextKind> TextBody<K> {
+impl<K: TextKind> Fresh for TextBody<K> {
+    ghost use Rattle.rec_text.specs.TextBody.{new_text_body};
+
+    ghost new_one = { new_text_body K.text };
+
     /// Creates the fields of a new record, which are empty.
     #[tactic(auto, unfolding(crate::specs::TextBody::new_text_body))]
-    pub fn new() -> Self
+    fn fresh() -> Self
         ensures value { result ≡ new_text_body K.text }
         ensures defaults { IsNewBody (text_body K.text) result }
     {
         let text = TextInput::new();
         let kind = K::kind();
         TextBody { text, kind }
-    }
-}
-
-impl<K: TextKind> Fresh for TextBody<K> {
-    ghost use Rattle.rec_text.specs.TextBody.{new_text_body};
-
-    ghost new_one = { new_text_body K.text };
-
-    fn fresh() -> Self {
-        TextBody::new()
     }
 }
 

@@ -2,7 +2,7 @@
 ghost use Rattle.std.specs.Prelude.{◌≡◌, IfOk};
 
 use crate::on_heap;
-use ioc_dbcommon::{BodyBox, Condition, Got, InputKind, LinkBox, LinkUse, Need, Output};
+use ioc_dbcommon::{BodyBox, Condition, Fresh, Got, InputKind, LinkBox, LinkUse, Need, Output};
 use ioc_fields::{OwnField, RecordType};
 use ioc_record::RecordBody;
 use ioc_values::{Range, Text, Value};
@@ -110,7 +110,7 @@ impl Body {
         ensures { IfOk result (λ b. b ≡ new_body record_type) }
     {
         Ok(match record_type {
-            RecordType::Longin => Body::Longin(Longin::new()),
+            RecordType::Longin => Body::Longin(Longin::fresh()),
             RecordType::Longout => Body::Longout(BodyBox::<Longout>::fresh(alloc)?),
             RecordType::Int64in => Body::Int64in(BodyBox::<Int64in>::fresh(alloc)?),
             RecordType::Int64out => Body::Int64out(BodyBox::<Int64out>::fresh(alloc)?),
@@ -118,10 +118,10 @@ impl Body {
             RecordType::Bo => Body::Bo(BodyBox::<Bo>::fresh(alloc)?),
             RecordType::Mbbi => Body::Mbbi(BodyBox::<Mbbi>::fresh(alloc)?),
             RecordType::Mbbo => Body::Mbbo(BodyBox::<Mbbo>::fresh(alloc)?),
-            RecordType::Stringin => Body::Stringin(Stringin::new()),
+            RecordType::Stringin => Body::Stringin(Stringin::fresh()),
             RecordType::Stringout => Body::Stringout(BodyBox::<Stringout>::fresh(alloc)?),
             RecordType::Fanout => Body::Fanout(BodyBox::<Fanout>::fresh(alloc)?),
-            RecordType::Event => Body::Event(EventBody::new()),
+            RecordType::Event => Body::Event(EventBody::fresh()),
         })
     }
 }

@@ -4,7 +4,7 @@ ghost use Rattle.std.specs.FinMap as map;
 ghost use Rattle.ioc_dbcommon.specs.Links.{use_of, named_by};
 ghost use Rattle.ioc_set_records.specs.Joined.{links_of, IsPart, HasLink, HasFreeLink};
 
-use ioc_dbcommon::{FieldAddress, Lead, LinkBox, LinkField};
+use ioc_dbcommon::{FieldAddress, Fresh, Lead, LinkBox, LinkField};
 use ioc_device::{Answer, Ask, Device};
 use ioc_fields::{CommonField, FieldNo, OwnField};
 use ioc_links::{LinkKind, parse};
@@ -110,7 +110,7 @@ pub fn add<K: RecordKind + Drop>(
 
 /// Returns a new record.
 pub fn fresh() -> Record<Longin> {
-    Record::new(Name::cut(b"any"), Longin::new())
+    Record::new(Name::cut(b"any"), Longin::fresh())
 }
 
 /// Returns a set of these records, each with its link.

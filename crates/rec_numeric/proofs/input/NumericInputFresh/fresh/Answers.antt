@@ -1,6 +1,6 @@
 use Rattle.rec_numeric.specs.Input.{new_input}
 use Rattle.rec_numeric.specs.InputLaws.{input_new}
-use Rattle.rec_numeric.proofs.input.NumericInput.new.Goals as goal
+use Rattle.rec_numeric.proofs.input.NumericInputFresh.fresh.Goals as goal
 
 pub returns-clause-defaults : goal.returns-clause-defaults
 unfolding new_input

@@ -1,6 +1,6 @@
 use Rattle.rec_numeric.specs.Output.{new_output}
 use Rattle.rec_numeric.specs.OutputLaws.{output_new}
-use Rattle.rec_numeric.proofs.output.NumericOutput.new.Goals as goal
+use Rattle.rec_numeric.proofs.output.NumericOutputFresh.fresh.Goals as goal
 
 pub returns-clause-defaults : goal.returns-clause-defaults
 unfolding new_output

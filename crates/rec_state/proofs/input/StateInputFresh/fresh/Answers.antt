@@ -1,6 +1,6 @@
 use Rattle.rec_state.specs.Input.{new_input}
 use Rattle.rec_state.specs.InputLaws.{input_new}
-use Rattle.rec_state.proofs.input.StateInput.new.Goals as goal
+use Rattle.rec_state.proofs.input.StateInputFresh.fresh.Goals as goal
 
 pub returns-clause-defaults : goal.returns-clause-defaults
 unfolding new_input

@@ -1,6 +1,6 @@
 use Rattle.rec_state.specs.Output.{new_output}
 use Rattle.rec_state.specs.OutputLaws.{output_new}
-use Rattle.rec_state.proofs.output.StateOutput.new.Goals as goal
+use Rattle.rec_state.proofs.output.StateOutputFresh.fresh.Goals as goal
 
 pub returns-clause-defaults : goal.returns-clause-defaults
 unfolding new_output

@@ -1,6 +1,6 @@
 use Rattle.rec_text.specs.Stringout.{new_stringout}
 use Rattle.rec_text.specs.StringoutLaws.{stringout_new}
-use Rattle.rec_text.proofs.stringout.Stringout.new.Goals as goal
+use Rattle.rec_text.proofs.stringout.StringoutFresh.fresh.Goals as goal
 
 pub returns-clause-defaults : goal.returns-clause-defaults
 unfolding new_stringout

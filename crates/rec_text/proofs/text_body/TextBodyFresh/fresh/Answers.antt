@@ -1,6 +1,6 @@
 use Rattle.rec_text.specs.TextBody.{new_text_body}
 use Rattle.rec_text.specs.TextBodyLaws.{text_body_new}
-use Rattle.rec_text.proofs.text_body.TextBody.new.Goals as goal
+use Rattle.rec_text.proofs.text_body.TextBodyFresh.fresh.Goals as goal
 
 pub returns-clause-defaults : goal.returns-clause-defaults
 unfolding new_text_body
