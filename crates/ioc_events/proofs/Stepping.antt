@@ -27,12 +27,23 @@ use Rattle.ioc_process.specs.Processing.{Done, ran, processed, resumed_with}
 use Rattle.ioc_process.specs.Runs.{Comes, Leaves}
 use Rattle.ioc_events.specs.declared.event.Event.{Event}
 use Rattle.ioc_events.specs.declared.event.Event.TheVariants.{Process, Put, Complete, Notify, Cancel}
+use Rattle.ioc_events.specs.declared.event.SetEvent.{SetEvent}
+use Rattle.ioc_events.specs.declared.event.SetEvent.TheVariants.{Process as process, Put as put-event, Complete as complete, Notify as notify, Cancel as cancel}
+use Rattle.ioc_events.specs.SetReply.{event_by}
 use Rattle.ioc_events.specs.Step.{Stepped, is_there, is_refusal, lets_start, refused, told, processes, awaits, after_put, after_completion, put_with, begun_or_queued, notify_with, done_there, done_alone, with_starts, stepped, completes, calls_since, tallied}
 use Rattle.ioc_events.specs.Events.{Tells, Makes, ends, Ends}
 use Rattle.ioc_events.specs.Starting.{value_to_put, all_started}
 use Rattle.ioc_notify.specs.Living.{is_live}
 use Rattle.ioc_process.specs.Bodies.{counted-followed_by}
 use Rattle.ioc_store.specs.Scanning.{rescanned}
+
+-- Waiting puts with notification start after each event on a set that isn't refused.
+pub set-lets_start : (event : SetEvent) (reply : Reply) → lets_start (event_by event) reply ≡ not (is_refusal reply)
+set-lets_start (process s) reply = refl
+set-lets_start (put-event s field given) reply = refl
+set-lets_start (complete s wait finished) reply = refl
+set-lets_start (notify s number field given) reply = refl
+set-lets_start (cancel number) reply = refl
 
 module _ {R : Type 0} (k : RecordRules R) where
   module _ (answers : Answers) where

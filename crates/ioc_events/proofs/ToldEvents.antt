@@ -5,6 +5,7 @@ use Rattle.std.specs.FinMap.{contains_key}
 use Rattle.ioc_values.specs.declared.input.Input.{Input}
 use Rattle.ioc_fields.specs.declared.field_no.FieldNo.{FieldNo}
 use Rattle.ioc_ledger.specs.Requests.{Requests}
+use Rattle.ioc_notify.specs.declared.live_numbers.Live.{Live}
 use Rattle.ioc_notify.specs.declared.waiting_lists.Waiting.{Waiting}
 use Rattle.ioc_dbcommon.specs.declared.common.Common.{Common}
 use Rattle.ioc_dbcommon.specs.Steps.{with_put_mark, with_reprocess_mark, with_notification}
@@ -32,17 +33,10 @@ module _ {R : Type 0} (k : RecordRules R) (lawful : IsLawful k) (n : ℕ) where
   abbrev Free : World R → Type 0
   Free = IsFree k lawful n
 
-  admitted-told : (m : ℕ) (w : World R) → Free w → Free (admitted m w)
-  unfolding at admitted
-  admitted-told m w told = told
-
-  queued-told : (x : Waiting) (w : World R) → Free w → Free (queued x w)
-  unfolding at queued
-  queued-told x w told = told
-
-  unqueued-told : (m : ℕ) (w : World R) → Free w → Free (unqueued m w)
-  unfolding at unqueued
-  unqueued-told m w told = told
+  -- It doesn't matter which puts with notification are live or wait.
+  beside-told : (live : List Live) (waiting : List Waiting) (w : World R) → Free w → Free (record w { live = live; waiting = waiting })
+  unfolding at
+  beside-told live waiting w told = told
 
   pub begun-told : (moment : ℕ) (w : World R) → Free w → Free (begun_at moment w)
   unfolding at begun begun_at
@@ -62,8 +56,9 @@ module _ {R : Type 0} (k : RecordRules R) (lawful : IsLawful k) (n : ℕ) where
   starts-told answers (at_once_told {w} {stored} {x} is _) told = notified-told k lawful n stored x.target (λ apart. subst Free (sym is) (taken-other w x apart told))
 
   starts_all-told : (answers : Answers) {w w' : World R} {requests : Requests} → StartsAll k answers w w' requests → Free w → Free w'
+  unfolding unqueued
   starts_all-told answers (no_more _) told = told
-  starts_all-told answers (next_starts {w} {w'} {w''} {x} _ one others) told = starts_all-told answers others (starts-told answers one (unqueued-told x.number w told))
+  starts_all-told answers (next_starts {w} {w'} {w''} {x} _ one others) told = starts_all-told answers others (starts-told answers one (beside-told _ _ w told))
 
   cancelled-told : (m : ℕ) (w : World R) → Free w → Free (cancelled k m w)
   cancelled-told m w told =
@@ -71,6 +66,7 @@ module _ {R : Type 0} (k : RecordRules R) (lawful : IsLawful k) (n : ℕ) where
       (λ r h _. ap (λ (c : Common). c.notification) (lawful.common_set r (with_notification Nothing_ (k.common r)))) w n told
 
   does-told : (answers : Answers) {w w' : World R} {event : Event} {reply : Reply} {requests : Requests} → Does k answers w event w' reply requests → Free w → Free w'
+  unfolding admitted queued
   does-told answers (no_such_record _) told = told
   does-told answers (no_such_field _ _) told = told
   does-told answers (shows_field _ _) told = told
@@ -91,8 +87,8 @@ module _ {R : Type 0} (k : RecordRules R) (lawful : IsLawful k) (n : ℕ) where
       rewired-either k Free _ _ s linked (moved-told k lawful n _ s linked)
   does-told answers (refuses_notified_value _ _) told = told
   does-told answers (no_place _ _ _) told = told
-  does-told answers (waits_its_turn _ _ _ _) told = queued-told _ _ (admitted-told _ _ told)
-  does-told answers (starts_now _ _ _ _ one) told = starts-told answers one (admitted-told _ _ told)
+  does-told answers (waits_its_turn {w} _ _ _ _) told = beside-told _ _ w told
+  does-told answers (starts_now {w} _ _ _ _ one) told = starts-told answers one (beside-told _ _ w told)
   does-told answers (not_live _) told = told
   does-told answers (cancels {w} {number} _) told = cancelled-told number w told
   does-told answers tells_if_live told = told

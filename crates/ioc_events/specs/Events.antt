@@ -10,10 +10,11 @@ use Rattle.ioc_events.specs.declared.event.Event.{Event}
 use Rattle.ioc_events.specs.declared.reply.Reply.{Reply}
 use Rattle.ioc_events.specs.declared.reply.Reply.TheVariants.{Plain, Outcome as Outcome-reply, Refused}
 use Rattle.ioc_store.specs.World.{World}
-use Rattle.ioc_store.specs.Given.{Answers, later_among}
+use Rattle.ioc_store.specs.Given.{Given, Answers, later_among}
 use Rattle.ioc_process.specs.Processing.{Done}
+use Rattle.ioc_process.specs.Runs.{ForAnswers}
 use Rattle.ioc_events.specs.Starting.{all_started}
-use Rattle.ioc_events.specs.Step.{Stepped, is_refusal, tallied}
+use Rattle.ioc_events.specs.Step.{Stepped, is_refusal, done_alone, stepped, tallied}
 
 -- The reply for the effect of a request or a put: the outcome of the request, if there was one, or
 -- a refusal.
@@ -33,6 +34,15 @@ pub record Makes {R : Type 0} (after : World R) (result : Reply) (before counts 
   pub world : after ≡ done.world
   pub reply : result ≡ done.reply
   pub tally : counts ≡ counted before done.requests
+
+-- The database, the reply and the tally after this event, by its rule and for the answers that
+-- devices gave.
+abbrev pub HasStepped : {R D : Type 0} → RecordRules R → Given D → World R → World R → Reply → Tally → Tally → Event → Type 0
+HasStepped k given w after result before counts event = ForAnswers given (λ answers. Tells w after result before counts event (stepped k answers w event))
+
+-- The same of an event by itself.
+abbrev pub HasDone : {R D : Type 0} → RecordRules R → Given D → World R → World R → Reply → Tally → Tally → Event → Type 0
+HasDone k given w after result before counts event = ForAnswers given (λ answers. Makes after result before counts (done_alone k answers w event))
 
 -- The database after requests, and the tally with them.
 pub record Counts {R : Type 0} (after : World R) (before counts : Tally) (done : Done R) : Type 0 where

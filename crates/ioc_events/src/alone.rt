@@ -1,19 +1,17 @@
 //! The effect of an event by itself: a request, a put, a completion.
-ghost use Rattle.std.specs.Vec.{vec_capacity};
-ghost use Rattle.std.specs.Prelude.{◌≡◌, [], true, OnOk, OnErr, IfErr, Some, Ok, Err};
+ghost use Rattle.std.specs.Prelude.{◌≡◌, true, OnOk, OnErr, IfErr, Some, Ok, Err};
 ghost use Rattle.ioc_fields.specs.Table.{is_process_passive};
 ghost use Rattle.ioc_fields.specs.declared.field_no.FieldNo.TheVariants.{Own};
 ghost use Rattle.ioc_fields.specs.declared.field_no.OwnField.TheVariants.{Val};
 ghost use Rattle.ioc_values.specs.Conversion.{input_of};
 ghost use Rattle.ioc_record.specs.PutFaults.{error_of};
 ghost use Rattle.ioc_record.specs.Values.{put_field};
-ghost use Rattle.ioc_store.specs.World.{Has, at, put, common_at, Keeps};
-ghost use Rattle.ioc_store.specs.Given.{Begins};
-ghost use Rattle.ioc_process.specs.Ready.{CanProcess, CanRun};
+ghost use Rattle.ioc_store.specs.World.{Has, at, put, common_at};
+ghost use Rattle.ioc_process.specs.Running.{CanProcess, CanRun, HasRun};
 ghost use Rattle.ioc_process.specs.Runs.{ForAnswers};
 ghost use Rattle.ioc_events.specs.declared.event.Event.TheVariants.{Process, Put, Complete};
-ghost use Rattle.ioc_events.specs.Step.{processes, awaits, told, after_put, done_alone};
-ghost use Rattle.ioc_events.specs.Events.{Makes, reply_of};
+ghost use Rattle.ioc_events.specs.Step.{processes, awaits, told, after_put};
+ghost use Rattle.ioc_events.specs.Events.{Makes, HasDone, reply_of};
 ghost use Rattle.ioc_events.specs.SetReply.{told_by};
 
 use crate::reply::Effect;
@@ -77,11 +75,10 @@ fn request_present<S: Store>(
 ) -> Outcome
     requires { CanProcess S.Record.rules (S.world store.old) number frames.old }
     ensures told { ForAnswers (S.given store.new) (λ answers.
-        Makes (S.world store.new) (reply_of (Ok (Some result))) tally.old tally.new (told S.Record.rules answers (S.world store.old) number)) }
-    ensures keeps { Keeps S.Record.rules (S.world store.old) (S.world store.new) }
-    ensures given { Begins S.Device.gives (S.given store.old) (S.given store.new) }
-    ensures empty { frames.new.items ≡ [] }
-    ensures room { vec_capacity frames.new ≡ vec_capacity frames.old }
+        Makes (S.world store.new) (reply_of (Ok (Some result))) tally.old tally.new
+        (told S.Record.rules answers (S.world store.old) number)) }
+    ensures run { HasRun S.Record.rules S.Device.gives (S.world store.old) (S.world store.new) (S.given store.old) (S.given store.new)
+        frames.old frames.new }
 {
     request_record(store, frames, number, tally)
 }
@@ -95,12 +92,10 @@ pub fn request<S: Store>(
     tally: &mut Tally,
 ) -> Effect
     requires { CanRun S.Record.rules (S.world store.old) frames.old }
-    ensures done { ForAnswers (S.given store.new) (λ answers.
-        Makes (S.world store.new) (reply_of result) tally.old tally.new (done_alone S.Record.rules answers (S.world store.old) (Process number))) }
-    ensures keeps { Keeps S.Record.rules (S.world store.old) (S.world store.new) }
-    ensures given { Begins S.Device.gives (S.given store.old) (S.given store.new) }
-    ensures empty { frames.new.items ≡ [] }
-    ensures room { vec_capacity frames.new ≡ vec_capacity frames.old }
+    ensures done { HasDone S.Record.rules (S.given store.new) (S.world store.old) (S.world store.new) (reply_of result)
+        tally.old tally.new (Process number) }
+    ensures run { HasRun S.Record.rules S.Device.gives (S.world store.old) (S.world store.new) (S.given store.old) (S.given store.new)
+        frames.old frames.new }
 {
     if !store.has(number) {
         return Err(PutFault::NoRecord);
@@ -161,11 +156,10 @@ fn process_after_put<S: Store>(
 ) -> Option<Outcome>
     requires { CanProcess S.Record.rules (S.world store.old) number frames.old }
     ensures after { ForAnswers (S.given store.new) (λ answers.
-        Makes (S.world store.new) (reply_of (Ok result)) tally.old tally.new (after_put S.Record.rules answers (S.world store.old) number field)) }
-    ensures keeps { Keeps S.Record.rules (S.world store.old) (S.world store.new) }
-    ensures given { Begins S.Device.gives (S.given store.old) (S.given store.new) }
-    ensures empty { frames.new.items ≡ [] }
-    ensures room { vec_capacity frames.new ≡ vec_capacity frames.old }
+        Makes (S.world store.new) (reply_of (Ok result)) tally.old tally.new
+        (after_put S.Record.rules answers (S.world store.old) number field)) }
+    ensures run { HasRun S.Record.rules S.Device.gives (S.world store.old) (S.world store.new) (S.given store.old) (S.given store.new)
+        frames.old frames.new }
 {
     if !processes(store.record(number), field) {
         return None;
@@ -189,12 +183,10 @@ pub fn put<S: Store>(
     tally: &mut Tally,
 ) -> SetReply
     requires { CanRun S.Record.rules (S.world store.old) frames.old }
-    ensures done { ForAnswers (S.given store.new) (λ answers.
-        Makes (S.world store.new) (told_by result) tally.old tally.new (done_alone S.Record.rules answers (S.world store.old) (Put number field given))) }
-    ensures keeps { Keeps S.Record.rules (S.world store.old) (S.world store.new) }
-    ensures given { Begins S.Device.gives (S.given store.old) (S.given store.new) }
-    ensures empty { frames.new.items ≡ [] }
-    ensures room { vec_capacity frames.new ≡ vec_capacity frames.old }
+    ensures done { HasDone S.Record.rules (S.given store.new) (S.world store.old) (S.world store.new) (told_by result)
+        tally.old tally.new (Put number field given) }
+    ensures run { HasRun S.Record.rules S.Device.gives (S.world store.old) (S.world store.new) (S.given store.old) (S.given store.new)
+        frames.old frames.new }
 {
     if !store.has(number) {
         return SetReply::Refused(IocError::NoRecord);
@@ -218,12 +210,10 @@ pub fn put_text<S: Store>(
     tally: &mut Tally,
 ) -> Effect
     requires { CanRun S.Record.rules (S.world store.old) frames.old }
-    ensures done { ForAnswers (S.given store.new) (λ answers.
-        Makes (S.world store.new) (reply_of result) tally.old tally.new (done_alone S.Record.rules answers (S.world store.old) (Put number field (input_of text.now)))) }
-    ensures keeps { Keeps S.Record.rules (S.world store.old) (S.world store.new) }
-    ensures given { Begins S.Device.gives (S.given store.old) (S.given store.new) }
-    ensures empty { frames.new.items ≡ [] }
-    ensures room { vec_capacity frames.new ≡ vec_capacity frames.old }
+    ensures done { HasDone S.Record.rules (S.given store.new) (S.world store.old) (S.world store.new) (reply_of result)
+        tally.old tally.new (Put number field (input_of text.now)) }
+    ensures run { HasRun S.Record.rules S.Device.gives (S.world store.old) (S.world store.new) (S.given store.old) (S.given store.new)
+        frames.old frames.new }
 {
     if !store.has(number) {
         return Err(PutFault::NoRecord);
@@ -257,12 +247,10 @@ pub fn complete<S: Store>(
     tally: &mut Tally,
 ) -> SetReply
     requires { CanRun S.Record.rules (S.world store.old) frames.old }
-    ensures done { ForAnswers (S.given store.new) (λ answers.
-        Makes (S.world store.new) (told_by result) tally.old tally.new (done_alone S.Record.rules answers (S.world store.old) (Complete number wait finished))) }
-    ensures keeps { Keeps S.Record.rules (S.world store.old) (S.world store.new) }
-    ensures given { Begins S.Device.gives (S.given store.old) (S.given store.new) }
-    ensures empty { frames.new.items ≡ [] }
-    ensures room { vec_capacity frames.new ≡ vec_capacity frames.old }
+    ensures done { HasDone S.Record.rules (S.given store.new) (S.world store.old) (S.world store.new) (told_by result)
+        tally.old tally.new (Complete number wait finished) }
+    ensures run { HasRun S.Record.rules S.Device.gives (S.world store.old) (S.world store.new) (S.given store.old) (S.given store.new)
+        frames.old frames.new }
 {
     if !store.has(number) {
         return SetReply::Refused(IocError::NoRecord);

@@ -36,10 +36,27 @@ pub enum Event {
 /// needs.
 #[derive(Clone, Copy)]
 pub enum SetEvent {
+    /// Requests a record. The reply is a refusal, `NoRecord`, if there is no such record.
     Process(RecordNo),
+    /// Puts a value into a field. The record is processed if the field is PROC, or if the field is
+    /// process-passive and the record is passive; an active record is marked for reprocessing
+    /// instead. The reply is a refusal, `NoRecord`, `NoField`, `NoMod`, `PutDisabled` or `BadValue`
+    /// in this order, if there is no such record or field, the field can't be put, DISP forbids it,
+    /// or the value doesn't convert.
     Put(RecordNo, FieldNo, Input),
+    /// Completes the wait with this number of a record whose device has answered later: the record
+    /// resumes with what the device returned. Of what the device of an output returns, only a fault
+    /// matters. The reply is a refusal, `NoRecord` or `Stale` in this order, if there is no such
+    /// record, or if it doesn't await the completion with this number.
     Complete(RecordNo, u64, Finished),
+    /// Puts a value into a field as `Put` does, with a notification: it passes to the records that
+    /// are processed for the put, and ends with the last of them. If the record is active, is part
+    /// of a put with notification or has one waiting, the put waits; it is tested and its value
+    /// converted immediately. The caller assigns each number to one put. The reply is a refusal:
+    /// those of `Put`, and then `QueueFull`, if 256 are live or one with this number is live.
     Notify(RecordNo, NotifyId, FieldNo, Input),
+    /// Cancels a put with notification: no record is part of it any more, it no longer waits, and it
+    /// doesn't end. The reply is a refusal, `Stale`, if it isn't live.
     Cancel(NotifyId),
 }
 

@@ -36,9 +36,11 @@ pub fn events_keep_records<K: RecordKind>()
 /// The rules of an event allow exactly one result, that of `stepped`.
 pub fn rules_are_steps<K: RecordKind>()
     ensures allowed { (answers : Answers) (w : World K) (event : Event) →
-        Step K.rules answers w event (stepped K.rules answers w event).world (stepped K.rules answers w event).reply (stepped K.rules answers w event).requests }
+        Step K.rules answers w event (stepped K.rules answers w event).world (stepped K.rules answers w event).reply
+        (stepped K.rules answers w event).requests }
     ensures alone { (answers : Answers) (w after : World K) (event : Event) (reply : Reply) (requests : Requests) →
-        Step K.rules answers w event after reply requests → stepped K.rules answers w event ≡ record { world = after; reply = reply; requests = requests } }
+        Step K.rules answers w event after reply requests → stepped K.rules answers w event
+        ≡ record { world = after; reply = reply; requests = requests } }
 {}
 
 /// A list of events replays to at most one database.

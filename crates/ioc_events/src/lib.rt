@@ -15,10 +15,7 @@ pub mod set_reply;
 pub mod starting;
 
 pub use event::{Entry, Event, KeptAnswers, SetEvent};
-pub use events::{
-    make_request, make_spelled_put, run_cancel, run_complete, run_get, run_live, run_notify,
-    run_put, run_request,
-};
+pub use events::{make_request, make_spelled_put, run_event, run_get, run_live};
 pub use link_change::run_link;
 pub use reply::{Effect, Reply};
 pub use set_reply::SetReply;

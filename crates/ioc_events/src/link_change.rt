@@ -49,7 +49,8 @@ fn set_link<S: Store>(store: &mut S, number: RecordNo, field: FieldNo, link: Lin
 #[tactic(auto, unfolding(crate::specs::Step::stepped, crate::specs::Step::done_alone, crate::specs::Step::done_there, crate::specs::Step::relinked))]
 pub fn run_link<S: Store>(store: &mut S, number: RecordNo, field: FieldNo, link: LinkBox) -> Reply
     ensures step { (answers : Answers) →
-        stepped S.Record.rules answers (S.world store.old) (Link number field link) ≡ record { world = S.world store.new; reply = result; requests = None } }
+        stepped S.Record.rules answers (S.world store.old) (Link number field link)
+        ≡ record { world = S.world store.new; reply = result; requests = None } }
     ensures given { S.given store.new ≡ S.given store.old }
 {
     if !store.has(number) || !leads_within(store, link.in_use()) {

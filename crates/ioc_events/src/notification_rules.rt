@@ -54,7 +54,8 @@ pub fn events_end_what_nobody_has<K: RecordKind>()
 /// A put with notification that was cancelled, or that nothing is part of, ends by no later event,
 /// unless one with its number begins again. So none ends twice.
 pub fn those_over_never_end<K: RecordKind>()
-    ensures cancelled { (answers : Answers) (w mid after : World K) (number : ℕ) (reply : Reply) (requests : Requests) (entries : List Entry) →
+    ensures cancelled { (answers : Answers) (w mid after : World K) (number : ℕ) (reply : Reply) (requests : Requests)
+        (entries : List Entry) →
         Step K.rules answers w (Cancel number) mid reply requests → Replay K.rules mid entries after → IsCounted K.rules w → w.ended ≡ [] →
         NoneBegins entries number → IsOver K.rules after number }
     ensures not_held { (w after : World K) (number : ℕ) (entry : Entry) (entries : List Entry) → Replay K.rules w (entry ∷ entries) after →
@@ -67,6 +68,7 @@ pub fn those_over_never_end<K: RecordKind>()
 pub fn events_leave_holders_awaiting<K: RecordKind>()
     ensures event { (answers : Answers) (w after : World K) (event : Event) (reply : Reply) (requests : Requests) →
         Step K.rules answers w event after reply requests → IsSettled K.rules w → HoldersAwait K.rules w → HoldersAwait K.rules after }
-    ensures events { (w after : World K) (entries : List Entry) → Replay K.rules w entries after → IsSettled K.rules w → HoldersAwait K.rules w →
+    ensures events { (w after : World K) (entries : List Entry) → Replay K.rules w entries after → IsSettled K.rules w
+        → HoldersAwait K.rules w →
         HoldersAwait K.rules after }
 {}

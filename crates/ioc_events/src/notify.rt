@@ -1,16 +1,15 @@
 //! The effect of a put with notification by itself, and of a cancel.
-ghost use Rattle.std.specs.Vec.{vec_capacity};
-ghost use Rattle.std.specs.Prelude.{◌≡◌, ◌==◌, ◌+◌, ◌<◌, [], length};
+ghost use Rattle.std.specs.Prelude.{◌≡◌, ◌==◌, ◌+◌, ◌<◌, length};
 ghost use Rattle.ioc_ledger.specs.Requests.{None};
 ghost use Rattle.std.specs.List.{list_any};
 ghost use Rattle.ioc_store.specs.World.{Has, at, Keeps, has_place};
-ghost use Rattle.ioc_store.specs.Given.{Answers, Begins};
-ghost use Rattle.ioc_process.specs.Ready.{CanProcess, CanRun};
+ghost use Rattle.ioc_store.specs.Given.{Answers};
+ghost use Rattle.ioc_process.specs.Running.{CanProcess, CanRun, HasRun};
 ghost use Rattle.ioc_process.specs.Runs.{ForAnswers};
 ghost use Rattle.ioc_events.specs.Starting.{value_to_put, must_wait};
 ghost use Rattle.ioc_events.specs.declared.event.Event.TheVariants.{Notify, Cancel};
 ghost use Rattle.ioc_events.specs.Step.{begun_or_queued, done_alone};
-ghost use Rattle.ioc_events.specs.Events.{Makes};
+ghost use Rattle.ioc_events.specs.Events.{Makes, HasDone};
 ghost use Rattle.ioc_events.specs.SetReply.{told_by};
 
 use crate::set_reply::SetReply;
@@ -64,11 +63,10 @@ fn begin_or_queue<S: Store>(
     requires place { length (S.world store.old).live + length (S.world store.old).ended < 256 }
     requires waits { length (S.world store.old).waiting < 256 }
     ensures done { ForAnswers (S.given store.new) (λ answers.
-        Makes (S.world store.new) (told_by (SetReply.Notify waiting.now.number)) tally.old tally.new (begun_or_queued S.Record.rules answers (S.world store.old) waiting.now)) }
-    ensures keeps { Keeps S.Record.rules (S.world store.old) (S.world store.new) }
-    ensures given { Begins S.Device.gives (S.given store.old) (S.given store.new) }
-    ensures empty { frames.new.items ≡ [] }
-    ensures room { vec_capacity frames.new ≡ vec_capacity frames.old }
+        Makes (S.world store.new) (told_by (SetReply.Notify waiting.now.number)) tally.old tally.new
+        (begun_or_queued S.Record.rules answers (S.world store.old) waiting.now)) }
+    ensures run { HasRun S.Record.rules S.Device.gives (S.world store.old) (S.world store.new) (S.given store.old) (S.given store.new)
+        frames.old frames.new }
 {
     let waits = must_wait(store, waiting.target);
     store.admit(waiting.number);
@@ -90,12 +88,10 @@ pub fn notify<S: Store>(
     tally: &mut Tally,
 ) -> SetReply
     requires { CanRun S.Record.rules (S.world store.old) frames.old }
-    ensures done { ForAnswers (S.given store.new) (λ answers.
-        Makes (S.world store.new) (told_by result) tally.old tally.new (done_alone S.Record.rules answers (S.world store.old) (Notify target number field given))) }
-    ensures keeps { Keeps S.Record.rules (S.world store.old) (S.world store.new) }
-    ensures given { Begins S.Device.gives (S.given store.old) (S.given store.new) }
-    ensures empty { frames.new.items ≡ [] }
-    ensures room { vec_capacity frames.new ≡ vec_capacity frames.old }
+    ensures done { HasDone S.Record.rules (S.given store.new) (S.world store.old) (S.world store.new) (told_by result)
+        tally.old tally.new (Notify target number field given) }
+    ensures run { HasRun S.Record.rules S.Device.gives (S.world store.old) (S.world store.new) (S.given store.old) (S.given store.new)
+        frames.old frames.new }
 {
     if !store.has(target) {
         return SetReply::Refused(IocError::NoRecord);
@@ -121,7 +117,8 @@ pub fn notify<S: Store>(
 /// doesn't end.
 pub fn cancel<S: Store>(store: &mut S, number: NotifyId) -> SetReply
     ensures done { (answers : Answers) →
-        done_alone S.Record.rules answers (S.world store.old) (Cancel number) ≡ record { world = S.world store.new; reply = told_by result; requests = None } }
+        done_alone S.Record.rules answers (S.world store.old) (Cancel number)
+        ≡ record { world = S.world store.new; reply = told_by result; requests = None } }
     ensures keeps { Keeps S.Record.rules (S.world store.old) (S.world store.new) }
     ensures given { S.given store.new ≡ S.given store.old }
 {

@@ -1,10 +1,8 @@
 //! Puts with notification that wait for their record: the order in which they start, and how one
 //! starts.
-ghost use Rattle.std.specs.Vec.{vec_capacity};
-ghost use Rattle.std.specs.Prelude.{◌≡◌, []};
-ghost use Rattle.ioc_store.specs.World.{Has, at, put, Keeps};
-ghost use Rattle.ioc_store.specs.Given.{Begins};
-ghost use Rattle.ioc_process.specs.Ready.{CanProcess, CanRun};
+ghost use Rattle.std.specs.Prelude.{◌≡◌};
+ghost use Rattle.ioc_store.specs.World.{Has, at, put};
+ghost use Rattle.ioc_process.specs.Running.{CanProcess, CanRun, HasRun};
 ghost use Rattle.ioc_process.specs.Runs.{ForAnswers};
 ghost use Rattle.ioc_events.specs.Starting.{sooner, is_ready, next_waiting, taken_and_stored, started, all_started};
 ghost use Rattle.ioc_events.specs.Events.{Counts};
@@ -91,10 +89,8 @@ pub fn start<S: Store>(store: &mut S, frames: &mut Vec<Frame>, waiting: &Waiting
     requires { CanProcess S.Record.rules (S.world store.old) waiting.now.target frames.old }
     ensures started { ForAnswers (S.given store.new) (λ answers.
         Counts (S.world store.new) tally.old tally.new (started S.Record.rules answers (S.world store.old) waiting.now)) }
-    ensures keeps { Keeps S.Record.rules (S.world store.old) (S.world store.new) }
-    ensures given { Begins S.Device.gives (S.given store.old) (S.given store.new) }
-    ensures empty { frames.new.items ≡ [] }
-    ensures room { vec_capacity frames.new ≡ vec_capacity frames.old }
+    ensures run { HasRun S.Record.rules S.Device.gives (S.world store.old) (S.world store.new) (S.given store.old) (S.given store.new)
+        frames.old frames.new }
 {
     take_and_store(store, waiting);
     if !processes(store.record(waiting.target), waiting.field) {
@@ -112,10 +108,8 @@ fn start_each<S: Store>(store: &mut S, frames: &mut Vec<Frame>, tally: &mut Tall
     requires { CanRun S.Record.rules (S.world store.old) frames.old }
     ensures started { ForAnswers (S.given store.new) (λ answers.
         Counts (S.world store.new) tally.old tally.new (all_started S.Record.rules answers (S.world store.old))) }
-    ensures keeps { Keeps S.Record.rules (S.world store.old) (S.world store.new) }
-    ensures given { Begins S.Device.gives (S.given store.old) (S.given store.new) }
-    ensures empty { frames.new.items ≡ [] }
-    ensures room { vec_capacity frames.new ≡ vec_capacity frames.old }
+    ensures run { HasRun S.Record.rules S.Device.gives (S.world store.old) (S.world store.new) (S.given store.old) (S.given store.new)
+        frames.old frames.new }
 {
     let mut left = store.waiting().len();
     while left > 0 {
@@ -133,10 +127,8 @@ pub fn start_all<S: Store>(store: &mut S, frames: &mut Vec<Frame>, tally: &mut T
     requires { CanRun S.Record.rules (S.world store.old) frames.old }
     ensures started { ForAnswers (S.given store.new) (λ answers.
         Counts (S.world store.new) tally.old tally.new (all_started S.Record.rules answers (S.world store.old))) }
-    ensures keeps { Keeps S.Record.rules (S.world store.old) (S.world store.new) }
-    ensures given { Begins S.Device.gives (S.given store.old) (S.given store.new) }
-    ensures empty { frames.new.items ≡ [] }
-    ensures room { vec_capacity frames.new ≡ vec_capacity frames.old }
+    ensures run { HasRun S.Record.rules S.Device.gives (S.world store.old) (S.world store.new) (S.given store.old) (S.given store.new)
+        frames.old frames.new }
 {
     if store.waiting().is_empty() {
         return;

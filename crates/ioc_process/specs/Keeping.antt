@@ -2,7 +2,7 @@
 use Rattle.std.proofs.Common.{◌≡◌, ◌≢◌, ℕ, Bool, true, false, cond, eqb, List, [], ◌∷◌, length, refl, ap, subst, ◌∙◌, arith, Some, None as Nothing_}
 use Rattle.std.proofs.lemmas.Grind.{common_steps}
 use Rattle.std.specs.Global.{Vec}
-use Rattle.std.specs.Prelude.{Result, Ok, Err, Contains, nat_lt, ◌++◌, vec_capacity}
+use Rattle.std.specs.Prelude.{Result, Ok, Err, Contains, nat_lt, ◌++◌}
 use Rattle.ioc_values.specs.declared.value.Value.{Value}
 use Rattle.ioc_values.specs.declared.error.IocError.{IocError}
 use Rattle.ioc_dbcommon.specs.declared.common.Common.{Common}
@@ -28,9 +28,11 @@ use Rattle.ioc_store.specs.StepFrames.{OwnLinks, targets_same, links-set, links-
 use Rattle.ioc_store.specs.Worlds.{at-put_same, at-put_other, has-put, has-put_back, len-put}
 use Rattle.ioc_store.specs.Links.{handed_on}
 use Rattle.ioc_process.specs.Depth.{written_has}
-use Rattle.ioc_process.specs.Ready.{CanProcess, CanRun}
+use Rattle.ioc_process.specs.Running.{CanProcess, CanRun, HasRun}
+use Rattle.ioc_process.specs.Answering.{begins_same, begins_on}
 use Rattle.ioc_process.specs.Alongside.{Guards, inherits-goes, value_came-goes, wrote-goes, request-goes, ran-goes, takes_completion-goes}
-use Rattle.ioc_store.specs.Given.{Answers}
+use Rattle.ioc_store.specs.Given.{Given, Answers}
+use Rattle.ioc_device.specs.declared.Ask.{Ask}
 use Rattle.ioc_store.specs.Scanning.{moved, rescanned}
 use Rattle.ioc_store.specs.ScanLaws.{moved-either, rescanned-either}
 use Rattle.ioc_fields.specs.declared.field_no.FieldNo.{FieldNo}
@@ -66,19 +68,46 @@ module _ {R : Type 0} (k : RecordRules R) where
   pub keeps-put : (w : World R) (s : ℕ) → Has w s → (r : R) → SameLinks k (at k w s) r → Keeps k w (put w s r)
   keeps-put w s there r same = put_kept w w s there r (keeps_all w) same
 
+module _ {R D : Type 0} (k : RecordRules R) {gives : D → Ask → ℕ → Answer → D → Type 0} where
+  -- A step that keeps all records and their links, and asks no device.
+  pub has_run_kept : {w after : World R} {given given_then : Given D} {frames : Vec Frame} → Keeps k w after → given_then ≡ given → frames.items ≡ []
+      → HasRun k gives w after given given_then frames frames
+  has_run_kept keeps same empty = record { keeps = keeps; given = begins_same same; empty = empty; room = refl }
+
+  -- Nothing is done.
+  pub has_run_same : (w : World R) {given : Given D} {frames : Vec Frame} → frames.items ≡ [] → HasRun k gives w w given given frames frames
+  has_run_same w empty = has_run_kept (keeps_all k w) refl empty
+
+  -- One follows another.
+  pub has_run_on : {w mid after : World R} {given given_mid given_then : Given D} {frames one two : Vec Frame} → HasRun k gives w mid given given_mid frames one
+      → HasRun k gives mid after given_mid given_then one two → HasRun k gives w after given given_then frames two
+  has_run_on first second = record {
+    keeps = keeps_on k first.keeps second.keeps;
+    given = begins_on first.given second.given;
+    empty = second.empty;
+    room = second.room ∙ first.room;
+  }
+
+  -- One follows a step that keeps all records and their links.
+  pub has_run_after : {w mid after : World R} {given given_then : Given D} {frames frames_then : Vec Frame} → Keeps k w mid
+      → HasRun k gives mid after given given_then frames frames_then → HasRun k gives w after given given_then frames frames_then
+  has_run_after kept run = record { keeps = keeps_on k kept run.keeps; given = run.given; empty = run.empty; room = run.room }
+
 module _ {R : Type 0} (k : RecordRules R) (lawful : IsLawful k) where
   pub closed_on : {w after : World R} → Keeps k w after → IsClosed k w → IsClosed k after
   closed_on keeps is = record { closed = λ n target h. keeps.has target (is.closed n target (subst (λ (l : List ℕ). Contains l target) (targets_same k lawful (keeps.links n)) h)) }
 
-  -- An event may begin where it might before a step that keeps all records and their links.
-  pub can_run_on : {w after : World R} {before frames : Vec Frame} → Keeps k w after → frames.items ≡ [] → vec_capacity frames ≡ vec_capacity before
-      → CanRun k w before → CanRun k after frames
-  can_run_on keeps empty room can = record { closed = closed_on keeps can.closed; empty = empty; room = rw (keeps.count, room) can.room }
+  -- An event may begin after another one, where that might.
+  pub can_run_next : {D : Type 0} {gives : D → Ask → ℕ → Answer → D → Type 0} {w after : World R} {given given_then : Given D} {frames frames_then : Vec Frame}
+      → HasRun k gives w after given given_then frames frames_then → CanRun k w frames → CanRun k after frames_then
+  can_run_next run can = record { closed = closed_on run.keeps can.closed; empty = run.empty; room = rw (run.keeps.count, run.room) can.room }
 
-  pub can_process_on : {w after : World R} {s : ℕ} {before frames : Vec Frame} → Keeps k w after → frames.items ≡ [] → vec_capacity frames ≡ vec_capacity before
-      → CanProcess k w s before → CanProcess k after s frames
-  can_process_on keeps empty room can =
-      record { there = keeps.has _ can.there; closed = closed_on keeps can.closed; empty = empty; room = rw (keeps.count, room) can.room }
+  -- An event may begin where it might before a step that keeps all records and their links.
+  pub can_process_on : {w after : World R} {s : ℕ} {frames : Vec Frame} → Keeps k w after → CanProcess k w s frames → CanProcess k after s frames
+  can_process_on keeps can = record {
+    there = keeps.has _ can.there;
+    run = record { closed = closed_on keeps can.run.closed; empty = can.run.empty; room = rw keeps.count can.run.room };
+  }
 
   pub keeps-changed : (w : World R) (s : ℕ) → Has w s → (f : Common → Common) → ((c : Common) → OwnLinks c (f c)) → Keeps k w (changed k w s f)
   unfolding changed

@@ -1,7 +1,6 @@
 -- What a record needs to begin or to resume, and the turn that the code takes then.
 use Rattle.std.specs.Global.{Vec}
-use Rattle.std.specs.Prelude.{◌≡◌, ◌<◌, ◌≤◌, ◌+◌, ℕ, [], false, vec_len, vec_capacity}
-use Rattle.std.specs.FinMap.{len}
+use Rattle.std.specs.Prelude.{◌≡◌, ◌<◌, ◌≤◌, ◌+◌, ℕ, false, vec_len, vec_capacity}
 use Rattle.ioc_dbcommon.specs.declared.body.Need.{Need}
 use Rattle.ioc_dbcommon.specs.declared.link_field.LinkUse.{LinkUse}
 use Rattle.ioc_dbcommon.specs.declared.link_field.StandingLink.{StandingLink}
@@ -52,20 +51,6 @@ pub record CanCall {R : Type 0} (k : RecordRules R) (w : World R) (source target
   pub source_there : Has w source
   pub closed : IsClosed k w
   pub room : vec_len frames + idle k w ≤ vec_capacity frames
-
--- Holds if an event may begin: no link leaves the world, no frame is open, and there is room for a
--- frame of each record.
-pub record CanRun {R : Type 0} (k : RecordRules R) (w : World R) (frames : Vec Frame) : Type 0 where
-  pub closed : IsClosed k w
-  pub empty : frames.items ≡ []
-  pub room : len w.records ≤ vec_capacity frames
-
--- Holds if an event of record `s`, which exists, may begin.
-pub record CanProcess {R : Type 0} (k : RecordRules R) (w : World R) (s : ℕ) (frames : Vec Frame) : Type 0 where
-  pub there : Has w s
-  pub closed : IsClosed k w
-  pub empty : frames.items ≡ []
-  pub room : len w.records ≤ vec_capacity frames
 
 -- Holds if this is what follows from the turn that the code takes, for all answers that accord with
 -- the calls of the devices.

@@ -46,7 +46,8 @@ pub fn begin_with_disable<S: Store>(
 pub fn leave_alone<S: Store>(store: &mut S, number: RecordNo) -> Next
     requires there { Has (S.world store.old) number }
     requires off { is_disabled (common_at S.Record.rules (S.world store.old) number) ≡ true }
-    ensures turn { (answers : Answers) → judged S.Record.rules answers (request S.Record.rules answers) (S.world store.old) number ≡ after_turn S.Record.rules answers (S.world store.new) (Ended Disabled) }
+    ensures turn { (answers : Answers) → judged S.Record.rules answers (request S.Record.rules answers) (S.world store.old) number
+        ≡ after_turn S.Record.rules answers (S.world store.new) (Ended Disabled) }
     ensures given { S.given store.new ≡ S.given store.old }
     ensures turns { Turns S.Record.rules (S.world store.old) (S.world store.new) 0 most_calls (Ended Disabled) }
     ensures ends { result ≡ Ends Disabled }

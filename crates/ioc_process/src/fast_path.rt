@@ -78,7 +78,8 @@ fn open_record<K: RecordKind>(this: &mut K, output: &mut Output) -> IdleStart
 #[inline(always)]
 pub fn begin_fast<S: Store>(store: &mut S, number: RecordNo, output: &mut Output) -> IdleStart
     requires { Has (S.world store.old) number }
-    ensures opened { Opened S.Record.rules (changed S.Record.rules (S.world store.old) number unblocked) number result output.new (S.world store.new) }
+    ensures opened { Opened S.Record.rules (changed S.Record.rules (S.world store.old) number unblocked) number result output.new
+        (S.world store.new) }
     ensures given { S.given store.new ≡ S.given store.old }
 {
     open_record(store.record_mut(number), output)
@@ -107,7 +108,8 @@ fn show_record<K: RecordKind>(this: &mut K, moment: u64) -> Shown
 #[inline(always)]
 pub fn finish_fast<S: Store>(store: &mut S, number: RecordNo) -> Option<RecordNo>
     requires { Has (S.world store.old) number }
-    ensures named { result ≡ record_named (use_of (common_at S.Record.rules (changed S.Record.rules (S.world store.old) number (shown (S.world store.old).moment)) number).forward_link) }
+    ensures named { result ≡ record_named (use_of (common_at S.Record.rules
+        (changed S.Record.rules (S.world store.old) number (shown (S.world store.old).moment)) number).forward_link) }
     ensures world { S.world store.new ≡ shown_on S.Record.rules (S.world store.old) number result }
     ensures given { S.given store.new ≡ S.given store.old }
 {

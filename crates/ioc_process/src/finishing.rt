@@ -31,7 +31,8 @@ use ioc_values::Value;
 #[inline(always)]
 pub fn finish<S: Store>(store: &mut S, frames: &mut Vec<Frame>, number: RecordNo) -> Next
     requires ready { IsReady S.Record.rules (S.world store.old) number frames.old }
-    ensures turn { (answers : Answers) → processed (finished S.Record.rules (request S.Record.rules answers) (S.world store.old) number) ≡ after_turn S.Record.rules answers (S.world store.new) (turn_of frames.new.items result) }
+    ensures turn { (answers : Answers) → processed (finished S.Record.rules (request S.Record.rules answers) (S.world store.old) number)
+        ≡ after_turn S.Record.rules answers (S.world store.new) (turn_of frames.new.items result) }
     ensures given { S.given store.new ≡ S.given store.old }
     ensures takes { TakesTurn S.Record.rules (S.world store.old) (S.world store.new) 1 frames.old frames.new result }
 {
@@ -53,7 +54,9 @@ pub fn finish<S: Store>(store: &mut S, frames: &mut Vec<Frame>, number: RecordNo
 /// Raises an alarm for the output link of a record, and finishes.
 pub fn finish_with_fault<S: Store>(store: &mut S, frames: &mut Vec<Frame>, number: RecordNo) -> Next
     requires ready { IsReady S.Record.rules (S.world store.old) number frames.old }
-    ensures turn { (answers : Answers) → processed (finished S.Record.rules (request S.Record.rules answers) (faulted S.Record.rules (S.world store.old) number) number) ≡ after_turn S.Record.rules answers (S.world store.new) (turn_of frames.new.items result) }
+    ensures turn { (answers : Answers) → processed (finished S.Record.rules (request S.Record.rules answers)
+        (faulted S.Record.rules (S.world store.old) number) number)
+        ≡ after_turn S.Record.rules answers (S.world store.new) (turn_of frames.new.items result) }
     ensures given { S.given store.new ≡ S.given store.old }
     ensures takes { TakesTurn S.Record.rules (S.world store.old) (S.world store.new) 1 frames.old frames.new result }
 {
@@ -70,7 +73,10 @@ pub fn write_record<S: Store>(
     value: Value,
 ) -> Next
     requires { IsReadyFor S.Record.rules (S.world store.old) number target frames.old }
-    ensures turn { (answers : Answers) → processed (then_finished S.Record.rules answers number (after_writing S.Record.rules (request S.Record.rules answers) (wrote S.Record.rules (S.world store.old) number target value) number target)) ≡ after_turn S.Record.rules answers (S.world store.new) (turn_of frames.new.items result) }
+    ensures turn { (answers : Answers) → processed (then_finished S.Record.rules answers number
+        (after_writing S.Record.rules (request S.Record.rules answers)
+        (wrote S.Record.rules (S.world store.old) number target value) number target))
+        ≡ after_turn S.Record.rules answers (S.world store.new) (turn_of frames.new.items result) }
     ensures given { S.given store.new ≡ S.given store.old }
     ensures takes { TakesTurn S.Record.rules (S.world store.old) (S.world store.new) 2 frames.old frames.new result }
 {
@@ -96,7 +102,9 @@ pub fn write_link<S: Store>(
 ) -> Next
     requires standing { IsStanding (S.world store.old) link }
     requires ready { IsReady S.Record.rules (S.world store.old) number frames.old }
-    ensures turn { (answers : Answers) → processed (then_finished S.Record.rules answers number (write_link S.Record.rules (request S.Record.rules answers) (S.world store.old) number link value)) ≡ after_turn S.Record.rules answers (S.world store.new) (turn_of frames.new.items result) }
+    ensures turn { (answers : Answers) → processed (then_finished S.Record.rules answers number
+        (write_link S.Record.rules (request S.Record.rules answers) (S.world store.old) number link value))
+        ≡ after_turn S.Record.rules answers (S.world store.new) (turn_of frames.new.items result) }
     ensures given { S.given store.new ≡ S.given store.old }
     ensures takes { TakesTurn S.Record.rules (S.world store.old) (S.world store.new) 2 frames.old frames.new result }
 {
@@ -116,7 +124,9 @@ pub fn follow_each<S: Store>(
     first: usize,
 ) -> Next
     requires ready { IsReady S.Record.rules (S.world store.old) number frames.old }
-    ensures turn { (answers : Answers) → processed (then_finished S.Record.rules answers number (followed_each S.Record.rules (request S.Record.rules answers) (S.world store.old) number (remaining links first))) ≡ after_turn S.Record.rules answers (S.world store.new) (turn_of frames.new.items result) }
+    ensures turn { (answers : Answers) → processed (then_finished S.Record.rules answers number
+        (followed_each S.Record.rules (request S.Record.rules answers) (S.world store.old) number (remaining links first)))
+        ≡ after_turn S.Record.rules answers (S.world store.new) (turn_of frames.new.items result) }
     ensures given { S.given store.new ≡ S.given store.old }
     ensures takes { TakesTurn S.Record.rules (S.world store.old) (S.world store.new) ((16 - first) + 1) frames.old frames.new result }
 {

@@ -84,7 +84,8 @@ fn put_through<S: Store>(
     given: Input,
 ) -> Result<(), IocError>
     requires { Has (S.world store.old) number }
-    ensures ok { OnOk result (put_untested S.Record.rules (at S.Record.rules (S.world store.old) number) field given ≡ Ok (at S.Record.rules (S.world store.new) number)) }
+    ensures ok { OnOk result (put_untested S.Record.rules (at S.Record.rules (S.world store.old) number) field given
+        ≡ Ok (at S.Record.rules (S.world store.new) number)) }
     ensures stored { OnOk result (S.world store.new ≡ put (S.world store.old) number (at S.Record.rules (S.world store.new) number)) }
     ensures err { IfErr result (λ e. put_untested S.Record.rules (at S.Record.rules (S.world store.old) number) field given ≡ Err e) }
     ensures same { OnErr result (S.world store.new ≡ S.world store.old) }
@@ -99,7 +100,8 @@ fn put_through<S: Store>(
 fn place_value<S: Store>(store: &mut S, target: StandingLink, value: Value) -> bool
     requires { Has (S.world store.old) target.number }
     ensures stored { HasWritten (S.world store.new) result
-        (stored_at S.Record.rules (S.world store.old) target (put_untested S.Record.rules (at S.Record.rules (S.world store.old) target.number) target.field (InputValue value))) }
+        (stored_at S.Record.rules (S.world store.old) target
+        (put_untested S.Record.rules (at S.Record.rules (S.world store.old) target.number) target.field (InputValue value))) }
     ensures given { S.given store.new ≡ S.given store.old }
 {
     let StandingLink { number, field, .. } = target;

@@ -1,5 +1,8 @@
 -- An event on the records of a set, in terms of its code and the store on which it was done.
-use Rattle.std.proofs.Common.{◌≡◌, ◌≢◌, ℕ, true, false, List, [], ◌∷◌, ◌++◌, refl, sym, ap, ◌∙◌, subst}
+use Rattle.std.proofs.Common.{◌≡◌, ◌≢◌, ◌≤◌, ℕ, true, false, List, [], ◌∷◌, ◌++◌, refl, sym, ap, ◌∙◌, subst}
+use Rattle.std.specs.FinMap.{len}
+use Rattle.std.specs.Global.{Vec}
+use Rattle.std.specs.Vec.{vec_capacity}
 use Rattle.ioc_device.specs.declared.Ask.{Ask}
 use Rattle.ioc_device.specs.declared.Answer.{Answer}
 use Rattle.ioc_ledger.specs.declared.tally.Tally.{Tally}
@@ -9,10 +12,12 @@ use Rattle.ioc_notify.specs.declared.waiting_lists.Waiting.{Waiting}
 use Rattle.ioc_record.specs.RecordRules.{RecordRules}
 use Rattle.ioc_set_records.specs.Contents.{Records, Contents, DevicesAreOwned, BaseHasTheSame}
 use Rattle.ioc_store.specs.declared.call.Call.{Call}
+use Rattle.ioc_store.specs.declared.frames.Frame.{Frame}
 use Rattle.ioc_store.specs.declared.notifications.Notifications.{Notifications}
 use Rattle.ioc_store.specs.World.{World, IsClosed, Keeps, at, begun, begun_at}
 use Rattle.ioc_store.specs.Given.{Answers, Begins, DevicesWork, calls_of, answers_of, listed}
 use Rattle.ioc_process.specs.Answering.{listed-accords}
+use Rattle.ioc_process.specs.Running.{CanRun}
 use Rattle.ioc_process.specs.Runs.{ForAnswers}
 use Rattle.ioc_events.specs.declared.event.Event.{Event}
 use Rattle.ioc_events.specs.declared.event.Entry.{Entry}
@@ -36,9 +41,10 @@ pub starts : {R D : Type 0} (s : SetStore R D) (rs : Records R) (live : List Liv
 unfolding begun_at begun
 starts s rs live waiting moment r l w = λ i. record { records = r i; moment = moment; calls = []; outbox = []; dropped = 0; live = l i; ended = []; waiting = w i }
 
-pub closed_begun : {R : Type 0} (k : RecordRules R) (rs : Records R) (live : List Live) (waiting : List Waiting) (moment : ℕ) → IsClosed k (resting rs live waiting) → IsClosed k (begun_at moment (resting rs live waiting))
+pub can_run_begun : {R : Type 0} (k : RecordRules R) (rs : Records R) (live : List Live) (waiting : List Waiting) (moment : ℕ) (frames : Vec Frame)
+    → IsClosed k (resting rs live waiting) → frames.items ≡ [] → len rs ≤ vec_capacity frames → CanRun k (begun_at moment (resting rs live waiting)) frames
 unfolding at begun_at begun
-closed_begun k rs live waiting moment c = record { closed = c.closed }
+can_run_begun k rs live waiting moment frames c empty room = record { closed = record { closed = c.closed }; empty = empty; room = room }
 
 no_calls : {R : Type 0} (moment : ℕ) (w : World R) → (begun_at moment w).calls ≡ []
 unfolding begun_at begun

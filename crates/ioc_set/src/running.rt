@@ -1,63 +1,24 @@
 //! One event on the records of a lock set.
-ghost use Rattle.std.specs.Prelude.{◌≡◌, ◌≤◌, true, [], List, vec_capacity};
+ghost use Rattle.std.specs.Prelude.{◌≡◌, ◌≤◌, true, List, vec_capacity};
 ghost use Rattle.std.specs.FinMap.{len};
-ghost use Rattle.ioc_store.specs.World.{IsClosed, Keeps};
-ghost use Rattle.ioc_store.specs.Given.{Begins};
-ghost use Rattle.ioc_process.specs.Runs.{ForAnswers};
-ghost use Rattle.ioc_events.specs.Step.{stepped};
-ghost use Rattle.ioc_events.specs.Events.{Tells};
 ghost use Rattle.ioc_events.specs.Holding.{IsCounted};
 ghost use Rattle.ioc_set_store.specs.Resting.{resting};
 ghost use Rattle.ioc_set_store.specs.Puts.{is_put_with_notification};
 ghost use Rattle.ioc_set.specs.Doing.{Did};
-ghost use Rattle.ioc_events.specs.SetReply.{event_by, told_by};
+ghost use Rattle.ioc_events.specs.SetReply.{event_by};
 
 use crate::laws::{none_live_stays_so, notifications_begin_by_notify};
 use crate::set_entry::SetEntry;
 use ioc_device::Device;
 use ioc_events::event_rules::rules_are_steps;
-use ioc_events::{SetEvent, SetReply, run_cancel, run_complete, run_notify, run_put, run_request};
+use ioc_events::{SetEvent, run_event};
 use ioc_ledger::Tally;
 use ioc_record::RecordKind;
 use ioc_set_records::Members;
 use ioc_set_store::event_buffers::kept_answers;
 use ioc_set_store::{EventBuffers, LivePuts};
-use ioc_store::{Frame, Store};
 use std::alloc::Global;
 use std::mem;
-
-/// Runs a request, a put, a completion, a put with notification or a cancel. It is inlined, since
-/// most callers know which of them it is.
-#[inline(always)]
-pub fn run_event<S: Store>(
-    store: &mut S,
-    frames: &mut Vec<Frame>,
-    event: &SetEvent,
-    tally: &mut Tally,
-) -> SetReply
-    requires closed { IsClosed S.Record.rules (S.world store.old) }
-    requires empty { frames.old.items ≡ [] }
-    requires room { len (S.world store.old).records ≤ vec_capacity frames.old }
-    ensures step { ForAnswers (S.given store.new) (λ answers.
-        Tells (S.world store.old) (S.world store.new) (told_by result) tally.old tally.new (event_by event.now) (stepped S.Record.rules answers (S.world store.old) (event_by event.now))) }
-    ensures keeps { Keeps S.Record.rules (S.world store.old) (S.world store.new) }
-    ensures given { Begins S.Device.gives (S.given store.old) (S.given store.new) }
-    ensures empty { frames.new.items ≡ [] }
-{
-    match event {
-        SetEvent::Process(number) => run_request(store, frames, *number, tally),
-        SetEvent::Put(number, field, given) => {
-            run_put(store, frames, *number, *field, *given, tally)
-        }
-        SetEvent::Complete(number, wait, finished) => {
-            run_complete(store, frames, *number, *wait, *finished, tally)
-        }
-        SetEvent::Notify(target, number, field, given) => {
-            run_notify(store, frames, *target, *number, *field, *given, tally)
-        }
-        SetEvent::Cancel(number) => run_cancel(store, frames, *number, tally),
-    }
-}
 
 /// Does an event on the members of a set and its puts with notification, and returns its history
 /// entry. There must be room for the frames and the answers, and for a put with notification, if it

@@ -22,9 +22,7 @@ use crate::scripted::Scripted;
 use crate::settled::{event_keeps_count, event_leaves_settled};
 use ioc_dbcommon::{LinkBox, LinkField};
 use ioc_dbfile::{Owners, owners_of, owns_device};
-use ioc_events::{
-    Effect, Reply, make_request, make_spelled_put, run_cancel, run_complete, run_link, run_notify,
-};
+use ioc_events::{Effect, Reply, SetEvent, make_request, make_spelled_put, run_event, run_link};
 use ioc_fields::FieldNo;
 use ioc_ledger::Tally;
 use ioc_links::Link;
@@ -122,8 +120,9 @@ fn map_of(
 }
 
 impl Machine {
-    ghost use Rattle.ioc_events.specs.declared.event.Event.TheVariants.{Process, Put, Complete, Link as Link_event, Notify, Cancel};
+    ghost use Rattle.ioc_events.specs.declared.event.Event.TheVariants.{Process, Put, Complete, Link as Link_event};
     ghost use Rattle.ioc_events.specs.Events.{reply_of};
+    ghost use Rattle.ioc_events.specs.SetReply.{event_by};
     ghost use Rattle.ioc_values.specs.Conversion.{input_of};
     ghost use Rattle.ioc_sim.specs.FirstLists.{starters};
     ghost use Rattle.ioc_sim.specs.Leads.{field_of_link};
@@ -214,17 +213,15 @@ impl Machine {
         make_spelled_put(map, &mut self.frames, number, field, text, &mut self.tally)
     }
 
-    // Completes a record with the asynchronous answer of its device, without taking what the event
-    // sends.
+    // Does an event, without taking what it sends. It is inlined, so that each caller knows the kind
+    // of its event.
+    #[inline(always)]
     #[tactic(auto, using(crate::proofs::Eventing::closed_on, crate::proofs::Eventing::room_on))]
-    fn finish(&mut self, number: RecordNo, wait: u64, finished: Finished) -> Reply
-        ensures { Gives (stepped_on record_rules (machine_of self.old) (Complete number wait finished))
-            (machine_of self.new) result }
+    fn do_event(&mut self, event: &SetEvent) -> Reply
+        ensures { Gives (stepped_on record_rules (machine_of self.old) (event_by event.now)) (machine_of self.new) result }
     {
-        let map = &mut self.map;
-        let frames = &mut self.frames;
-        begin_event(map);
-        run_complete(map, frames, number, wait, finished, &mut self.tally).reply()
+        begin_event(&mut self.map);
+        run_event(&mut self.map, &mut self.frames, event, &mut self.tally).reply()
     }
 
     // Changes a link, without taking what the event sends.
@@ -235,35 +232,6 @@ impl Machine {
         event_keeps_count();
         begin_event(&mut self.map);
         run_link(&mut self.map, number, field, link)
-    }
-
-    // Puts a value into a field with a notification, without taking what the event sends.
-    #[tactic(auto, using(crate::proofs::Eventing::closed_on, crate::proofs::Eventing::room_on))]
-    fn begin_notify(
-        &mut self,
-        number: RecordNo,
-        notification: NotifyId,
-        field: FieldNo,
-        given: Input,
-    ) -> Reply
-        ensures { Gives (stepped_on record_rules (machine_of self.old) (Notify number notification field given))
-            (machine_of self.new) result }
-    {
-        let map = &mut self.map;
-        let frames = &mut self.frames;
-        let tally = &mut self.tally;
-        begin_event(map);
-        run_notify(map, frames, number, notification, field, given, tally).reply()
-    }
-
-    // Cancels a put with notification, without taking what the event sends.
-    #[tactic(auto, using(crate::proofs::Eventing::closed_on, crate::proofs::Eventing::room_on))]
-    fn give_up(&mut self, notification: NotifyId) -> Reply
-        ensures { Gives (stepped_on record_rules (machine_of self.old) (Cancel notification)) (machine_of self.new) result }
-    {
-        let map = &mut self.map;
-        begin_event(map);
-        run_cancel(map, &mut self.frames, notification, &mut self.tally).reply()
     }
 
     // Keeps the puts with notification that ended in an event. Not inlined, because in most events
@@ -344,7 +312,7 @@ impl Machine {
         ensures { IfOk result (λ reply. Gives (done record_rules (machine_of self.old) (Complete number wait finished))
             (machine_of self.new) reply) }
     {
-        let reply = self.finish(number, wait, finished);
+        let reply = self.do_event(&SetEvent::Complete(number, wait, finished));
         self.send()?;
         Ok(reply)
     }
@@ -390,7 +358,8 @@ impl Machine {
         ensures { IfOk result (λ reply. Gives (notified record_rules (machine_of self.old) number field given)
             (machine_of self.new) reply) }
     {
-        let reply = self.begin_notify(number, NotifyId::new(self.next), field, given);
+        let notification = NotifyId::new(self.next);
+        let reply = self.do_event(&SetEvent::Notify(number, notification, field, given));
         self.send()?;
         if !matches!(reply, Reply::Refused(_)) {
             self.next = self.next.saturating_add(1);
@@ -407,7 +376,7 @@ impl Machine {
         ensures { IfOk result (λ reply. Gives (given_up record_rules (machine_of self.old) notification)
             (machine_of self.new) reply) }
     {
-        let reply = self.give_up(notification);
+        let reply = self.do_event(&SetEvent::Cancel(notification));
         self.send()?;
         Ok(reply)
     }

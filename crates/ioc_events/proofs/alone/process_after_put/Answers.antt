@@ -2,8 +2,7 @@ use Rattle.std.proofs.Common.{true, refl, ap, sym, ◌∙◌}
 use Rattle.ioc_dbcommon.specs.declared.common.Common.{Common}
 use Rattle.ioc_dbcommon.specs.Steps.{with_put_mark, with_reprocess_mark}
 use Rattle.ioc_events.specs.Starting.{processes}
-use Rattle.ioc_process.specs.Keeping.{keeps_on, keeps-changed, can_process_on}
-use Rattle.ioc_process.specs.Answering.{begins_same}
+use Rattle.ioc_process.specs.Keeping.{keeps-changed, has_run_same, has_run_kept, has_run_after, can_process_on}
 use Rattle.ioc_events.proofs.Stepping.{makes-plain, makes-active, after_put-idle}
 use Rattle.ioc_events.proofs.alone.process_after_put.Goals as goal
 
@@ -15,8 +14,8 @@ returns-then-not-processes-clause-after g c = λ answers begins.
     let s = c.args.number in
     makes-plain k answers w s c.args.field c.args.tally.now (ap (λ r. processes k r c.args.field) (sym c.record.ensures) ∙ sym c.processes.ensures ∙ c.if-not-processes.true)
 
-pub returns-then-not-processes-clause-given : goal.returns-then-not-processes-clause-given
-returns-then-not-processes-clause-given g c = begins_same refl
+pub returns-then-not-processes-clause-run : goal.returns-then-not-processes-clause-run
+returns-then-not-processes-clause-run g c = has_run_same g.S.Record.RecordKind.rules _ c.requires.run.empty
 
 pub returns-then-common-clause-after : goal.returns-then-common-clause-after
 returns-then-common-clause-after g c = λ answers begins.
@@ -27,24 +26,18 @@ returns-then-common-clause-after g c = λ answers begins.
     rw c.mark_reprocess.ensures.world (makes-active k answers w s c.args.field c.args.tally.now _ (ap (λ r. processes k r c.args.field) (sym c.record.ensures) ∙ sym c.processes.ensures ∙ c.if-not-processes.false)
     (ap (λ (it : Common). it.active) (ap k.common (sym c.record-2.ensures) ∙ sym c.common.ensures) ∙ c.if-common.true) c.count.ensures)
 
-pub returns-then-common-clause-keeps : goal.returns-then-common-clause-keeps
-returns-then-common-clause-keeps g c =
+pub returns-then-common-clause-run : goal.returns-then-common-clause-run
+returns-then-common-clause-run g c =
     let k = g.S.Record.RecordKind.rules in
-    let lawful = g.met.S.Record.RecordKind.lawful in
     let w = g.S.Store.world c.args.store.now in
-    let s = c.args.number in
-    rw c.mark_reprocess.ensures.world (keeps-changed k lawful w s c.requires.there (with_reprocess_mark true) (λ it. (refl, refl)))
-
-pub returns-then-common-clause-given : goal.returns-then-common-clause-given
-returns-then-common-clause-given g c = begins_same c.mark_reprocess.ensures.given
+    rw c.mark_reprocess.ensures.world (has_run_kept k (keeps-changed k g.met.S.Record.RecordKind.lawful w c.args.number c.requires.there (with_reprocess_mark true) (λ it. (refl, refl))) c.mark_reprocess.ensures.given c.requires.run.empty)
 
 pub request_present-requires : goal.request_present-requires
 request_present-requires g c =
     let k = g.S.Record.RecordKind.rules in
     let lawful = g.met.S.Record.RecordKind.lawful in
     let w = g.S.Store.world c.args.store.now in
-    let s = c.args.number in
-    rw c.mark_put.ensures.world (can_process_on k lawful (keeps-changed k lawful w s c.requires.there (with_put_mark true) (λ it. (refl, refl))) c.requires.empty refl c.requires)
+    rw c.mark_put.ensures.world (can_process_on k lawful (keeps-changed k lawful w c.args.number c.requires.there (with_put_mark true) (λ it. (refl, refl))) c.requires)
 
 pub returns-clause-after : goal.returns-clause-after
 returns-clause-after g c = λ answers begins.
@@ -55,13 +48,9 @@ returns-clause-after g c = λ answers begins.
     rw (after_put-idle k answers w s c.args.field (ap (λ r. processes k r c.args.field) (sym c.record.ensures) ∙ sym c.processes.ensures ∙ c.if-not-processes.false)
     (ap (λ (it : Common). it.active) (ap k.common (sym c.record-2.ensures) ∙ sym c.common.ensures) ∙ c.if-common.false)) (rw c.mark_put.ensures.world at (c.request_present.ensures.told answers begins))
 
-pub returns-clause-keeps : goal.returns-clause-keeps
-returns-clause-keeps g c =
+pub returns-clause-run : goal.returns-clause-run
+returns-clause-run g c =
     let k = g.S.Record.RecordKind.rules in
-    let lawful = g.met.S.Record.RecordKind.lawful in
     let w = g.S.Store.world c.args.store.now in
-    let s = c.args.number in
-    keeps_on k (keeps-changed k lawful w s c.requires.there (with_put_mark true) (λ it. (refl, refl))) (rw c.mark_put.ensures.world at c.request_present.ensures.keeps)
-
-pub returns-clause-given : goal.returns-clause-given
-returns-clause-given g c = rw c.mark_put.ensures.given at c.request_present.ensures.given
+    has_run_after k (keeps-changed k g.met.S.Record.RecordKind.lawful w c.args.number c.requires.there (with_put_mark true) (λ it. (refl, refl)))
+    (rw (c.mark_put.ensures.world, c.mark_put.ensures.given) at c.request_present.ensures.run)

@@ -1,8 +1,7 @@
 use Rattle.std.proofs.Common.{refl, sym, ◌∙◌}
-use Rattle.ioc_process.specs.Answering.{begins_same}
 use Rattle.ioc_events.specs.declared.event.Event.TheVariants.{Put}
 use Rattle.ioc_store.specs.Worlds.{has-put}
-use Rattle.ioc_process.specs.Keeping.{keeps_on, can_process_on}
+use Rattle.ioc_process.specs.Keeping.{has_run_same, has_run_after, can_process_on}
 use Rattle.ioc_events.proofs.Stepping.{makes-refused, step-put_refused, step-put}
 use Rattle.ioc_events.proofs.QuietEvents.{stored-keeps}
 use Rattle.ioc_events.proofs.alone.put.Goals as goal
@@ -17,7 +16,7 @@ process_after_put-requires g c =
     let lawful = g.met.S.Record.RecordKind.lawful in
     let there = sym c.has.ensures ∙ c.if-not-has.false in
     rw (c.rescan.ensures.world, c.in-Ok.ensures.stored)
-    (can_process_on k lawful {before = c.args.frames.now} (stored-keeps k lawful (g.S.Store.world c.args.store.now) _ c.args.number c.args.field c.args.given _ there c.in-Ok.ensures.ok refl) c.requires.empty refl (record { there = there; closed = c.requires.closed; empty = c.requires.empty; room = c.requires.room }))
+    (can_process_on k lawful (stored-keeps k lawful (g.S.Store.world c.args.store.now) _ c.args.number c.args.field c.args.given _ there c.in-Ok.ensures.ok refl) (record { there = there; run = c.requires }))
 
 pub returns-in-Ok-clause-done : goal.returns-in-Ok-clause-done
 returns-in-Ok-clause-done g c = λ answers begins.
@@ -27,20 +26,17 @@ returns-in-Ok-clause-done g c = λ answers begins.
     rw (c.of.ensures, step-put k answers w s c.args.field c.args.given _ (sym c.has.ensures ∙ c.if-not-has.false) c.in-Ok.ensures.ok)
     (rw (c.rescan.ensures.world, c.in-Ok.ensures.stored) at (c.process_after_put.ensures.after answers begins))
 
-pub returns-then-not-has-clause-given : goal.returns-then-not-has-clause-given
-returns-then-not-has-clause-given g c = begins_same refl
+pub returns-then-not-has-clause-run : goal.returns-then-not-has-clause-run
+returns-then-not-has-clause-run g c = has_run_same g.S.Record.RecordKind.rules _ c.requires.empty
 
-pub returns-in-Err-clause-given : goal.returns-in-Err-clause-given
-returns-in-Err-clause-given g c = begins_same c.in-Err.ensures.given
+pub returns-in-Err-clause-run : goal.returns-in-Err-clause-run
+returns-in-Err-clause-run g c = rw (c.in-Err.ensures.same, c.in-Err.ensures.given) (has_run_same g.S.Record.RecordKind.rules _ c.requires.empty)
 
-pub returns-in-Ok-clause-given : goal.returns-in-Ok-clause-given
-returns-in-Ok-clause-given g c = rw (c.rescan.ensures.given, c.in-Ok.ensures.given) at c.process_after_put.ensures.given
-
-pub returns-in-Ok-clause-keeps : goal.returns-in-Ok-clause-keeps
-returns-in-Ok-clause-keeps g c =
+pub returns-in-Ok-clause-run : goal.returns-in-Ok-clause-run
+returns-in-Ok-clause-run g c =
     let k = g.S.Record.RecordKind.rules in
-    keeps_on k (stored-keeps k g.met.S.Record.RecordKind.lawful (g.S.Store.world c.args.store.now) _ c.args.number c.args.field c.args.given _ (sym c.has.ensures ∙ c.if-not-has.false) c.in-Ok.ensures.ok refl)
-    (rw (c.rescan.ensures.world, c.in-Ok.ensures.stored) at c.process_after_put.ensures.keeps)
+    has_run_after k (stored-keeps k g.met.S.Record.RecordKind.lawful (g.S.Store.world c.args.store.now) _ c.args.number c.args.field c.args.given _ (sym c.has.ensures ∙ c.if-not-has.false) c.in-Ok.ensures.ok refl)
+    (rw (c.rescan.ensures.world, c.in-Ok.ensures.stored, c.rescan.ensures.given, c.in-Ok.ensures.given) at c.process_after_put.ensures.run)
 
 pub returns-in-Err-clause-done : goal.returns-in-Err-clause-done
 returns-in-Err-clause-done g c = λ answers begins.

@@ -1,19 +1,16 @@
 use Rattle.std.proofs.Common.{refl}
 use Rattle.ioc_events.specs.declared.event.Event.TheVariants.{Process}
-use Rattle.ioc_process.specs.Answering.{begins_on, accords_before}
-use Rattle.ioc_process.specs.Keeping.{keeps_on, can_run_on}
+use Rattle.ioc_process.specs.Answering.{accords_before}
+use Rattle.ioc_process.specs.Keeping.{can_run_next, has_run_on}
 use Rattle.ioc_events.proofs.Stepping.{tells-event}
 use Rattle.ioc_events.proofs.events.make_request.Goals as goal
 
 pub end_event-requires : goal.end_event-requires
-end_event-requires g c = can_run_on g.S.Record.RecordKind.rules g.met.S.Record.RecordKind.lawful c.request-effect.ensures.keeps c.request-effect.ensures.empty c.request-effect.ensures.room c.requires
+end_event-requires g c = can_run_next g.S.Record.RecordKind.rules g.met.S.Record.RecordKind.lawful c.request-effect.ensures.run c.requires
 
 pub returns-clause-step : goal.returns-clause-step
 returns-clause-step g c = λ answers begins.
-    tells-event g.S.Record.RecordKind.rules answers _ _ _ (Process c.args.number) _ _ _ _ _ _ c.asked-asked.ensures (c.request-effect.ensures.done answers (accords_before c.end_event.ensures.given begins)) refl (rw c.is_refused.ensures at (c.end_event.ensures.ends answers begins)) refl
+    tells-event g.S.Record.RecordKind.rules answers _ _ _ (Process c.args.number) _ _ _ _ _ _ c.asked-asked.ensures (c.request-effect.ensures.done answers (accords_before c.end_event.ensures.run.given begins)) refl (rw c.is_refused.ensures at (c.end_event.ensures.ends answers begins)) refl
 
-pub returns-clause-keeps : goal.returns-clause-keeps
-returns-clause-keeps g c = keeps_on g.S.Record.RecordKind.rules c.request-effect.ensures.keeps c.end_event.ensures.keeps
-
-pub returns-clause-given : goal.returns-clause-given
-returns-clause-given g c = begins_on c.request-effect.ensures.given c.end_event.ensures.given
+pub returns-clause-run : goal.returns-clause-run
+returns-clause-run g c = has_run_on g.S.Record.RecordKind.rules c.request-effect.ensures.run c.end_event.ensures.run

@@ -1,8 +1,7 @@
 use Rattle.std.proofs.Common.{true, refl, ap, sym, ◌∙◌}
 use Rattle.ioc_dbcommon.specs.Steps.{with_put_mark}
 use Rattle.ioc_events.specs.Starting.{processes}
-use Rattle.ioc_process.specs.Answering.{begins_same}
-use Rattle.ioc_process.specs.Keeping.{keeps_on, keeps-changed, can_process_on, notified-keeps}
+use Rattle.ioc_process.specs.Keeping.{keeps_on, keeps-changed, has_run_kept, has_run_after, can_process_on, notified-keeps}
 use Rattle.ioc_events.proofs.QuietEvents.{taken-keeps}
 use Rattle.ioc_events.proofs.StartCode.{counts-told, counts-processed}
 use Rattle.ioc_events.proofs.starting.start.Goals as goal
@@ -24,15 +23,13 @@ returns-then-not-processes-clause-started g c = λ answers begins.
     (rw (← c.take_and_store.ensures.world) (ap (λ r. processes k r x.field) (sym c.record.ensures) ∙ sym c.processes.ensures ∙ c.if-not-processes.true))
     (rw (← c.take_and_store.ensures.world) c.release_notification.ensures.world)
 
-pub returns-then-not-processes-clause-keeps : goal.returns-then-not-processes-clause-keeps
-returns-then-not-processes-clause-keeps g c =
+pub returns-then-not-processes-clause-run : goal.returns-then-not-processes-clause-run
+returns-then-not-processes-clause-run g c =
     let k = g.S.Record.RecordKind.rules in
     let lawful = g.met.S.Record.RecordKind.lawful in
     let taken = taken-keeps k lawful (g.S.Store.world c.args.store.now) c.args.waiting.now c.requires.there in
-    rw (c.release_notification.ensures.world, c.take_and_store.ensures.world) (keeps_on k taken (notified-keeps k lawful _ c.args.waiting.now.target (taken.has _ c.requires.there)))
-
-pub returns-then-not-processes-clause-given : goal.returns-then-not-processes-clause-given
-returns-then-not-processes-clause-given g c = begins_same (c.release_notification.ensures.given ∙ c.take_and_store.ensures.given)
+    rw (c.release_notification.ensures.world, c.take_and_store.ensures.world)
+    (has_run_kept k (keeps_on k taken (notified-keeps k lawful _ c.args.waiting.now.target (taken.has _ c.requires.there))) (c.release_notification.ensures.given ∙ c.take_and_store.ensures.given) c.requires.run.empty)
 
 pub request_record-outcome-requires : goal.request_record-outcome-requires
 request_record-outcome-requires g c =
@@ -41,7 +38,7 @@ request_record-outcome-requires g c =
     let taken = taken-keeps k lawful (g.S.Store.world c.args.store.now) c.args.waiting.now c.requires.there in
     let there = taken.has _ c.requires.there in
     rw (c.mark_put.ensures.world, c.take_and_store.ensures.world)
-    (can_process_on k lawful (keeps_on k taken (keeps-changed k lawful _ c.args.waiting.now.target there (with_put_mark true) (λ it. (refl, refl)))) c.requires.empty refl c.requires)
+    (can_process_on k lawful (keeps_on k taken (keeps-changed k lawful _ c.args.waiting.now.target there (with_put_mark true) (λ it. (refl, refl)))) c.requires)
 
 pub returns-clause-started : goal.returns-clause-started
 returns-clause-started g c = λ answers begins.
@@ -51,11 +48,11 @@ returns-clause-started g c = λ answers begins.
     (rw (← c.take_and_store.ensures.world) (ap (λ r. processes k r x.field) (sym c.record.ensures) ∙ sym c.processes.ensures ∙ c.if-not-processes.false))
     (rw (c.mark_put.ensures.world, c.take_and_store.ensures.world) at (c.request_record-outcome.ensures.request answers begins))
 
-pub returns-clause-keeps : goal.returns-clause-keeps
-returns-clause-keeps g c =
+pub returns-clause-run : goal.returns-clause-run
+returns-clause-run g c =
     let k = g.S.Record.RecordKind.rules in
     let lawful = g.met.S.Record.RecordKind.lawful in
     let taken = taken-keeps k lawful (g.S.Store.world c.args.store.now) c.args.waiting.now c.requires.there in
     let there = taken.has _ c.requires.there in
-    keeps_on k (keeps_on k taken (keeps-changed k lawful _ c.args.waiting.now.target there (with_put_mark true) (λ it. (refl, refl))))
-    (rw (c.mark_put.ensures.world, c.take_and_store.ensures.world) at c.request_record-outcome.ensures.keeps)
+    has_run_after k (keeps_on k taken (keeps-changed k lawful _ c.args.waiting.now.target there (with_put_mark true) (λ it. (refl, refl))))
+    (rw (c.mark_put.ensures.world, c.take_and_store.ensures.world, c.mark_put.ensures.given, c.take_and_store.ensures.given) at c.request_record-outcome.ensures.run)

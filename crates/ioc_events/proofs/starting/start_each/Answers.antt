@@ -1,8 +1,8 @@
-use Rattle.std.proofs.Common.{◌≡◌, ◌-◌, ℕ, suc, length, refl, ap, sym, subst, ◌∙◌, arith}
+use Rattle.std.proofs.Common.{◌≡◌, ◌-◌, ℕ, suc, length, ap, sym, subst, ◌∙◌, arith}
 use Rattle.ioc_device.specs.declared.Answer.TheVariants.{Fault}
 use Rattle.ioc_events.specs.Starting.{all_started}
-use Rattle.ioc_process.specs.Answering.{begins_same, begins_on, accords_before}
-use Rattle.ioc_process.specs.Keeping.{can_process_on, keeps_all, keeps_on, closed_on}
+use Rattle.ioc_process.specs.Answering.{accords_before}
+use Rattle.ioc_process.specs.Keeping.{can_process_on, can_run_next, has_run_same, has_run_after, has_run_on}
 use Rattle.ioc_events.proofs.QuietEvents.{unqueued-keeps}
 use Rattle.ioc_events.proofs.StartRules.{no-start}
 use Rattle.ioc_events.proofs.StartCode.{LeadsOn, leads-here, leads-next, leads-end, leads-done, next-has}
@@ -15,12 +15,8 @@ loop-left-init g c =
     let w = g.S.Store.world c.args.store.now in
     record {
       leads = λ answers begins. subst (λ (n : ℕ). LeadsOn k lawful answers (length w.waiting) n w w c.args.tally.now c.args.tally.now) (ap length (sym c.waiting-left.ensures)) (leads-here k lawful answers (length w.waiting) w c.args.tally.now);
-      given = begins_same refl;
-      keeps = keeps_all k w;
-      closed = c.requires.closed;
-      empty = c.requires.empty;
-      enough = c.requires.room;
-      room = refl;
+      run = has_run_same k w c.requires.empty;
+      next = c.requires;
     }
 
 pub returns-in_default-clause-started : goal.returns-in_default-clause-started
@@ -38,7 +34,7 @@ start-requires g c =
     let i = c.loop-left.invariant in
     let there = next-has k lawful (λ calls target ask. Fault) w c.in-Some.waiting (sym c.next_waiting.ensures ∙ c.in-Some.is) in
     rw c.unqueue.ensures.world
-    (can_process_on k lawful {before = c.loop-left.frames} (unqueued-keeps k lawful c.in-Some.waiting.number w) i.empty refl (record { there = there; closed = i.closed; empty = i.empty; room = i.enough }))
+    (can_process_on k lawful (unqueued-keeps k lawful c.in-Some.waiting.number w) (record { there = there; run = i.next }))
 
 pub loop-left-preserved : goal.loop-left-preserved
 loop-left-preserved g c =
@@ -50,19 +46,14 @@ loop-left-preserved g c =
     let x = c.in-Some.waiting in
     let came = c.start.ensures in
     let one_less : c.loop-left.left ≡ suc (c.loop-left.left - 1) = omega (arith, c.loop-left-test.true) in
-    let given = rw c.unqueue.ensures.given at came.given in
-    let kept = keeps_on k (unqueued-keeps k lawful x.number w) (rw c.unqueue.ensures.world at came.keeps) in
+    let run = has_run_after k (unqueued-keeps k lawful x.number w) (rw (c.unqueue.ensures.world, c.unqueue.ensures.given) at came.run) in
     record {
       leads = λ answers begins.
           leads-next k lawful answers _ (c.loop-left.left - 1) w0 w _ x c.args.tally.now c.loop-left.tally _
-          (subst (λ (n : ℕ). LeadsOn k lawful answers (length w0.waiting) n w0 w c.args.tally.now c.loop-left.tally) one_less (i.leads answers (accords_before given begins)))
+          (subst (λ (n : ℕ). LeadsOn k lawful answers (length w0.waiting) n w0 w c.args.tally.now c.loop-left.tally) one_less (i.leads answers (accords_before run.given begins)))
           (sym c.next_waiting.ensures ∙ c.in-Some.is) (rw c.unqueue.ensures.world at (came.started answers begins));
-      given = begins_on i.given given;
-      keeps = keeps_on k i.keeps kept;
-      closed = closed_on k lawful kept i.closed;
-      empty = came.empty;
-      enough = omega (arith, i.enough, kept.count, came.room);
-      room = came.room ∙ i.room;
+      run = has_run_on k i.run run;
+      next = can_run_next k lawful run i.next;
     }
 
 pub returns-clause-started : goal.returns-clause-started

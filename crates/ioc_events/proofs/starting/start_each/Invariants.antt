@@ -1,8 +1,5 @@
-use Rattle.std.proofs.Common.{◌≡◌, ◌≤◌, [], length}
-use Rattle.std.specs.FinMap.{len}
-use Rattle.std.specs.Vec.{vec_capacity}
-use Rattle.ioc_store.specs.World.{IsClosed, Keeps}
-use Rattle.ioc_store.specs.Given.{Begins}
+use Rattle.std.proofs.Common.{length}
+use Rattle.ioc_process.specs.Running.{CanRun, HasRun}
 use Rattle.ioc_process.specs.Runs.{ForAnswers}
 use Rattle.ioc_events.proofs.StartCode.{LeadsOn}
 use Rattle.ioc_events.proofs.starting.start_each.Given as goal
@@ -14,12 +11,8 @@ invariant-loop-left g l =
     let w0 = g.S.Store.world l.fn.store in
     record {
       leads : ForAnswers (g.S.Store.given l.store) (λ answers. LeadsOn k g.met.S.Record.RecordKind.lawful answers (length w0.waiting) l.left w0 w l.fn.tally l.tally);
-      given : Begins g.S.Device.Device.gives (g.S.Store.given l.fn.store) (g.S.Store.given l.store);
-      keeps : Keeps k w0 w;
-      closed : IsClosed k w;
-      empty : l.frames.items ≡ [];
-      enough : len w.records ≤ vec_capacity l.frames;
-      room : vec_capacity l.frames ≡ vec_capacity l.fn.frames;
+      run : HasRun k g.S.Device.Device.gives w0 w (g.S.Store.given l.fn.store) (g.S.Store.given l.store) l.fn.frames l.frames;
+      next : CanRun k w l.frames;
     }
 
 abbrev pub decreases-loop-left : goal.decreases-loop-left

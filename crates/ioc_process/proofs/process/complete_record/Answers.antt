@@ -47,13 +47,13 @@ put_out-next-requires g c =
     let output = rw c.resume.ensures.world at c.take_completion.ensures.output in
     let keeps = both-keep k lawful w s x c.requires.there in
     let idle = resumed-idle k lawful w s x in
-    let closed = closed_on k lawful (resumed-keeps k lawful w s c.requires.there) c.requires.closed in
+    let closed = closed_on k lawful (resumed-keeps k lawful w s c.requires.there) c.requires.run.closed in
     record {
       ready = record {
         there = rw is (keeps.has _ c.requires.there);
-        closed = rw is (closed_on k lawful keeps c.requires.closed);
+        closed = rw is (closed_on k lawful keeps c.requires.run.closed);
         is_idle = rw is idle;
-        room = omega (arith, c.requires.room, some_idle k lawful (taken k lawful w s x) s idle, idle_few k (taken k lawful w s x), keeps.count, ap length c.requires.empty, c.args.frames.now.ok.0);
+        room = omega (arith, c.requires.run.room, some_idle k lawful (taken k lawful w s x) s idle, idle_few k (taken k lawful w s x), keeps.count, ap length c.requires.run.empty, c.args.frames.now.ok.0);
       };
       standing = λ t v wanted. rw is ((taken-keeps k lawful w s x c.requires.there).has _ (last_output_stands k lawful (back k lawful w s x) s x closed t v (sym output ∙ wanted)));
     }
@@ -62,7 +62,7 @@ pub run_frames-requires-clause-closed : goal.run_frames-requires-clause-closed
 run_frames-requires-clause-closed g c =
     let lawful = g.met.S.Record.RecordKind.lawful in
     let came = rw (c.take_completion.ensures.world, c.resume.ensures.world) at c.put_out-next.ensures.takes.turns in
-    closed_on _ lawful came.keeps (closed_on _ lawful (both-keep _ lawful _ c.args.number c.args.finished c.requires.there) c.requires.closed)
+    closed_on _ lawful came.keeps (closed_on _ lawful (both-keep _ lawful _ c.args.number c.args.finished c.requires.there) c.requires.run.closed)
 
 pub run_frames-requires-clause-room : goal.run_frames-requires-clause-room
 run_frames-requires-clause-room g c =
@@ -73,13 +73,13 @@ run_frames-requires-clause-room g c =
     let turn = turn_of c.put_out-next.new.frames.items c.put_out-next.result in
     omega (
       arith,
-      c.requires.room,
+      c.requires.run.room,
       idle_few k (taken k lawful w c.args.number c.args.finished),
       (both-keep k lawful w c.args.number c.args.finished c.requires.there).count,
       came.fewer,
       ap length c.put_out-next.ensures.takes.opens.frames,
       length_opened c.args.frames.now.items turn,
-      ap length c.requires.empty,
+      ap length c.requires.run.empty,
       c.put_out-next.new.frames.ok.0,
       c.put_out-next.ensures.takes.room,
     )
@@ -88,19 +88,21 @@ pub returns-clause-done : goal.returns-clause-done
 unfolding resumed_with
 returns-clause-done g c = λ answers begins.
     let run = c.run_frames.ensures.done answers begins in
-    let turn = rw (c.take_completion.ensures.output, c.take_completion.ensures.world, c.resume.ensures.world) at (c.put_out-next.ensures.turn answers (accords_before c.run_frames.ensures.given begins)) in
+    let turn = rw (c.take_completion.ensures.output, c.take_completion.ensures.world, c.resume.ensures.world) at (c.put_out-next.ensures.turn answers (accords_before c.run_frames.ensures.run.given begins)) in
     record {
       world = run.world ∙ ap (λ (r : Ran _). r.world) (sym turn);
       outcome = refl;
       tally = run.tally ∙ ap (λ (r : Ran _). counted c.args.tally.now r.requests) (sym turn);
     }
 
-pub returns-clause-given : goal.returns-clause-given
-returns-clause-given g c =
-    rw (c.take_completion.ensures.given, c.resume.ensures.given) at (begins_on c.put_out-next.ensures.given c.run_frames.ensures.given)
-
-pub returns-clause-keeps : goal.returns-clause-keeps
-returns-clause-keeps g c =
+pub returns-clause-run : goal.returns-clause-run
+returns-clause-run g c =
     let k = g.S.Record.RecordKind.rules in
     let came = rw (c.take_completion.ensures.world, c.resume.ensures.world) at c.put_out-next.ensures.takes.turns in
-    keeps_on k (both-keep k g.met.S.Record.RecordKind.lawful _ c.args.number c.args.finished c.requires.there) (keeps_on k came.keeps c.run_frames.ensures.keeps)
+    let run = c.run_frames.ensures.run in
+    record {
+      keeps = keeps_on k (both-keep k g.met.S.Record.RecordKind.lawful _ c.args.number c.args.finished c.requires.there) (keeps_on k came.keeps run.keeps);
+      given = rw (c.take_completion.ensures.given, c.resume.ensures.given) at (begins_on c.put_out-next.ensures.given run.given);
+      empty = run.empty;
+      room = run.room ∙ c.put_out-next.ensures.takes.room;
+    }

@@ -1,20 +1,22 @@
 use Rattle.std.proofs.Common.{sym, ap, ◌∙◌, subst}
 use Rattle.std.specs.FinMap.{len}
-use Rattle.ioc_store.specs.World.{World, IsClosed}
+use Rattle.ioc_store.specs.World.{World}
+use Rattle.ioc_process.specs.Running.{CanRun}
 use Rattle.ioc_events.specs.SetReply.{event_by, told_by}
 use Rattle.ioc_set_records.specs.Contents.{Contents}
 use Rattle.ioc_set_store.specs.Puts.{Puts}
-use Rattle.ioc_set.proofs.DidLaws.{starts, closed_begun, none_here, did}
+use Rattle.ioc_set.proofs.DidLaws.{starts, can_run_begun, none_here, did}
 use Rattle.ioc_set.proofs.running.run_set_event.Goals as goal
 
-pub run_event-told-requires-clause-closed : goal.run_event-told-requires-clause-closed
-run_event-told-requires-clause-closed g c =
+pub run_event-told-requires : goal.run_event-told-requires
+run_event-told-requires g c =
     let before = c.args.members.now in
     let puts = c.args.puts.now in
     let place = c.args.place.now in
     let start = c.begin_at.ensures.world ∙ starts (record { members = c.swap.new.x; event = record place.store.event { notifications = c.lend.new.event } }) before.records puts.live puts.waiting c.args.moment
     (ap (λ (m : Contents g.row.K.Denot g.row.D.Denot). m.records) c.swap.ensures.x_after) c.lend.ensures.live c.lend.ensures.waiting in
-    subst (λ (w : World g.row.K.Denot). IsClosed g.K.RecordKind.rules w) (sym start) (closed_begun g.K.RecordKind.rules before.records puts.live puts.waiting c.args.moment c.requires.counted.closed)
+    subst (λ (w : World g.row.K.Denot). CanRun g.K.RecordKind.rules w place.frames) (sym start)
+    (can_run_begun g.K.RecordKind.rules before.records puts.live puts.waiting c.args.moment place.frames c.requires.counted.closed place.no_frame c.requires.frames)
 
 pub take_back-requires-clause-room : goal.take_back-requires-clause-room
 take_back-requires-clause-room g c without =
@@ -33,7 +35,7 @@ invariant_of-place g c = record {
   no_record = ap (λ (m : Contents g.row.K.Denot g.row.D.Denot). len m.records) (c.swap-2.ensures.y_after ∙ c.swap.ensures.y_after) ∙ c.args.place.now.no_record;
   none_live = c.take_back.ensures.live;
   none_waits = c.take_back.ensures.waiting;
-  no_frame = c.run_event-told.ensures.empty;
+  no_frame = c.run_event-told.ensures.run.empty;
   no_answer = c.kept_answers-answers.ensures.empty;
   none_journaled = c.args.place.now.none_journaled;
   ended_fit = c.args.place.now.ended_fit;
@@ -49,6 +51,6 @@ returns-clause-did g c =
     rw c.new.ensures (did g.K.RecordKind.rules g.D.Device.gives c.rules_are_steps.ensures.allowed c.none_live_stays_so.ensures c.notifications_begin_by_notify.ensures
     before puts c.args.tally.now c.run_event-told.new.tally c.begin_at.new.self c.run_event-told.new.store (event_by c.args.event.now) (told_by c.run_event-told.result) c.args.moment c.kept_answers-answers.result
     start c.run_event-told.ensures.step c.kept_answers-answers.ensures.answers
-    (c.begin_at.ensures.members ∙ c.swap.ensures.x_after) c.run_event-told.ensures.keeps c.run_event-told.ensures.given
+    (c.begin_at.ensures.members ∙ c.swap.ensures.x_after) c.run_event-told.ensures.run.keeps c.run_event-told.ensures.run.given
     c.devices_are_owned.ensures.devices c.devices_are_owned.ensures.base c.swap-2.new.x c.swap-2.ensures.x_after c.devices_are_owned-2.ensures.devices c.devices_are_owned-2.ensures.base
     c.lend.new.self c.take_back.new.self c.lend.ensures.lent c.take_back.ensures.kept c.swap-2.new.y c.take_back.new.event c.take_back.ensures.ended)
