@@ -44,7 +44,8 @@ use ioc_record::RecordKind;
 /// After any event except a link change is done on a sound lock set and appended to its history,
 /// the set is sound. It also is after its history is cleared.
 pub fn events_leave_sound<K: RecordKind, D>()
-    ensures event { (h : SetState K D) (entry : Entry) (devices : Devices D) → IsSound K.rules h → length h.history < 64 → TellsOf K.rules h entry →
+    ensures event { (h : SetState K D) (entry : Entry) (devices : Devices D) → IsSound K.rules h → length h.history < 64
+        → TellsOf K.rules h entry →
         IsSound K.rules (held_after K.rules h entry devices) }
     ensures folded { (h : SetState K D) → IsSound K.rules h → IsSound K.rules (folded h) }
 {
@@ -74,9 +75,11 @@ pub fn none_live_stays_so<K: RecordKind>()
 /// and none ends by it.
 pub fn sets_stay_without_puts<K: RecordKind, D: Device>()
     ensures stay { (h after : SetState K D) (moment : ℕ) (event : Event) (reply : Reply) (come_to : World K) →
-        Does K.rules D.gives h moment event reply after come_to → is_ordinary event ≡ true → IsSound K.rules h → NoneIsLive h → NoneIsLive after }
+        Does K.rules D.gives h moment event reply after come_to → is_ordinary event ≡ true → IsSound K.rules h → NoneIsLive h
+        → NoneIsLive after }
     ensures ended { (h after : SetState K D) (moment : ℕ) (event : Event) (reply : Reply) (come_to : World K) →
-        Does K.rules D.gives h moment event reply after come_to → is_ordinary event ≡ true → IsSound K.rules h → NoneIsLive h → come_to.ended ≡ [] }
+        Does K.rules D.gives h moment event reply after come_to → is_ordinary event ≡ true → IsSound K.rules h → NoneIsLive h
+        → come_to.ended ≡ [] }
 {
     rules_are_steps::<K>();
     none_live_stays_so::<K>();
@@ -95,7 +98,8 @@ pub fn notifications_begin_by_notify<K: RecordKind>()
 /// one part and fewer than 2^63 make a sound set with an empty history.
 pub fn calm_records_are_sound<K: RecordKind, D>()
     ensures calm { (h : SetState K D) → IsSound K.rules h → h.live ≡ [] → AreCalm K.rules h.records }
-    ensures sound { (rs : Records K) (ds : Devices D) (counts : Tally) → IsPart (links_of K.rules rs) → AreCalm K.rules rs → len rs < 2 ^ 63 →
+    ensures sound { (rs : Records K) (ds : Devices D) (counts : Tally) → IsPart (links_of K.rules rs) → AreCalm K.rules rs
+        → len rs < 2 ^ 63 →
         CountsAddUp counts (awaited K.rules rs) → IsSound K.rules (with_empty_history rs ds [] [] counts) }
 {
     events_count_holders::<K>();
@@ -110,8 +114,9 @@ pub fn held_records_are_sound<K: RecordKind, D>()
     ensures live { (h : SetState K D) → IsSound K.rules h → AreLive K.rules h.records h.waiting h.live }
     ensures holder { (h : SetState K D) (n : ℕ) → IsSound K.rules h → is_live n h.live ≡ true → IsHeld K.rules (now_of h) n }
     ensures fewer { (h : SetState K D) → IsSound K.rules h → length h.waiting ≤ length h.live }
-    ensures sound { (rs : Records K) (ds : Devices D) (live : List Live) (waiting : List Waiting) (counts : Tally) → IsPart (links_of K.rules rs) →
-        AreHeld K.rules rs live waiting → len rs < 2 ^ 63 → CountsAddUp counts (awaited K.rules rs) → IsSound K.rules (with_empty_history rs ds live waiting counts) }
+    ensures sound { (rs : Records K) (ds : Devices D) (live : List Live) (waiting : List Waiting) (counts : Tally)
+        → IsPart (links_of K.rules rs) → AreHeld K.rules rs live waiting → len rs < 2 ^ 63
+        → CountsAddUp counts (awaited K.rules rs) → IsSound K.rules (with_empty_history rs ds live waiting counts) }
     ensures may_be_one { (h other : SetState K D) → NoneIsLive h → NoneIsLive other → MayBeOne h other }
 {
     events_count_holders::<K>();
@@ -122,7 +127,8 @@ pub fn held_records_are_sound<K: RecordKind, D>()
 pub fn link_changes_are_events<K: RecordKind>()
     ensures { (answers : Answers) (w : World K) (s : ℕ) (field : FieldNo) (link : LinkField) →
         HasLink K.rules w.records s field → stops_put (common_at K.rules w s) field ≡ false → all_there w (named_by (use_of link)) ≡ true →
-        stepped K.rules answers w (Link s field link) ≡ record { world = with_link_changed K.rules w s field link; reply = Plain; requests = None } }
+        stepped K.rules answers w (Link s field link)
+        ≡ record { world = with_link_changed K.rules w s field link; reply = Plain; requests = None } }
 {
     rules_are_steps::<K>();
 }

@@ -67,7 +67,8 @@ impl<K: RecordKind, D> Model for LockSet<K, D> {
 
     ghost view = { λ s. held_by s.members s.puts s.base_tally s.tally s.history.items };
 
-    ghost invariant = { λ s. IsSound K.rules (held_by s.members s.puts s.base_tally s.tally s.history.items) × RecordsAreLikeTheirBase K.rules s.members };
+    ghost invariant = { λ s. IsSound K.rules (held_by s.members s.puts s.base_tally s.tally s.history.items)
+        × RecordsAreLikeTheirBase K.rules s.members };
 }
 
 // Returns the text of a field of one of these records.
