@@ -8,8 +8,9 @@ ghost use Rattle.ioc_engine_core.specs.Linked.{other_of, WasLinked, LinkWasRefus
 use crate::engine::EngineCore;
 use ioc_device::Device;
 use ioc_history::DeskAccount;
-use ioc_journaled_set::{Changed, JournalAccess, JournaledSet, LinkChange, SetsName, change_link};
+use ioc_journaled_set::{Changed, JournalAccess, JournaledSet, SetsName, change_link};
 use ioc_record::RecordKind;
+use ioc_set::LinkChange;
 use ioc_set_store::EventBuffers;
 use ioc_topology::{NewCells, all_sound, are_lent};
 use ioc_values::IocError;

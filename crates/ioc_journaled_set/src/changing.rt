@@ -15,12 +15,12 @@ ghost use Rattle.ioc_journaled_set.specs.Changing.{size_of, KeepsLarger, KeepsLa
 
 use crate::JournaledSet;
 use crate::journal_access::JournalAccess;
-use crate::link_change::LinkChange;
 use crate::sets_name::SetsName;
 use ioc_device::Device;
 use ioc_events::Reply;
 use ioc_history::{DeskAccount, JournalName, Receipt};
 use ioc_record::RecordKind;
+use ioc_set::LinkChange;
 use ioc_set_store::EventBuffers;
 use ioc_topology::Locked;
 use ioc_values::IocError;

@@ -22,7 +22,6 @@ ghost use Rattle.ioc_journaled_set.specs.LinkChanges.{plain_entry, keys_of, IsKn
 use crate::counts::{divide_share, take_share};
 use crate::journal_access::JournalAccess;
 use crate::journaled_set::JournaledSet;
-use crate::link_change::LinkChange;
 use crate::link_laws::{held_sets_may_be_one, led_sets_are_held, parted_sets_are_held};
 use crate::sets_name::SetsName;
 use ioc_device::Device;
@@ -33,7 +32,7 @@ use ioc_history::{
     DeskAccount, EventCounts, JournalName, KeyPass, Keys, Place, Receipt, SharedJournal, pass,
 };
 use ioc_record::RecordKind;
-use ioc_set::LockSet;
+use ioc_set::{LinkChange, LockSet};
 use ioc_set_store::EventBuffers;
 use ioc_values::IocError;
 use std::marker::Brand;
@@ -100,8 +99,7 @@ impl<K: RecordKind + Drop, B: SetsName<K, D>, D: Device> JournaledSet<K, B, D> {
     /// Changes a link of a record to a record of this set, or to none, and adds the change to the
     /// journal. The set keeps the record's part, and the records that no link connects with it any
     /// more are returned as a journaled set of their own, which may be without records. Live puts
-    /// with notification go with their records; see [`LockSet::part`]. `link` and `base_link` are
-    /// equal.
+    /// with notification go with their records; see [`LockSet::part`].
     ///
     /// # Errors
     ///
@@ -129,25 +127,13 @@ impl<K: RecordKind + Drop, B: SetsName<K, D>, D: Device> JournaledSet<K, B, D> {
     {
         holding_lasts::<K>();
         parted_sets_are_held::<K, D>();
-        let LinkChange {
-            number,
-            field,
-            link,
-            base_link,
-            moment,
-        } = change;
-        let chosen = link.get();
+        let number = change.number;
+        let field = change.field;
+        let chosen = change.link.get();
+        let moment = change.moment;
         let started = self.set.tally().started;
         let place = access.journal.reserve(access.rt, access.alloc, desk)?;
-        let rest = match self.set.part(
-            buffers,
-            access.alloc,
-            number,
-            field,
-            link,
-            base_link,
-            moment,
-        ) {
+        let rest = match self.set.part(buffers, access.alloc, change) {
             Ok(rest) => rest,
             Err(_refused) => {
                 access.journal.give_back(access.rt, desk, place);
@@ -216,7 +202,7 @@ impl<K: RecordKind + Drop, B: SetsName<K, D>, D: Device> JournaledSet<K, B, D> {
     /// that set, and adds the change to the journal. The records of this set that only the old link
     /// connected with the record are returned as a journaled set of their own, which may be without
     /// records; the other set is left without records. Live puts with notification go with their
-    /// records; see [`LockSet::lead_into`]. `link` and `base_link` are equal.
+    /// records; see [`LockSet::lead_into`].
     ///
     /// # Errors
     ///
@@ -245,28 +231,18 @@ impl<K: RecordKind + Drop, B: SetsName<K, D>, D: Device> JournaledSet<K, B, D> {
         holding_lasts::<K>();
         led_sets_are_held::<K, D>();
         self.compare(access.rt, access.journal, other);
-        let LinkChange {
-            number,
-            field,
-            link,
-            base_link,
-            moment,
-        } = change;
-        let chosen = link.get();
+        let number = change.number;
+        let field = change.field;
+        let chosen = change.link.get();
+        let moment = change.moment;
         self.set.devices_are_owned();
         other.set.devices_are_owned();
         let started = self.set.tally().started;
         let place = access.journal.reserve(access.rt, access.alloc, desk)?;
-        let rest = match self.set.lead_into(
-            &mut other.set,
-            buffers,
-            access.alloc,
-            number,
-            field,
-            link,
-            base_link,
-            moment,
-        ) {
+        let rest = match self
+            .set
+            .lead_into(&mut other.set, buffers, access.alloc, change)
+        {
             Ok(rest) => rest,
             Err(_refused) => {
                 access.journal.give_back(access.rt, desk, place);

@@ -5,6 +5,7 @@ mod awaited;
 pub mod awaiting_laws;
 mod events;
 pub mod laws;
+pub mod link_change;
 mod link_changes;
 pub mod linking;
 pub mod lock_set;
@@ -16,4 +17,5 @@ pub use laws::{
     calm_records_are_sound, events_leave_sound, held_records_are_sound, link_changes_are_events,
     none_live_stays_so, notifications_begin_by_notify, sets_stay_without_puts,
 };
+pub use link_change::LinkChange;
 pub use lock_set::LockSet;

@@ -12,11 +12,11 @@ ghost use Rattle.ioc_set.specs.Doing.{with_kept};
 
 use crate::awaited::take_awaited;
 use crate::laws::held_records_are_sound;
+use crate::link_change::LinkChange;
 use crate::linking::{add_counts, clear_history, rescan_on};
 use crate::lock_set::LockSet;
 use ioc_dbcommon::LinkBox;
 use ioc_device::Device;
-use ioc_fields::FieldNo;
 use ioc_ledger::Tally;
 use ioc_links::MAX_DEVICE_BYTES;
 use ioc_names::RecordNo;
@@ -33,23 +33,16 @@ impl<K: RecordKind + Drop, D: Drop> LockSet<K, D> {
     /// set of their own, which may be empty and which counts the answers that they still await.
     /// Each record stays part of its put with notification, each waiting put stays with its record,
     /// and the parts of each are recounted in both sets. Nothing is sent yet: see
-    /// [`LockSet::rescan`]. `link` and `base_link` must be equal.
+    /// [`LockSet::rescan`].
     ///
     /// # Errors
     ///
     /// [`AllocError`] if allocation fails; nothing has changed then, except that the history is
     /// cleared.
-    pub fn split(
-        &mut self,
-        alloc: Global,
-        number: RecordNo,
-        field: FieldNo,
-        link: LinkBox,
-        base_link: LinkBox,
-    ) -> Result<LockSet<K, D>, AllocError>
-        requires link { MayLink K.rules self.old.records number field link base_link }
-        ensures apart { IfOk result (λ rest. FallsApart self.old (relinked K.rules self.old.records number field link) number self.new
-            rest) }
+    pub fn split(&mut self, alloc: Global, change: LinkChange) -> Result<LockSet<K, D>, AllocError>
+        requires link { MayLink K.rules self.old.records change.number change.field change.link change.base_link }
+        ensures apart { IfOk result (λ rest. FallsApart self.old
+            (relinked K.rules self.old.records change.number change.field change.link) change.number self.new rest) }
         ensures fewer { OnOk result (map.len self.new.records ≤ map.len self.old.records) }
         ensures err { OnErr result (self.new ≡ folded self.old) }
     {
@@ -58,6 +51,13 @@ impl<K: RecordKind + Drop, D: Drop> LockSet<K, D> {
         self.puts.are_few();
         let stay_room = self.puts.room(alloc)?;
         let rest_room = self.puts.room(alloc)?;
+        let LinkChange {
+            number,
+            field,
+            link,
+            base_link,
+            moment: _,
+        } = change;
         let rest = self.members.part(alloc, number, field, link, base_link)?;
         self.members.are_few();
         rest.are_few();
@@ -82,31 +82,35 @@ impl<K: RecordKind + Drop, D: Drop> LockSet<K, D> {
     /// empty then. Each record stays part of its put with notification, the puts that wait in the
     /// other set come behind those that wait here, and the parts of each are recounted, for which
     /// memory was reserved before too, if any is live. No put may wait in both, and the live ones
-    /// must fit into one set. Nothing is sent yet: see [`LockSet::rescan`]. `link` and `base_link`
-    /// must be equal.
+    /// must fit into one set. Nothing is sent yet: see [`LockSet::rescan`].
     pub fn unite(
         &mut self,
         alloc: Global,
         room: JoinBuffers<K, D>,
         puts_room: Option<PutsRoom>,
         other: &mut LockSet<K, D>,
-        number: RecordNo,
-        field: FieldNo,
-        link: LinkBox,
-        base_link: LinkBox,
+        change: LinkChange,
     )
         requires one { MayBeOne self.old other.old }
         requires puts_room { puts_room ≡ None → NoneIsLive self.old × NoneIsLive other.old }
         requires room { map.len self.old.records + map.len other.old.records ≤ room.count }
-        requires base_link { base_link ≡ link }
+        requires base_link { change.base_link ≡ change.link }
         requires apart { (q : ℕ) → IsSome (map.get self.old.records q) → map.get other.old.records q ≡ None }
-        requires free { HasFreeLink K.rules self.old.records number field }
-        requires to { (t : ℕ) × (named_by (use_of link) ≡ t ∷ []) × IsSome (map.get other.old.records t) }
-        ensures { BecomeOne self.old other.old (relinked K.rules self.old.records number field link) self.new other.new }
+        requires free { HasFreeLink K.rules self.old.records change.number change.field }
+        requires to { (t : ℕ) × (named_by (use_of change.link) ≡ t ∷ []) × IsSome (map.get other.old.records t) }
+        ensures { BecomeOne self.old other.old (relinked K.rules self.old.records change.number change.field change.link) self.new
+            other.new }
     {
         held_records_are_sound::<K, D>();
         self.fold();
         other.fold();
+        let LinkChange {
+            number,
+            field,
+            link,
+            base_link,
+            moment: _,
+        } = change;
         self.members
             .join(room, &mut other.members, number, field, link, base_link);
         self.members.are_few();
@@ -151,8 +155,7 @@ impl<K: RecordKind + Drop, D: Device> LockSet<K, D> {
     /// Changes a link of a record, which leads nowhere then, or to a record of this set. The set
     /// keeps the part of the record and the counts. The records that no link joins to it any more
     /// are returned as a set of their own, which may be empty. Live puts with notification stay
-    /// with their records, as described at [`LockSet::split`]. `link` and `base_link` must be
-    /// equal.
+    /// with their records, as described at [`LockSet::split`].
     ///
     /// # Errors
     ///
@@ -162,22 +165,21 @@ impl<K: RecordKind + Drop, D: Device> LockSet<K, D> {
         &mut self,
         place: &mut EventBuffers<K, D>,
         alloc: Global,
-        number: RecordNo,
-        field: FieldNo,
-        link: LinkBox,
-        base_link: LinkBox,
-        moment: u64,
+        change: LinkChange,
     ) -> Result<LockSet<K, D>, AllocError>
-        requires link { MayLink K.rules self.old.records number field link base_link }
-        ensures apart { IfOk result (λ rest. FallsApart self.old (link_change_of K.rules self.old moment number field link).records
-            number self.new rest) }
-        ensures left { OnOk result (with_kept (link_change_of K.rules self.old moment number field link).records self.old.live
+        requires link { MayLink K.rules self.old.records change.number change.field change.link change.base_link }
+        ensures apart { IfOk result (λ rest. FallsApart self.old
+            (link_change_of K.rules self.old change.moment change.number change.field change.link).records change.number self.new rest) }
+        ensures left { OnOk result (with_kept
+            (link_change_of K.rules self.old change.moment change.number change.field change.link).records self.old.live
             self.old.waiting (world_of place.new.store)
-            ≡ link_change_of K.rules self.old moment number field link) }
+            ≡ link_change_of K.rules self.old change.moment change.number change.field change.link) }
         ensures err { OnErr result (self.new ≡ folded self.old) }
     {
+        let number = change.number;
+        let moment = change.moment;
         let before = self.device_text(number);
-        let rest = self.split(alloc, number, field, link, base_link)?;
+        let rest = self.split(alloc, change)?;
         self.rescan(place, number, before, moment);
         Ok(rest)
     }
@@ -187,8 +189,7 @@ impl<K: RecordKind + Drop, D: Device> LockSet<K, D> {
     /// set that only this link had joined to that record are returned as a set of their own, which
     /// may be empty. Live puts with notification stay with their records, as described at
     /// [`LockSet::split`] and [`LockSet::unite`]; no put may wait in both sets, and the live ones
-    /// must fit into one. All memory is allocated before anything changes. `link` and `base_link`
-    /// must be equal.
+    /// must fit into one. All memory is allocated before anything changes.
     ///
     /// # Errors
     ///
@@ -199,19 +200,15 @@ impl<K: RecordKind + Drop, D: Device> LockSet<K, D> {
         other: &mut LockSet<K, D>,
         place: &mut EventBuffers<K, D>,
         alloc: Global,
-        number: RecordNo,
-        field: FieldNo,
-        link: LinkBox,
-        base_link: LinkBox,
-        moment: u64,
+        change: LinkChange,
     ) -> Result<LockSet<K, D>, AllocError>
         requires one { MayBeOne self.old other.old }
-        requires base_link { base_link ≡ link }
+        requires base_link { change.base_link ≡ change.link }
         requires apart { (q : ℕ) → IsSome (map.get self.old.records q) → map.get other.old.records q ≡ None }
-        requires field { HasLink K.rules self.old.records number field }
-        requires to { (t : ℕ) × (named_by (use_of link) ≡ t ∷ []) × IsSome (map.get other.old.records t) }
-        ensures led { IfOk result (λ rest. LeadsInto K.rules self.old other.old moment number field link self.new other.new rest
-            (world_of place.new.store)) }
+        requires field { HasLink K.rules self.old.records change.number change.field }
+        requires to { (t : ℕ) × (named_by (use_of change.link) ≡ t ∷ []) × IsSome (map.get other.old.records t) }
+        ensures led { IfOk result (λ rest. LeadsInto K.rules self.old other.old change.moment change.number change.field change.link self.new
+            other.new rest (world_of place.new.store)) }
         ensures err { OnErr result ((self.new ≡ folded self.old) × (other.new ≡ other.old)) }
     {
         held_records_are_sound::<K, D>();
@@ -222,12 +219,19 @@ impl<K: RecordKind + Drop, D: Device> LockSet<K, D> {
         self.fold();
         let room = JoinBuffers::new(alloc, self.len() + other.len())?;
         let puts_room = self.puts_room_with(other, alloc)?;
+        let number = change.number;
+        let moment = change.moment;
         let before = self.device_text(number);
-        let rest = self.split(alloc, number, field, LinkBox::empty(), LinkBox::empty())?;
+        let cut = LinkChange {
+            number,
+            field: change.field,
+            link: LinkBox::empty(),
+            base_link: LinkBox::empty(),
+            moment,
+        };
+        let rest = self.split(alloc, cut)?;
         self.is_sound();
-        self.unite(
-            alloc, room, puts_room, other, number, field, link, base_link,
-        );
+        self.unite(alloc, room, puts_room, other, change);
         self.is_sound();
         self.rescan(place, number, before, moment);
         Ok(rest)

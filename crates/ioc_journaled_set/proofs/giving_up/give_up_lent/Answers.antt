@@ -36,8 +36,8 @@ pub take_back_all-requires-clause-counted : goal.take_back_all-requires-clause-c
 take_back_all-requires-clause-counted g c =
     let e = c.give_up_all-given.ensures in
     let counted =
-        subst (λ (ss : List (SetState g.row.K.Denot g.row.D.Denot)). EachIsCounted ss c.as_mut_slice.result.now) (sym c.as_mut_slice-sets.ensures.value)
-        (subst (λ (hs : List (Option ShareView)). EachIsCounted c.args.lent.sets.items hs) (sym c.as_mut_slice.ensures.value) c.requires.counted) in
+    subst (λ (ss : List (SetState g.row.K.Denot g.row.D.Denot)). EachIsCounted ss c.as_mut_slice.result.now) (sym c.as_mut_slice-sets.ensures.value)
+    (subst (λ (hs : List (Option ShareView)). EachIsCounted c.args.lent.sets.items hs) (sym c.as_mut_slice.ensures.value) c.requires.counted) in
     still_counted g.K.RecordKind.rules c.args.moment c.args.put.number c.as_mut_slice-sets.result.now c.give_up_all-given.new.sets c.as_mut_slice.result.now c.give_up_all-given.auto.sets counted
     g.B.JournalName.base g.B.CellName.table (c.give_up_all-given.new.keeper ≡ c.args.keeper.now) (c.give_up_all-given.new.desk ≡ c.args.desk.now) (AreItsSets c.args.put.number c.args.put.holders c.as_mut_slice-sets.result.now → ⊥) c.give_up_all-given.result
     c.args.desk.now c.give_up_all-given.new.desk c.as_mut_slice-passes.result.now c.give_up_all-given.new.passes (cell_view c.args.keeper.now) (cell_view c.give_up_all-given.new.keeper) e.gave_up e.missing e.err

@@ -3,7 +3,7 @@ use Rattle.std.specs.Prelude.{IfOk, IfErr}
 use Rattle.ioc_set_store.specs.SetStore.{world_of}
 use Rattle.ioc_history.specs.Account.{DeskView}
 use Rattle.ioc_topology.specs.Change.{AreLent}
-use Rattle.ioc_journaled_set.specs.declared.link_change.LinkChange.{LinkChange}
+use Rattle.ioc_set.specs.declared.link_change.LinkChange.{LinkChange}
 use Rattle.ioc_journaled_set.specs.Holding.{numbers_of}
 use Rattle.ioc_engine_core.specs.Linked.{other_of, WasLinked, LinkWasRefused}
 use Rattle.ioc_engine_core.proofs.engine.EngineCore.relink.Goals as goal

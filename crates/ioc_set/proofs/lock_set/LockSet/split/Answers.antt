@@ -34,20 +34,20 @@ module _ (g : Over) (c : After-are_few-3 g) where
       let fewer = sound_fewer g.K.RecordKind.rules (held_by s.members s.puts s.base_tally s.tally s.history.items) c.self.invariant.0 in
       omega (arith, few, fewer)
 
-  there : IsSome (get c.self.inside.members.records c.args.number)
-  there = subst (λ (rs : Records g.row.K.Denot). IsSome (get rs c.args.number)) (sym cleared.records) (ap is_some c.requires.link.0.1)
+  there : IsSome (get c.self.inside.members.records c.args.change.number)
+  there = subst (λ (rs : Records g.row.K.Denot). IsSome (get rs c.args.change.number)) (sym cleared.records) (ap is_some c.requires.link.0.1)
 
   stays : Within g.K.RecordKind.rules c.self.inside.members.records c.part.new.self.records
-  stays = stay_within g.K.RecordKind.rules g.met.K.RecordKind.lawful c.args.number c.args.field c.args.link c.self.inside.members.records c.part.new.self.records c.in_ok-rest.rest.records there c.in_ok-rest.ensures.shared
+  stays = stay_within g.K.RecordKind.rules g.met.K.RecordKind.lawful c.args.change.number c.args.change.field c.args.change.link c.self.inside.members.records c.part.new.self.records c.in_ok-rest.rest.records there c.in_ok-rest.ensures.shared
 
   leaves : Within g.K.RecordKind.rules c.self.inside.members.records c.in_ok-rest.rest.records
-  leaves = rest_within g.K.RecordKind.rules g.met.K.RecordKind.lawful c.args.number c.args.field c.args.link c.self.inside.members.records c.part.new.self.records c.in_ok-rest.rest.records there c.in_ok-rest.ensures.shared
+  leaves = rest_within g.K.RecordKind.rules g.met.K.RecordKind.lawful c.args.change.number c.args.change.field c.args.change.link c.self.inside.members.records c.part.new.self.records c.in_ok-rest.rest.records there c.in_ok-rest.ensures.shared
 
   few_leave : awaited g.K.RecordKind.rules c.in_ok-rest.rest.records < 2 ^ 63
   few_leave = omega (arith, awaited-few g.K.RecordKind.rules c.in_ok-rest.rest.records, c.are_few-3.ensures)
 
   parts : awaited g.K.RecordKind.rules c.self.inside.members.records ≡ awaited g.K.RecordKind.rules c.part.new.self.records + awaited g.K.RecordKind.rules c.in_ok-rest.rest.records
-  parts = awaited-parted g.K.RecordKind.rules g.met.K.RecordKind.lawful c.self.inside.members.records c.part.new.self.records c.in_ok-rest.rest.records c.args.number c.args.field c.args.link there c.in_ok-rest.ensures.shared
+  parts = awaited-parted g.K.RecordKind.rules g.met.K.RecordKind.lawful c.self.inside.members.records c.part.new.self.records c.in_ok-rest.rest.records c.args.change.number c.args.change.field c.args.change.link there c.in_ok-rest.ensures.shared
 
 pub part-requires-clause-folded : goal.part-requires-clause-folded
 part-requires-clause-folded g c =
@@ -114,7 +114,7 @@ returns-clause-apart g c =
     let together = parts_add_up c.self.inside.tally (awaited k c.self.inside.members.records) (awaited k c.part.new.self.records) count (cleared g at).counts (parts g at) in
     let stay = c.own_puts-stay_puts in
     let rest = c.own_puts-rest_puts in
-    fell_apart k c.args.number c.args.field c.args.link c.args.self.now c.self.inside.members c.part.new.self c.in_ok-rest.rest c.self.inside.puts stay.result rest.result count c.self.inside.tally
+    fell_apart k c.args.change.number c.args.change.field c.args.change.link c.args.self.now c.self.inside.members c.part.new.self c.in_ok-rest.rest c.self.inside.puts stay.result rest.result count c.self.inside.tally
     c.take_awaited-rest_tally.new.tally c.take_awaited-rest_tally.new.tally c.take_awaited-rest_tally.result c.take_awaited-rest_tally.result c.self.inside.history.items c.new.result.items
     (cleared g at) (c.take_awaited-rest_tally.ensures.stays ∙ ap (λ (t : Tally). less_awaited t count) was)
     c.in_ok-rest.ensures.shared c.in_ok-rest.ensures.devices c.in_ok-rest.ensures.own

@@ -34,8 +34,8 @@ module _ (g : Over) (c : After-join g) where
       let live = c.held_records_are_sound.ensures.live (held_by s.members s.puts s.base_tally s.tally s.history.items) c.other.invariant.0 in
       folded_is_cleared g.K.RecordKind.rules c.args.other.now s.members s.puts s.base_tally s.tally s.history.items (c.other.view_is ∙ c.fold-2.ensures) c.other.invariant.0 live
 
-  there : IsSome (get c.self.inside.members.records c.args.number)
-  there = subst (λ (rs : Records g.row.K.Denot). IsSome (get rs c.args.number)) (sym first.records) (ap is_some c.requires.free.1)
+  there : IsSome (get c.self.inside.members.records c.args.change.number)
+  there = subst (λ (rs : Records g.row.K.Denot). IsSome (get rs c.args.change.number)) (sym first.records) (ap is_some c.requires.free.1)
 
 pub join-requires-clause-folded : goal.join-requires-clause-folded
 join-requires-clause-folded g c =
@@ -50,7 +50,7 @@ join-requires-clause-other_folded g c =
 pub joined_puts-puts-requires-clause-live : goal.joined_puts-puts-requires-clause-live
 joined_puts-puts-requires-clause-live g c =
     let at = (goal.at.joined_puts-puts-requires-clause-live g c).After-join in
-    joined_live g.K.RecordKind.rules g.met.K.RecordKind.lawful c.self.inside.members.records c.other.inside.members.records c.join.new.self.records c.args.number c.args.field c.args.link (there g at) c.join.ensures.shared
+    joined_live g.K.RecordKind.rules g.met.K.RecordKind.lawful c.self.inside.members.records c.other.inside.members.records c.join.new.self.records c.args.change.number c.args.change.field c.args.change.link (there g at) c.join.ensures.shared
     c.self.inside.puts.waiting c.other.inside.puts.waiting c.self.inside.puts.live c.other.inside.puts.live (first g at).are_live (second g at).are_live
 
 pub joined_puts-puts-requires-clause-once : goal.joined_puts-puts-requires-clause-once
@@ -73,7 +73,7 @@ invariant_of-self g c =
     let joined = c.joined_puts-puts in
     empty_history_is_sound k c.held_records_are_sound.ensures.sound c.join.new.self joined.result c.add_counts.new.tally c.add_counts.new.tally c.self.inside.history.items
     joined.ensures.begun c.join.ensures.base refl (ap (λ (h : SetState g.row.K.Denot g.row.D.Denot). h.history) (c.self.view_is ∙ c.fold.ensures)) c.join.ensures.part
-    (joined_held k lawful begun others both c.args.number c.args.field c.args.link (there g at) c.join.ensures.shared
+    (joined_held k lawful begun others both c.args.change.number c.args.change.field c.args.change.link (there g at) c.join.ensures.shared
     c.self.inside.puts.live c.other.inside.puts.live joined.result.live c.self.inside.puts.waiting c.other.inside.puts.waiting joined.result.waiting one.held two.held
     (λ x in_one. subst (λ (rs : Records g.row.K.Denot). IsSome (get rs x.target)) (sym one.records) (c.requires.one.own x (subst (λ (l : List Waiting). Contains l x) one.waiting in_one)))
     (λ x in_other. subst (λ (rs : Records g.row.K.Denot). IsSome (get rs x.target)) (sym two.records) (c.requires.one.others_own x (subst (λ (l : List Waiting). Contains l x) two.waiting in_other)))
@@ -81,7 +81,7 @@ invariant_of-self g c =
     c.are_few.ensures
     (subst (λ (t : Tally). CountsAddUp t (awaited k both)) (sym c.add_counts.ensures)
     (both_add_up c.self.inside.tally c.other.inside.tally (awaited k begun) (awaited k others) (awaited k both) one.counts two.counts
-    (awaited-joined k lawful begun others both c.args.number c.args.field c.args.link (there g at) c.join.ensures.shared)))
+    (awaited-joined k lawful begun others both c.args.change.number c.args.change.field c.args.change.link (there g at) c.join.ensures.shared)))
 
 pub invariant_of-other : goal.invariant_of-other
 invariant_of-other g c =
@@ -105,7 +105,7 @@ returns g c =
       completed = zeros.1.1.1.1.1.1 i;
     } in
     let joined = c.joined_puts-puts in
-    became_one g.K.RecordKind.rules c.args.number c.args.field c.args.link c.args.self.now c.args.other.now c.self.inside.members c.other.inside.members c.join.new.self c.join.new.other
+    became_one g.K.RecordKind.rules c.args.change.number c.args.change.field c.args.change.link c.args.self.now c.args.other.now c.self.inside.members c.other.inside.members c.join.new.self c.join.new.other
     c.self.inside.puts c.other.inside.puts joined.result c.none.result c.self.inside.tally c.other.inside.tally c.add_counts.new.tally c.default-other-inside.result c.self.inside.history.items c.other.inside.history.items
     (first g at) (second g at)
     c.join.ensures.shared c.join.ensures.devices joined.ensures.waiting (λ nobody other_nobody. joined.ensures.none nobody other_nobody)
