@@ -1,6 +1,6 @@
 -- What a set knows after an event of its own.
-use Rattle.std.proofs.Common.{◌≡◌, ◌↔◌, ℕ, Bool, true, false, cond, List, [], ◌∷◌, ◌++◌, length, Option, Some, None, Result, Ok, Err, refl, sym, ap, ◌∙◌, subst, zero, suc, arith}
-use Rattle.std.specs.Prelude.{◌==◌, Contains, is_some, IfOk, OnOk}
+use Rattle.std.proofs.Common.{◌≡◌, ◌↔◌, ℕ, Bool, true, false, cond, List, [], ◌∷◌, ◌++◌, length, Option, Some, None, refl, sym, ap, ◌∙◌, subst, zero, suc, arith}
+use Rattle.std.specs.Prelude.{◌==◌, Contains, is_some}
 use Rattle.std.specs.Ordering.{nat_cmp}
 use Rattle.std.specs.FinMap.{FinMap, get, len}
 use Rattle.std.specs.Option.{IfSome}
@@ -70,11 +70,6 @@ ordinary_on (Link s field link) is = absurd (false_true is)
 ordinary_on (Notify s n field given) is = absurd (false_true is)
 ordinary_on (Cancel n) is = absurd (false_true is)
 ordinary_on (IsLive n) is = absurd (false_true is)
-
--- What follows for the value of a result, of which something is true whatever it is.
-pub begins_by : {A E : Type 0} {P R : A → Type 0} {Q : Type 0} (r : Result A E) → ((a : A) → Q → P a → R a) → OnOk r Q → IfOk r P → IfOk r R
-begins_by (Ok a) f q p = f a q p
-begins_by (Err e) f q p = tt
 
 -- What follows for the number that there may be.
 pub if_some_then : {A : Type 0} {P Q : A → Type 0} (o : Option A) → ((a : A) → P a → Q a) → IfSome o P → IfSome o Q

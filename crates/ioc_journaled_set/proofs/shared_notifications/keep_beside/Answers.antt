@@ -84,14 +84,16 @@ pub recount-requires-clause-there : goal.recount-requires-clause-there
 recount-requires-clause-there g c n =
     let at = (goal.at.recount-requires-clause-there g c).After-append_two-appended in
     let seen = (cell_view c.all.inside.pass).seen in
-    before_there g.K.RecordKind.rules c.live_lasts.ensures g.B.JournalName.base seen (log g at) c.append_two-appended.new.desk.seen c.all.inside.table.live c.args.ran.before.items c.args.set.now.live c.all.invariant.counted (added g at).also_goes_on (added g at).legal (moved g at) n
+    subst (λ (ls : List Live). holders_in n ls ≤ holders_in n c.all.inside.table.live) (sym c.deref.ensures.value)
+    (before_there g.K.RecordKind.rules c.live_lasts.ensures g.B.JournalName.base seen (log g at) c.append_two-appended.new.desk.seen c.all.inside.table.live c.args.ran.before.items c.args.set.now.live c.all.invariant.counted (added g at).also_goes_on (added g at).legal (moved g at) n)
 
 pub recount-requires-clause-fits : goal.recount-requires-clause-fits
 recount-requires-clause-fits g c n =
     let at = (goal.at.recount-requires-clause-fits g c).After-append_two-appended in
     let seen = (cell_view c.all.inside.pass).seen in
-    subst (λ (ls : List Live). holders_in n c.all.inside.table.live + holders_in n ls < 2 ^ 64 + holders_in n c.args.ran.before.items) (sym c.live_puts.ensures)
-    (sums_fit g.K.RecordKind.rules c.live_lasts.ensures g.B.JournalName.base seen (log g at) c.append_two-appended.new.desk.seen c.all.inside.table.live c.args.ran.before.items c.args.set.now.live c.all.invariant.counted (added g at).also_goes_on (added g at).legal (moved g at) n)
+    subst (λ (ls : List Live). holders_in n c.all.inside.table.live + holders_in n c.live_puts.result.now < 2 ^ 64 + holders_in n ls) (sym c.deref.ensures.value)
+    (subst (λ (ls : List Live). holders_in n c.all.inside.table.live + holders_in n ls < 2 ^ 64 + holders_in n c.args.ran.before.items) (sym c.live_puts.ensures)
+    (sums_fit g.K.RecordKind.rules c.live_lasts.ensures g.B.JournalName.base seen (log g at) c.append_two-appended.new.desk.seen c.all.inside.table.live c.args.ran.before.items c.args.set.now.live c.all.invariant.counted (added g at).also_goes_on (added g at).legal (moved g at) n))
 
 pub invariant_of-all : goal.invariant_of-all
 invariant_of-all g c =
@@ -103,7 +105,8 @@ invariant_of-all g c =
     let added = added g at in
     let moved = moved g at in
     let log = log g at in
-    let counts = subst (λ (ls : List Live). (n : ℕ) → holders_in n c.recount.new.table.live + holders_in n c.args.ran.before.items ≡ holders_in n c.all.inside.table.live + holders_in n ls) c.live_puts.ensures c.recount.ensures.counts in
+    let counts = subst (λ (ls : List Live). (n : ℕ) → holders_in n c.recount.new.table.live + holders_in n c.args.ran.before.items ≡ holders_in n c.all.inside.table.live + holders_in n ls) c.live_puts.ensures
+    (subst (λ (ls : List Live). (n : ℕ) → holders_in n c.recount.new.table.live + holders_in n ls ≡ holders_in n c.all.inside.table.live + holders_in n c.live_puts.result.now) c.deref.ensures.value c.recount.ensures.counts) in
     let told = counted_then k c.live_lasts.ensures base (cell_view c.all.inside.pass).seen log longer c.all.inside.table.live c.args.ran.before.items c.args.set.now.live c.all.invariant.counted added.also_goes_on added.legal moved c.recount.new.table.live counts in
     let other = c.append_two-appended.ensures.other in
     let short = c.tables_are_short.ensures c.recount.new.table.live (map_of k base longer).live c.is_table-2.ensures told in
