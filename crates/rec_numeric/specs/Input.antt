@@ -1,18 +1,17 @@
 -- The types longin and int64in. Record Reference Manual, "Long Input Record" and "64bit Integer
 -- Input Record".
-use Rattle.std.specs.Prelude.{ℤ, [], Option, Some, None}
+use Rattle.std.specs.Prelude.{ℤ, []}
 use Rattle.ioc_values.specs.declared.value.Value.{Value}
 use Rattle.ioc_fields.specs.declared.field_no.OwnField.{OwnField}
-use Rattle.ioc_fields.specs.declared.field_no.OwnField.TheVariants.{Val, Inp}
+use Rattle.ioc_fields.specs.declared.field_no.OwnField.TheVariants.{Val}
 use Rattle.ioc_dbcommon.specs.declared.body.Got.{Got}
 use Rattle.ioc_dbcommon.specs.declared.body.Got.TheVariants as got
-use Rattle.ioc_dbcommon.specs.declared.body.InputKind.{InputKind}
 use Rattle.ioc_dbcommon.specs.declared.body.InputKind.TheVariants as input
 use Rattle.ioc_dbcommon.specs.declared.body.Output.TheVariants.{NoOutput}
 use Rattle.ioc_dbcommon.specs.Source.{new_source, source_link, source_with_link, source_begin}
-use Rattle.ioc_record.specs.BodyRules.{BodyRules, BodyState}
+use Rattle.ioc_record.specs.BodyRules.{BodyRules, BodyState, inp_constant_kind}
 use Rattle.rec_numeric.specs.Number.{NumberRules}
-use Rattle.rec_numeric.specs.Constant.{constant_put}
+use Rattle.rec_numeric.specs.Constant.{constant_loaded}
 use Rattle.rec_numeric.specs.Numeric.{new_numeric, numeric_get, numeric_stored, tested, with_last_alarmed}
 use Rattle.rec_numeric.specs.declared.input.NumericInput.{NumericInput}
 
@@ -46,17 +45,6 @@ came k h _ = h
 unfoldable pub input_taken : {N : Type 0} → NumberRules N → (N → ℤ) → BodyState (NumericInput N) → Got → BodyState (NumericInput N)
 input_taken k whole h got = alarmed whole (came k h got)
 
--- ---- The load
-
--- A constant in INP must convert to VAL.
-abbrev pub input_constant_kind : {N : Type 0} → NumberRules N → OwnField → Option InputKind
-input_constant_kind k Inp = Some (input.Number k.range)
-input_constant_kind k _ = None
-
--- The fields after the end of a load: a constant link is put into VAL, and then LALM becomes VAL.
-abbrev pub input_loaded : {N : Type 0} → NumberRules N → BodyState (NumericInput N) → BodyState (NumericInput N)
-input_loaded k h = let p = constant_put (input_stored k) k.range h h.body.source.input.link in record p { body = record p.body { numbers = with_last_alarmed p.body.numbers } }
-
 -- ---- All of it
 
 abbrev pub numeric_input : {N : Type 0} → NumberRules N → (N → ℤ) → BodyRules (NumericInput N)
@@ -72,6 +60,6 @@ numeric_input k whole = record {
   input_kind = λ h. input.Number k.range;
   taken = input_taken k whole;
   output = λ h got. NoOutput;
-  constant_kind = λ h. input_constant_kind k;
-  loaded = input_loaded k;
+  constant_kind = λ h. inp_constant_kind (input.Number k.range);
+  loaded = λ h. constant_loaded (input_stored k) (λ b. record b { numbers = with_last_alarmed b.numbers }) k.range h h.body.source.input.link;
 }

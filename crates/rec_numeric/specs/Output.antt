@@ -1,19 +1,18 @@
 -- The types longout and int64out. Record Reference Manual, "Long Output Record" and "64bit Integer
 -- Output Record".
-use Rattle.std.specs.Prelude.{ℤ, int_lt, if◌then◌else◌, [], Option, Some, None, unwrap_or}
+use Rattle.std.specs.Prelude.{ℤ, int_lt, if◌then◌else◌, [], Option, Some, unwrap_or}
 use Rattle.ioc_values.specs.declared.value.Value.{Value}
 use Rattle.ioc_fields.specs.declared.field_no.OwnField.{OwnField}
-use Rattle.ioc_fields.specs.declared.field_no.OwnField.TheVariants.{Val, Dol, Omsl, Drvh, Drvl, Ivoa, Ivov}
+use Rattle.ioc_fields.specs.declared.field_no.OwnField.TheVariants.{Val, Omsl, Drvh, Drvl, Ivoa, Ivov}
 use Rattle.ioc_dbcommon.specs.declared.body.Got.{Got}
 use Rattle.ioc_dbcommon.specs.declared.body.Got.TheVariants as got
-use Rattle.ioc_dbcommon.specs.declared.body.InputKind.{InputKind}
 use Rattle.ioc_dbcommon.specs.declared.body.InputKind.TheVariants as input
 use Rattle.ioc_dbcommon.specs.declared.body.Output.{Output}
 use Rattle.ioc_dbcommon.specs.declared.body.Output.TheVariants.{NoOutput}
 use Rattle.ioc_dbcommon.specs.Drive.{new_drive, drive_link, drive_with_link, drive_get, drive_stored, drive_begin, sets, drives, written}
-use Rattle.ioc_record.specs.BodyRules.{BodyRules, BodyState}
+use Rattle.ioc_record.specs.BodyRules.{BodyRules, BodyState, dol_constant_kind}
 use Rattle.rec_numeric.specs.Number.{NumberRules}
-use Rattle.rec_numeric.specs.Constant.{constant_put}
+use Rattle.rec_numeric.specs.Constant.{constant_loaded}
 use Rattle.rec_numeric.specs.Numeric.{new_numeric, numeric_get, numeric_stored, tested, with_last_alarmed}
 use Rattle.rec_numeric.specs.declared.output.NumericOutput.{NumericOutput}
 
@@ -95,17 +94,6 @@ driven k h = if drives h.body.drive.on_invalid h.condition then written h.body.d
 unfoldable pub output_driven : {N : Type 0} → NumberRules N → (N → ℤ) → BodyState (NumericOutput N) → Got → Output
 output_driven k whole h got = driven k (output_taken k whole h got)
 
--- ---- The load
-
--- A constant in DOL must convert to VAL.
-abbrev pub output_constant_kind : {N : Type 0} → NumberRules N → OwnField → Option InputKind
-output_constant_kind k Dol = Some (input.Number k.range)
-output_constant_kind k _ = None
-
--- The fields after the end of a load: a constant link is put into VAL, and then LALM becomes VAL.
-abbrev pub output_loaded : {N : Type 0} → NumberRules N → BodyState (NumericOutput N) → BodyState (NumericOutput N)
-output_loaded k h = let p = constant_put (output_stored k) k.range h h.body.drive.desired.link in record p { body = record p.body { numbers = with_last_alarmed p.body.numbers } }
-
 -- ---- All of it
 
 abbrev pub numeric_output : {N : Type 0} → NumberRules N → (N → ℤ) → BodyRules (NumericOutput N)
@@ -121,6 +109,6 @@ numeric_output k whole = record {
   input_kind = λ h. input.Number k.range;
   taken = output_taken k whole;
   output = output_driven k whole;
-  constant_kind = λ h. output_constant_kind k;
-  loaded = output_loaded k;
+  constant_kind = λ h. dol_constant_kind (input.Number k.range);
+  loaded = λ h. constant_loaded (output_stored k) (λ b. record b { numbers = with_last_alarmed b.numbers }) k.range h h.body.drive.desired.link;
 }

@@ -1,19 +1,18 @@
 -- The types bi and mbbi. Record Reference Manual, "Binary Input Record" and "Multi-Bit Binary Input
 -- Record". `k` has the rules of the states.
-use Rattle.std.specs.Prelude.{Bool, if◌then◌else◌, Option, Some, None}
+use Rattle.std.specs.Prelude.{Bool, if◌then◌else◌}
 use Rattle.ioc_values.specs.declared.value.Value.{Value}
 use Rattle.ioc_values.specs.declared.kind.Range.TheVariants as range
 use Rattle.ioc_links.specs.declared.link.Link.{Link}
 use Rattle.ioc_links.specs.declared.link.Link.TheVariants.{Constant}
 use Rattle.ioc_fields.specs.declared.field_no.OwnField.{OwnField}
-use Rattle.ioc_fields.specs.declared.field_no.OwnField.TheVariants.{Inp}
 use Rattle.ioc_dbcommon.specs.declared.body.Got.{Got}
 use Rattle.ioc_dbcommon.specs.declared.body.InputKind.{InputKind}
 use Rattle.ioc_dbcommon.specs.declared.body.InputKind.TheVariants as input
 use Rattle.ioc_dbcommon.specs.declared.body.Output.TheVariants.{NoOutput}
 use Rattle.ioc_dbcommon.specs.Raw.{is_raw}
 use Rattle.ioc_dbcommon.specs.Source.{new_source, source_link, source_with_link, source_begin}
-use Rattle.ioc_record.specs.BodyRules.{BodyRules, BodyState}
+use Rattle.ioc_record.specs.BodyRules.{BodyRules, BodyState, inp_constant_kind}
 use Rattle.rec_state.specs.States.{StateRules}
 use Rattle.rec_state.specs.StateFields.{new_fields, fields_get, put, input_worked, constant_put, mask_made, settled}
 use Rattle.rec_state.specs.declared.state_fields.StateFields.{StateFields}
@@ -51,11 +50,6 @@ input_taken k h got = with_fields h (input_worked k (reads_raw h) (fields_of h) 
 
 -- ---- The load
 
--- A constant in INP must convert to RVAL.
-abbrev pub input_constant_kind : OwnField → Option InputKind
-input_constant_kind Inp = Some (input.Number range.ULong)
-input_constant_kind _ = None
-
 -- The fields with INP put, if it is a constant.
 abbrev pub link_put : {S : Type 0} → Bool → BodyState (StateFields S) → Link → BodyState (StateFields S)
 link_put raw t (Constant z) = constant_put raw t z
@@ -80,6 +74,6 @@ state_input k = record {
   input_kind = state_input_kind;
   taken = input_taken k;
   output = λ h got. NoOutput;
-  constant_kind = λ h. input_constant_kind;
+  constant_kind = λ h. inp_constant_kind (input.Number range.ULong);
   loaded = input_loaded k;
 }

@@ -1,13 +1,13 @@
 -- The types bo and mbbo. Record Reference Manual, "Binary Output Record" and "Multi-Bit Binary
 -- Output Record". `k` has the rules of the states.
-use Rattle.std.specs.Prelude.{ℕ, if◌then◌else◌, Option, Some, None, unwrap_or}
+use Rattle.std.specs.Prelude.{ℕ, if◌then◌else◌, Option, Some, unwrap_or}
 use Rattle.ioc_values.specs.declared.value.Value.{Value}
 use Rattle.ioc_values.specs.declared.value.Value.TheVariants as value
 use Rattle.ioc_values.specs.declared.kind.Range.TheVariants as range
 use Rattle.ioc_links.specs.declared.link.Link.{Link}
 use Rattle.ioc_links.specs.declared.link.Link.TheVariants.{Constant}
 use Rattle.ioc_fields.specs.declared.field_no.OwnField.{OwnField}
-use Rattle.ioc_fields.specs.declared.field_no.OwnField.TheVariants.{Dol, Omsl, Ivoa, Ivov}
+use Rattle.ioc_fields.specs.declared.field_no.OwnField.TheVariants.{Omsl, Ivoa, Ivov}
 use Rattle.ioc_menus.specs.declared.ivoa.Ivoa.{Ivoa as IvoaMenu}
 use Rattle.ioc_dbcommon.specs.declared.condition.Condition.{Condition}
 use Rattle.ioc_dbcommon.specs.declared.body.Got.{Got}
@@ -18,7 +18,7 @@ use Rattle.ioc_dbcommon.specs.declared.body.Output.TheVariants.{NoOutput}
 use Rattle.ioc_dbcommon.specs.Parts.{ushort_in}
 use Rattle.ioc_dbcommon.specs.Raw.{is_raw}
 use Rattle.ioc_dbcommon.specs.Drive.{new_drive, drive_link, drive_with_link, drive_get, drive_stored, drive_begin, sets, drives, written}
-use Rattle.ioc_record.specs.BodyRules.{BodyRules, BodyState}
+use Rattle.ioc_record.specs.BodyRules.{BodyRules, BodyState, dol_constant_kind}
 use Rattle.rec_state.specs.States.{StateRules}
 use Rattle.rec_state.specs.StateFields.{new_fields, fields_get, put, value_taken_if, converted, output_worked, mask_made, settled}
 use Rattle.rec_state.specs.declared.state_fields.StateFields.{StateFields}
@@ -78,11 +78,6 @@ output_driven k h got = driven k (output_taken k h got)
 
 -- ---- The load
 
--- A constant in DOL must convert to VAL.
-abbrev pub output_constant_kind : OwnField → Option InputKind
-output_constant_kind Dol = Some state_kind
-output_constant_kind _ = None
-
 -- The fields with DOL put into VAL, if it is a constant, which clears UDF.
 abbrev pub link_put : {S : Type 0} → StateRules S → BodyState (StateFields S) → Link → BodyState (StateFields S)
 link_put k t (Constant z) = value_taken_if t (k.constant z)
@@ -107,6 +102,6 @@ state_output k = record {
   input_kind = λ h. state_kind;
   taken = output_taken k;
   output = output_driven k;
-  constant_kind = λ h. output_constant_kind;
+  constant_kind = λ h. dol_constant_kind state_kind;
   loaded = output_loaded k;
 }

@@ -6,18 +6,17 @@ use Rattle.ioc_values.specs.Conversion.{Texts, of_number}
 use Rattle.ioc_links.specs.declared.link.Link.{Link}
 use Rattle.ioc_links.specs.declared.link.Link.TheVariants.{Constant}
 use Rattle.ioc_fields.specs.declared.field_no.OwnField.{OwnField}
-use Rattle.ioc_fields.specs.declared.field_no.OwnField.TheVariants.{Val, Dol, Ivov}
+use Rattle.ioc_fields.specs.declared.field_no.OwnField.TheVariants.{Val, Ivov}
 use Rattle.ioc_fields.specs.declared.record_type.RecordType.TheVariants as type
 use Rattle.ioc_dbcommon.specs.declared.body.Got.{Got}
 use Rattle.ioc_dbcommon.specs.declared.body.Got.TheVariants as got
-use Rattle.ioc_dbcommon.specs.declared.body.InputKind.{InputKind}
 use Rattle.ioc_dbcommon.specs.declared.body.InputKind.TheVariants as input
 use Rattle.ioc_dbcommon.specs.declared.body.Output.{Output}
 use Rattle.ioc_dbcommon.specs.declared.body.Output.TheVariants.{NoOutput}
 use Rattle.ioc_dbcommon.specs.Condition.{undefined_tested}
 use Rattle.ioc_dbcommon.specs.Parts.{text_in}
 use Rattle.ioc_dbcommon.specs.Drive.{new_drive, drive_link, drive_with_link, drive_get, drive_stored, drive_begin, sets, drives, written}
-use Rattle.ioc_record.specs.BodyRules.{BodyRules, BodyState}
+use Rattle.ioc_record.specs.BodyRules.{BodyRules, BodyState, dol_constant_kind}
 use Rattle.rec_text.specs.declared.stringout.Stringout.{Stringout}
 
 -- ---- Fields
@@ -65,11 +64,6 @@ stringout_output h got = driven (stringout_taken h got)
 
 -- ---- The load
 
--- A constant in DOL must convert to VAL.
-abbrev pub stringout_constant_kind : OwnField → Option InputKind
-stringout_constant_kind Dol = Some input.Text
-stringout_constant_kind _ = None
-
 abbrev pub value_if : BodyState Stringout → Option Value → BodyState Stringout
 value_if h None = h
 value_if h (Some v) = value_set h v
@@ -97,6 +91,6 @@ stringout = record {
   input_kind = λ h. input.Text;
   taken = stringout_taken;
   output = stringout_output;
-  constant_kind = λ h. stringout_constant_kind;
+  constant_kind = λ h. dol_constant_kind input.Text;
   loaded = stringout_loaded;
 }

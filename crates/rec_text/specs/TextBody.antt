@@ -6,9 +6,9 @@ use Rattle.ioc_dbcommon.specs.declared.body.Got.{Got}
 use Rattle.ioc_dbcommon.specs.declared.body.InputKind.TheVariants as input
 use Rattle.ioc_dbcommon.specs.declared.body.Output.{Output}
 use Rattle.ioc_dbcommon.specs.Source.{source_link, source_with_link, source_begin}
-use Rattle.ioc_record.specs.BodyRules.{BodyRules, BodyState}
+use Rattle.ioc_record.specs.BodyRules.{BodyRules, BodyState, inp_constant_kind}
 use Rattle.rec_text.specs.declared.text_input.TextInput.{TextInput}
-use Rattle.rec_text.specs.TextInput.{new_text_input, text_input_get, text_input_stored, text_constant_kind, constant_put}
+use Rattle.rec_text.specs.TextInput.{new_text_input, text_input_get, text_input_stored, constant_put}
 use Rattle.rec_text.specs.declared.text_body.TextBody.{TextBody}
 
 -- What tells stringin from event.
@@ -47,6 +47,6 @@ text_body k = record {
   input_kind = λ h. input.Text;
   taken = λ h got. outer h (k.taken (inner h) got);
   output = λ h got. k.output (k.taken (inner h) got).body;
-  constant_kind = λ h. text_constant_kind;
+  constant_kind = λ h. inp_constant_kind input.Text;
   loaded = λ h. outer h (constant_put (inner h) h.body.text.source.input.link);
 }

@@ -8,10 +8,9 @@ use Rattle.ioc_values.specs.Conversion.{Texts, of_number}
 use Rattle.ioc_links.specs.declared.link.Link.{Link}
 use Rattle.ioc_links.specs.declared.link.Link.TheVariants.{Constant}
 use Rattle.ioc_fields.specs.declared.field_no.OwnField.{OwnField}
-use Rattle.ioc_fields.specs.declared.field_no.OwnField.TheVariants.{Val, Inp}
+use Rattle.ioc_fields.specs.declared.field_no.OwnField.TheVariants.{Val}
 use Rattle.ioc_dbcommon.specs.declared.body.Got.{Got}
 use Rattle.ioc_dbcommon.specs.declared.body.Got.TheVariants as got
-use Rattle.ioc_dbcommon.specs.declared.body.InputKind.{InputKind}
 use Rattle.ioc_dbcommon.specs.declared.body.InputKind.TheVariants as input
 use Rattle.ioc_dbcommon.specs.Parts.{text_in}
 use Rattle.ioc_dbcommon.specs.Source.{new_source}
@@ -36,11 +35,6 @@ text_input_stored h _ v = h
 abbrev pub came : BodyState TextInput → Got → BodyState TextInput
 came h (got.Value v) = text_input_stored h Val v
 came h _ = h
-
--- A constant in INP must convert to VAL.
-abbrev pub text_constant_kind : OwnField → Option InputKind
-text_constant_kind Inp = Some input.Text
-text_constant_kind _ = None
 
 -- The fields with VAL set to a value, if there is one.
 abbrev pub stored_if : BodyState TextInput → Option Value → BodyState TextInput

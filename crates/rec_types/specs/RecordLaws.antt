@@ -19,7 +19,7 @@ use Rattle.ioc_record.specs.Values.{sort_in}
 use Rattle.ioc_record.specs.BodyRules.{BodyRules}
 use Rattle.ioc_record.specs.Laws.{IsLawful}
 use Rattle.ioc_record.specs.WholeLaws.{whole_lawful}
-use Rattle.ioc_record.specs.BodyLaws.{IsLawfulBody, LeadsTo}
+use Rattle.ioc_record.specs.BodyLaws.{IsLawfulBody, TypeStays, LeadsTo}
 use Rattle.rec_numeric.specs.Types.{longin, longin_lawful, int64in_lawful, longout_lawful, int64out_lawful}
 use Rattle.rec_state.specs.Types.{bi_lawful, mbbi_lawful, bo_lawful, mbbo_lawful}
 use Rattle.rec_text.specs.StringinLaws.{stringin_lawful}
@@ -50,16 +50,16 @@ link_there-law (Longin b) f = longin_lawful.link_there b f
 link_there-law b f = (lawful b).link_there (typed b).it f
 
 taken_type-law : (b : Body) (c : Condition) (got : Got) → record_type (taken b c got).body ≡ record_type b
-taken_type-law (Longin b) c got = longin_lawful.taken_type (held (Longin b) c) got
-taken_type-law b c got = (lawful b).taken_type (held b c) got
+taken_type-law (Longin b) c got = longin_lawful.type_stays.taken (held (Longin b) c) got
+taken_type-law b c got = (lawful b).type_stays.taken (held b c) got
 
 taken_links-law : (b : Body) (c : Condition) (got : Got) → link (taken b c got).body ≡ link b
 taken_links-law (Longin b) c got = longin_lawful.taken_links (held (Longin b) c) got
 taken_links-law b c got = (lawful b).taken_links (held b c) got
 
 stored_type-law : (b : Body) (c : Condition) (f : OwnField) (v : Value) → record_type (stored b c f v).body ≡ record_type b
-stored_type-law (Longin b) c f v = longin_lawful.stored_type (held (Longin b) c) f v
-stored_type-law b c f v = (lawful b).stored_type (held b c) f v
+stored_type-law (Longin b) c f v = longin_lawful.type_stays.stored (held (Longin b) c) f v
+stored_type-law b c f v = (lawful b).type_stays.stored (held b c) f v
 
 stored_links-law : (b : Body) (c : Condition) (f : OwnField) (v : Value) → link (stored b c f v).body ≡ link b
 stored_links-law (Longin b) c f v = longin_lawful.stored_links (held (Longin b) c) f v
@@ -82,16 +82,16 @@ set_twice-law (Longin b) f l m = ap Longin (longin_lawful.set_twice b f l m)
 set_twice-law b f l m = ap (typed b).back ((lawful b).set_twice (typed b).it f l m)
 
 set_type-law : (b : Body) (f : OwnField) (l : LinkField) → record_type (with_link b f l) ≡ record_type b
-set_type-law (Longin b) f l = longin_lawful.set_type b f l
-set_type-law b f l = (lawful b).set_type (typed b).it f l
+set_type-law (Longin b) f l = longin_lawful.type_stays.set b f l
+set_type-law b f l = (lawful b).type_stays.set (typed b).it f l
 
 set_values-law : (b : Body) (f : OwnField) (l : LinkField) (g : OwnField) → get (with_link b f l) g ≡ get b g
 set_values-law (Longin b) f l g = longin_lawful.set_values b f l g
 set_values-law b f l g = (lawful b).set_values (typed b).it f l g
 
 loaded_type-law : (b : Body) (c : Condition) → record_type (loaded b c).body ≡ record_type b
-loaded_type-law (Longin b) c = longin_lawful.loaded_type (held (Longin b) c)
-loaded_type-law b c = (lawful b).loaded_type (held b c)
+loaded_type-law (Longin b) c = longin_lawful.type_stays.loaded (held (Longin b) c)
+loaded_type-law b c = (lawful b).type_stays.loaded (held b c)
 
 loaded_links-law : (b : Body) (c : Condition) → link (loaded b c).body ≡ link b
 loaded_links-law (Longin b) c = longin_lawful.loaded_links (held (Longin b) c)
@@ -118,21 +118,26 @@ readers_write_none-law : (b : Body) (c : Condition) (got : Got) (v : Value) → 
 readers_write_none-law (Longin b) c got v reads = longin_lawful.readers_write_none (held (Longin b) c) got v reads
 readers_write_none-law b c got v reads = (lawful b).readers_write_none (held b c) got v reads
 
+type_stays-law : TypeStays body_rules
+type_stays-law = record {
+  taken = λ h. taken_type-law h.body h.condition;
+  stored = λ h. stored_type-law h.body h.condition;
+  set = set_type-law;
+  loaded = λ h. loaded_type-law h.body h.condition;
+}
+
 pub body_lawful : IsLawfulBody body_rules
 body_lawful = record {
   missing_links = longin_lawful.missing_links;
   link_there = link_there-law;
-  taken_type = λ h. taken_type-law h.body h.condition;
+  type_stays = type_stays-law;
   taken_links = λ h. taken_links-law h.body h.condition;
-  stored_type = λ h. stored_type-law h.body h.condition;
   stored_links = λ h. stored_links-law h.body h.condition;
   set_here = set_here-law;
   set_there = set_there-law;
   set_others = set_others-law;
   set_twice = set_twice-law;
-  set_type = set_type-law;
   set_values = set_values-law;
-  loaded_type = λ h. loaded_type-law h.body h.condition;
   loaded_links = λ h. loaded_links-law h.body h.condition;
   put_reads_back = λ h. put_reads_back-law h.body h.condition;
   begin_named = begin_named-law;
