@@ -276,8 +276,8 @@ fn entries_after_a_checkpoint(rt: HostRuntime) -> Result<(), Fail> {
 // The number of puts with notification that can be live.
 const LIVE: u64 = 256;
 
-// Returns steps by which as many puts with notification are live as can be. The next one is refused,
-// and the one after a cancel isn't.
+// Returns steps by which as many puts with notification are live as can be. The next one is
+// refused, and the one after a cancel isn't.
 fn steps_to_limit(alloc: Global) -> Result<Vec<Step>, AllocError> {
     let put = Call::PutNotify(b"p.VAL", b"3");
     let mut steps = Vec::new(alloc);
@@ -290,8 +290,8 @@ fn steps_to_limit(alloc: Global) -> Result<Vec<Step>, AllocError> {
     Ok(steps)
 }
 
-// Returns steps by which more puts with notification are refused than can be live, since the journal
-// has one place.
+// Returns steps by which more puts with notification are refused than can be live, since the
+// journal has one place.
 fn steps_in_full_journal(alloc: Global) -> Result<Vec<Step>, AllocError> {
     let put = Call::PutNotify(b"p.VAL", b"3");
     let mut steps = Vec::new(alloc);
