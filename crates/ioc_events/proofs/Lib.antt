@@ -11,6 +11,7 @@ mod KeptRecords
 mod StartsLocal
 mod LocalEvents
 mod NoneReady
+mod Putting
 pub mod Counting
 mod Holders
 mod Carrying
