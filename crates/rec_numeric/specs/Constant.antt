@@ -19,7 +19,7 @@ abbrev pub constant_put : {B : Type 0} → (BodyState B → OwnField → Value �
 constant_put stored range h (Constant z) = stored_if stored h (of_number (Numbers range) z)
 constant_put stored range h _ = h
 
--- The body after the end of a load: a constant link is put into VAL, and then LALM becomes VAL, which
--- `settle` does.
+-- The body after the end of a load: a constant link is put into VAL, and then LALM becomes VAL,
+-- which `settle` does.
 abbrev pub constant_loaded : {B : Type 0} → (BodyState B → OwnField → Value → BodyState B) → (B → B) → Range → BodyState B → Link → BodyState B
 constant_loaded stored settle range h link = let p = constant_put stored range h link in record p { body = settle p.body }
