@@ -56,7 +56,8 @@ impl RecordEntries {
         builder: &mut B,
         tokens: &mut Tokens,
     ) -> Result<(), IocError>
-        ensures { Gives (λ _. (builder.new, tokens.new)) result (set_at B.rules self.now.last self.now.number field builder.old tokens.old) }
+        ensures { Gives (λ _. (builder.new, tokens.new)) result (set_at B.rules self.now.last self.now.number field builder.old
+            tokens.old) }
     {
         let token = value_at(self.last, tokens)?;
         let value = text_of(self.alloc, true, &token)?;
@@ -119,7 +120,8 @@ impl RecordEntries {
         builder: &mut B,
         tokens: &mut Tokens,
     ) -> Result<(), IocError>
-        ensures { Gives (λ _. (builder.new, tokens.new)) result (entry_of B.rules self.now.last self.now.number builder.old (seen token.now, tokens.old)) }
+        ensures { Gives (λ _. (builder.new, tokens.new)) result (entry_of B.rules self.now.last self.now.number builder.old
+            (seen token.now, tokens.old)) }
     {
         if is_word(b"field", token) {
             return self.setting_at(builder, tokens);
@@ -136,7 +138,8 @@ impl RecordEntries {
     /// Reads an entry or the closing brace, and returns whether there may be more.
     #[tactic(auto, unfolding(crate::specs::Statements::entry_at))]
     fn entry_at<B: Builder>(&self, builder: &mut B, tokens: &mut Tokens) -> Result<bool, IocError>
-        ensures { Gives (λ more. (more, builder.new, tokens.new)) result (entry_at B.rules self.now.last self.now.number builder.old tokens.old) }
+        ensures { Gives (λ more. (more, builder.new, tokens.new)) result
+            (entry_at B.rules self.now.last self.now.number builder.old tokens.old) }
     {
         let token = next_at(self.last, tokens)?;
         if is_sign_of(b'}', token.kind) {
@@ -154,7 +157,8 @@ impl RecordEntries {
         builder: &mut B,
         tokens: &mut Tokens,
     ) -> Result<(), IocError>
-        ensures { Gives (λ _. (builder.new, tokens.new)) result (body_at B.rules turns self.now.last self.now.number builder.old tokens.old) }
+        ensures { Gives (λ _. (builder.new, tokens.new)) result (body_at B.rules turns self.now.last self.now.number builder.old
+            tokens.old) }
     {
         for _ in 0..turns {
             if !self.entry_at(builder, tokens)? {
@@ -172,7 +176,8 @@ impl RecordEntries {
         builder: &mut B,
         tokens: &mut Tokens,
     ) -> Result<(), IocError>
-        ensures { Gives (λ _. (builder.new, tokens.new)) result (braces_at B.rules turns self.now.last self.now.number builder.old tokens.old) }
+        ensures { Gives (λ _. (builder.new, tokens.new)) result (braces_at B.rules turns self.now.last self.now.number builder.old
+            tokens.old) }
     {
         if !tokens.take_sign(b'{') {
             return Ok(());

@@ -113,7 +113,8 @@ fn take_off_one(items: &mut Vec<Live>, number: NotifyId, holders: u64)
     requires table { IsTable items.old.items }
     requires there { holders ≤ holders_in number items.old.items }
     ensures table { IsTable items.new.items }
-    ensures counts { (n : ℕ) → holders_in n items.new.items + has_by n (record { number = number; holders = holders }) ≡ holders_in n items.old.items }
+    ensures counts { (n : ℕ) → holders_in n items.new.items + has_by n (record { number = number; holders = holders })
+        ≡ holders_in n items.old.items }
     ensures fewer { length items.new.items ≤ length items.old.items }
     ensures room { vec_capacity items.new ≡ vec_capacity items.old }
 {
@@ -137,7 +138,8 @@ fn add_on_one(items: &mut Vec<Live>, number: NotifyId, holders: u64)
     requires room { length items.old.items < vec_capacity items.old }
     requires fits { holders_in number items.old.items + holders < 2 ^ 64 }
     ensures table { IsTable items.new.items }
-    ensures counts { (n : ℕ) → holders_in n items.new.items ≡ holders_in n items.old.items + has_by n (record { number = number; holders = holders }) }
+    ensures counts { (n : ℕ) → holders_in n items.new.items ≡ holders_in n items.old.items + has_by n
+        (record { number = number; holders = holders }) }
     ensures longer { length items.new.items ≤ length items.old.items + 1 }
     ensures room { vec_capacity items.new ≡ vec_capacity items.old }
 {

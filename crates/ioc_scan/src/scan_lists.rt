@@ -180,7 +180,8 @@ fn put_on(
     place: &Option<Placement>,
     order: u64,
 ) -> Result<(), AllocError>
-    ensures ok { OnOk result ((k : Position) → get order_of.ghosts.cmp members.new k ≡ cond (is_at_place place.now order k) (listed_at member place.now) (get order_of.ghosts.cmp members.old k)) }
+    ensures ok { OnOk result ((k : Position) → get order_of.ghosts.cmp members.new k
+        ≡ cond (is_at_place place.now order k) (listed_at member place.now) (get order_of.ghosts.cmp members.old k)) }
     ensures err { OnErr result (members.new.entries ≡ members.old.entries) }
     ensures phase { IfSome place.now (λ p. IsPhase p.phase) }
     ensures off { place.now ≡ None → IsOk result }
@@ -199,7 +200,8 @@ fn put_on(
 
 // Removes the record at the place, if there is one, from its list.
 fn take_off(members: &mut BTreeMap<Position, Listed>, place: &Option<Placement>, order: u64)
-    ensures { (k : Position) → get order_of.ghosts.cmp members.new k ≡ cond (is_at_place place.now order k) None (get order_of.ghosts.cmp members.old k) }
+    ensures { (k : Position) → get order_of.ghosts.cmp members.new k ≡ cond (is_at_place place.now order k) None
+        (get order_of.ghosts.cmp members.old k) }
 {
     if let Some(place) = place {
         let _listed = members.remove(&Position::of(place, order));
@@ -214,7 +216,9 @@ fn insert(
     order: u64,
     listed: Listed,
 ) -> Result<(), AllocError>
-    ensures ok { OnOk result ((k : Position) → get order_of.ghosts.cmp members.new k ≡ cond (eq_by_cmp order_of.ghosts.cmp (record { list = list; phase = phase; order = order }) k) (Some listed) (get order_of.ghosts.cmp members.old k)) }
+    ensures ok { OnOk result ((k : Position) → get order_of.ghosts.cmp members.new k
+        ≡ cond (eq_by_cmp order_of.ghosts.cmp (record { list = list; phase = phase; order = order }) k) (Some listed)
+        (get order_of.ghosts.cmp members.old k)) }
     ensures err { OnErr result (members.new.entries ≡ members.old.entries) }
     ensures phase { IsPhase phase }
 {

@@ -207,8 +207,8 @@ impl<K: RecordKind + Drop, D: Device> LockSet<K, D> {
         requires apart { (q : ℕ) → IsSome (map.get self.old.records q) → map.get other.old.records q ≡ None }
         requires field { HasLink K.rules self.old.records change.number change.field }
         requires to { (t : ℕ) × (named_by (use_of change.link) ≡ t ∷ []) × IsSome (map.get other.old.records t) }
-        ensures led { IfOk result (λ rest. LeadsInto K.rules self.old other.old change.moment change.number change.field change.link self.new
-            other.new rest (world_of place.new.store)) }
+        ensures led { IfOk result (λ rest. LeadsInto K.rules self.old other.old change.moment change.number change.field change.link
+            self.new other.new rest (world_of place.new.store)) }
         ensures err { OnErr result ((self.new ≡ folded self.old) × (other.new ≡ other.old)) }
     {
         held_records_are_sound::<K, D>();

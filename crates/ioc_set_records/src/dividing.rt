@@ -22,7 +22,8 @@ pub fn deal<K: Drop, D: Drop>(
 )
     requires one_each { length slots.items ≡ length numbers.now }
     requires stay { (stay.old.items ≡ []) × (vec_len stay.old + length (filter (λ n. n == number) numbers.now) ≤ vec_capacity stay.old) }
-    requires rest { (rest.old.items ≡ []) × (vec_len rest.old + length (filter (λ n. not (n == number)) numbers.now) ≤ vec_capacity rest.old) }
+    requires rest { (rest.old.items ≡ []) × (vec_len rest.old + length (filter (λ n. not (n == number)) numbers.now)
+        ≤ vec_capacity rest.old) }
     ensures stay { stay.new.items ≡ dealt (λ n. n == number) numbers.now slots.items }
     ensures rest { rest.new.items ≡ dealt (λ n. not (n == number)) numbers.now slots.items }
 {

@@ -42,7 +42,8 @@ impl<K: RecordKind + Drop, D: Drop> Members<K, D> {
 
         // Each record is in one of the two, unchanged except for the one link, and so is each
         // device.
-        ensures shared { IfOk result (λ rest. AreShared (map.get (relinked K.rules self.old.records number field link)) (map.get self.new.records) (map.get rest.records)) }
+        ensures shared { IfOk result (λ rest. AreShared (map.get (relinked K.rules self.old.records number field link))
+            (map.get self.new.records) (map.get rest.records)) }
         ensures devices { IfOk result (λ rest. AreShared (map.get self.old.devices) (map.get self.new.devices) (map.get rest.devices)) }
         ensures own { OnOk result (IsSome (map.get self.new.records number)) }
         ensures fewer { OnOk result (map.len self.new.records ≤ map.len self.old.records) }
@@ -89,7 +90,8 @@ impl<K: RecordKind + Drop, D: Drop> Members<K, D> {
 
         // The records are those of both sets, each once, unchanged except for the one link, and so
         // are the devices.
-        ensures shared { AreShared (map.get self.new.records) (map.get (relinked K.rules self.old.records number field link)) (map.get other.old.records) }
+        ensures shared { AreShared (map.get self.new.records) (map.get (relinked K.rules self.old.records number field link))
+            (map.get other.old.records) }
         ensures devices { AreShared (map.get self.new.devices) (map.get self.old.devices) (map.get other.old.devices) }
         ensures part { IsPart (links_of K.rules self.new.records) }
         ensures emptied { other.new ≡ nothing }

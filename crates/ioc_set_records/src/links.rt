@@ -72,7 +72,8 @@ fn add_links_with<K: RecordKind>(
     link: &LinkBox,
 ) -> Result<(), AllocError>
     requires { is_some (K.rules.link fields.now changed) ≡ true }
-    ensures { OnOk result (edges.new.items ≡ edges.old.items ++ edges_from number (targets K.rules (K.rules.with_link fields.now changed link.now))) }
+    ensures { OnOk result (edges.new.items ≡ edges.old.items ++ edges_from number
+        (targets K.rules (K.rules.with_link fields.now changed link.now))) }
 {
     for field in fields.link_fields() {
         if is_same(*field, changed) {
@@ -92,7 +93,8 @@ fn edges_with<K: RecordKind, D>(
     changed: FieldNo,
     link: &LinkBox,
 ) -> Result<Vec<Edge>, AllocError>
-    requires { (s : Slot K D) → place < length slots.now → s ≡ slice_index_or slots.now place s → is_some (K.rules.link s.fields changed) ≡ true }
+    requires { (s : Slot K D) → place < length slots.now → s ≡ slice_index_or slots.now place s → is_some (K.rules.link s.fields changed)
+        ≡ true }
     ensures { IfOk result (λ edges. edges.items ≡ edges_in K.rules (slots_relinked K.rules slots.now place changed link.now)) }
 {
     let mut edges = Vec::new(alloc);
@@ -148,9 +150,11 @@ pub fn parts_with<K: RecordKind, D>(
     link: &LinkBox,
 ) -> Result<Vec<usize>, AllocError>
     requires ascending { AreAscending slots.now }
-    requires field { (s : Slot K D) → place < length slots.now → s ≡ slice_index_or slots.now place s → is_some (K.rules.link s.fields changed) ≡ true }
+    requires field { (s : Slot K D) → place < length slots.now → s ≡ slice_index_or slots.now place s
+        → is_some (K.rules.link s.fields changed) ≡ true }
     requires closed { IsClosed (links_of K.rules (records_of (slots_relinked K.rules slots.now place changed link.now))) }
-    ensures { IfOk result (λ numbers. ArePartsOf (edges_in K.rules (slots_relinked K.rules slots.now place changed link.now)) (numbers_of slots.now) numbers.items) }
+    ensures { IfOk result (λ numbers. ArePartsOf (edges_in K.rules (slots_relinked K.rules slots.now place changed link.now))
+        (numbers_of slots.now) numbers.items) }
 {
     let edges = edges_with(alloc, slots, place, changed, link)?;
     let nodes = numbers(alloc, slots)?;

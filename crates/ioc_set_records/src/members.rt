@@ -291,7 +291,8 @@ impl<K: RecordKind, D> Members<K, D> {
     #[inline(always)]
     pub fn record_mut(&mut self, number: RecordNo) -> &mut K
         requires { IsTrue (map.contains_key self.old.records number) }
-        ensures* lends { sem 𝓛 (Lends (the_row K.row D.row) K.row self.entry result (λ r. record self.old { records = map.insert self.old.records number r })) }
+        ensures* lends { sem 𝓛 (Lends (the_row K.row D.row) K.row self.entry result
+            (λ r. record self.old { records = map.insert self.old.records number r })) }
         ensures value { result.now ≡ record_at K.rules self.old.records number }
     {
         seek(&self.slots, &mut self.latest, number);

@@ -34,9 +34,11 @@ pub fn part_slots<K: RecordKind + Drop, D: Drop>(
     requires ascending { AreAscending slots.old.items }
     requires there { place < length slots.old.items }
     requires base_link { base_link ≡ link }
-    requires field { (s : Slot K D) → place < length slots.old.items → s ≡ slice_index_or slots.old.items place s → is_some (K.rules.link s.fields field) ≡ true }
+    requires field { (s : Slot K D) → place < length slots.old.items → s ≡ slice_index_or slots.old.items place s
+        → is_some (K.rules.link s.fields field) ≡ true }
     requires closed { IsClosed (links_of K.rules (records_of (slots_relinked K.rules slots.old.items place field link))) }
-    ensures ok { IfOk result (λ rest. IsParted K.rules (slots_relinked K.rules slots.old.items place field link) place slots.new.items rest.0.items) }
+    ensures ok { IfOk result (λ rest. IsParted K.rules (slots_relinked K.rules slots.old.items place field link) place slots.new.items
+        rest.0.items) }
     ensures room { IfOk result (λ rest. (rest.1.items ≡ []) × (length rest.0.items ≤ vec_capacity rest.1)) }
     ensures err { OnErr result (slots.new.items ≡ slots.old.items) }
 {

@@ -157,7 +157,8 @@ impl Notifications {
     /// one.
     pub fn let_go(&mut self, number: NotifyId)
         ensures live { self.new.live.live ≡ lost number self.old.live.live }
-        ensures ended { self.new.ended.items ≡ if is_at_its_last number self.old.live.live then self.old.ended.items ++ number ∷ [] else self.old.ended.items }
+        ensures ended { self.new.ended.items ≡ if is_at_its_last number self.old.live.live then self.old.ended.items ++ number ∷ []
+            else self.old.ended.items }
         ensures waiting { self.new.waiting ≡ self.old.waiting }
     {
         if self.live.remove_holder(number) {

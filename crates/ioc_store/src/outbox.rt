@@ -63,7 +63,8 @@ impl Outbox {
 
     /// Sends an item, or counts it as dropped if 256 were sent already.
     pub fn send(&mut self, item: OutboxItem)
-        ensures items { items_of self.new ≡ if nat_lt (length (items_of self.old)) 256 then items_of self.old ++ item ∷ [] else items_of self.old }
+        ensures items { items_of self.new ≡ if nat_lt (length (items_of self.old)) 256 then items_of self.old ++ item ∷ []
+            else items_of self.old }
         ensures dropped { self.new.dropped ≡ if nat_lt (length (items_of self.old)) 256 then self.old.dropped else more self.old.dropped }
     {
         if self.items.len() < 256 {

@@ -65,7 +65,8 @@ impl<N: Number> NumericOutput<N> {
     // Takes the input, keeps it within the drive limits, and raises alarms.
     #[tactic(auto, unfolding(crate::specs::Output::worked))]
     fn work(&mut self, condition: &mut Condition, got: &Got)
-        ensures { record { body = self.new; condition = condition.new } ≡ worked N.number N.whole (record { body = self.old; condition = condition.old }) got.now }
+        ensures { record { body = self.new; condition = condition.new }
+            ≡ worked N.number N.whole (record { body = self.old; condition = condition.old }) got.now }
     {
         match got {
             Got::Value(value) => {

@@ -18,7 +18,8 @@ pub trait Storing<N: Number> {
 
     /// Sets VAL, which clears UDF.
     fn put_value(&mut self, condition: &mut Condition, value: N)
-        ensures { record { body = self.new; condition = condition.new } ≡ with (record { body = self.old; condition = condition.old }) value };
+        ensures { record { body = self.new; condition = condition.new }
+            ≡ with (record { body = self.old; condition = condition.old }) value };
 
     /// Stores a value that was converted for the field. VAL clears UDF.
     fn store_value(&mut self, condition: &mut Condition, field: OwnField, value: Value)
@@ -39,7 +40,8 @@ fn store_converted<N: Number, B: Storing<N>>(
     range: Range,
     number: i64,
 ) -> bool
-    ensures { IsNumberStored B.rules (record { body = body.old; condition = condition.old }) (record { body = body.new; condition = condition.new }) field range number result }
+    ensures { IsNumberStored B.rules (record { body = body.old; condition = condition.old })
+        (record { body = body.new; condition = condition.new }) field range number result }
 {
     match of_number(Kind::Number(range), number) {
         Some(value) => {
@@ -60,7 +62,8 @@ pub fn store_number<N: Number, B: Storing<N>>(
     range: Range,
     number: i64,
 ) -> bool
-    ensures { IsNumberStored B.rules (record { body = body.old; condition = condition.old }) (record { body = body.new; condition = condition.new }) field range number result }
+    ensures { IsNumberStored B.rules (record { body = body.old; condition = condition.old })
+        (record { body = body.new; condition = condition.new }) field range number result }
 {
     match (field, N::in_range(range, number)) {
         (OwnField::Val, Some(value)) => {

@@ -28,7 +28,8 @@ impl Stringout {
     // Takes the input, and raises the alarm of an undefined value.
     #[tactic(auto, unfolding(crate::specs::Stringout::worked))]
     fn work(&mut self, condition: &mut Condition, got: &Got)
-        ensures { record { body = self.new; condition = condition.new } ≡ worked (record { body = self.old; condition = condition.old }) got.now }
+        ensures { record { body = self.new; condition = condition.new }
+            ≡ worked (record { body = self.old; condition = condition.old }) got.now }
     {
         if let Got::Value(value) = got {
             self.value = text_in(*value).unwrap_or(self.value);

@@ -43,7 +43,8 @@ impl TextInput {
     /// Stores a value that was converted for the field. VAL clears UDF.
     #[tactic(auto, unfolding(crate::specs::TextInput::text_input_stored))]
     pub fn store(&mut self, condition: &mut Condition, field: OwnField, value: Value)
-        ensures { record { body = self.new; condition = condition.new } ≡ text_input_stored (record { body = self.old; condition = condition.old }) field value }
+        ensures { record { body = self.new; condition = condition.new }
+            ≡ text_input_stored (record { body = self.old; condition = condition.old }) field value }
     {
         if let OwnField::Val = field {
             self.value = text_in(value).unwrap_or(self.value);
@@ -53,7 +54,8 @@ impl TextInput {
 
     /// Stores the input, if there is one, in VAL, and clears UDF.
     pub fn come(&mut self, condition: &mut Condition, got: &Got)
-        ensures { record { body = self.new; condition = condition.new } ≡ came (record { body = self.old; condition = condition.old }) got.now }
+        ensures { record { body = self.new; condition = condition.new }
+            ≡ came (record { body = self.old; condition = condition.old }) got.now }
     {
         if let Got::Value(value) = got {
             self.store(condition, OwnField::Val, *value);
@@ -63,7 +65,8 @@ impl TextInput {
     /// Puts a constant INP into VAL as its decimal text.
     #[tactic(auto, unfolding(ioc_values::specs::Conversion::sort_of))]
     pub fn put_constant(&mut self, condition: &mut Condition)
-        ensures { record { body = self.new; condition = condition.new } ≡ constant_put (record { body = self.old; condition = condition.old }) self.old.source.input.link }
+        ensures { record { body = self.new; condition = condition.new }
+            ≡ constant_put (record { body = self.old; condition = condition.old }) self.old.source.input.link }
     {
         if let Link::Constant(constant) = self.source.input.get().link {
             if let Some(value) = of_number(Kind::Text, constant) {

@@ -169,7 +169,11 @@ impl RecordBody for Body {
         range: Range,
         number: i64,
     ) -> bool {
-        work!(self, body => body.store_number(condition, field, range, number), on_heap::store_number(body, condition, field, range, number))
+        work!(
+            self,
+            body => body.store_number(condition, field, range, number),
+            on_heap::store_number(body, condition, field, range, number)
+        )
     }
 
     fn begin(&self) -> Need {
