@@ -52,6 +52,15 @@ pub sets_long : {R D : Type 0} (xs : List (HeldView R D)) → length (sets_of xs
 sets_long [] = refl
 sets_long (x ∷ xs) = ap suc (sets_long xs)
 
+-- Sets as they were are the same sets.
+pub own_sets : {R D : Type 0} (xs : List (HeldView R D)) → AreSameSets (sets_of xs) xs
+own_sets xs i d e lt = sym (set_at xs i e d (let many = sets_long xs in omega (arith, lt, many)))
+
+-- What is true whatever the result is.
+pub on_err_always : {A E X : Type 0} (r : Result A E) → X → OnErr r X
+on_err_always (Ok a) x = tt
+on_err_always (Err e) x = x
+
 module _ {R D : Type 0} (k : RecordRules R) (base : World R) (had : ℕ → Option D → Type 0) (table : TableId) where
   pub lent_more : (sets : List (SetState R D)) (passes : List (Option Pass)) (h : SetState R D) (s : Option Pass) → length passes ≡ length sets → EachIsLent k base had table sets passes → IsLent k base had table h s
       → EachIsLent k base had table (sets ++ h ∷ []) (passes ++ s ∷ [])

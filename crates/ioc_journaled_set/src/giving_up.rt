@@ -30,7 +30,7 @@ use ioc_set::LockSet;
 use ioc_set_store::EventBuffers;
 use ioc_topology::Locked;
 use ioc_values::IocError;
-use std::alloc::Global;
+use std::alloc::{AllocError, Global};
 use std::mem;
 use std::sync::Wait;
 
@@ -43,7 +43,7 @@ struct LentSets<K: RecordKind + Drop, B: SetsName<K, D>, D: Device> {
 }
 
 // Separates each of these journaled sets from its pass and its share, into reserved memory.
-fn lend_all<K: RecordKind + Drop, B: SetsName<K, D>, D: Device>(
+fn separate_all<K: RecordKind + Drop, B: SetsName<K, D>, D: Device>(
     alloc: Global,
     cell: &Cell,
     keeper: &mut KeyPass,
@@ -69,6 +69,43 @@ fn lend_all<K: RecordKind + Drop, B: SetsName<K, D>, D: Device>(
         passes.push_reserved(Some(own));
         shares.push_reserved(share);
     }
+}
+
+// Separates each of these journaled sets from its pass and its share. If allocation fails, nothing
+// has changed.
+fn lend_all<K: RecordKind + Drop, B: SetsName<K, D>, D: Device>(
+    alloc: Global,
+    cell: &Cell,
+    keeper: &mut KeyPass,
+    held: &mut [JournaledSet<K, B, D>],
+) -> Result<LentSets<K, B, D>, AllocError>
+    requires table { (keeper.old.table_id ≡ B.table) × (cell.now.table.shared.table_id ≡ B.table) }
+    ensures keeper { (keeper.new.table_id ≡ keeper.old.table_id) × (cell_view keeper.new ≡ cell_view keeper.old) }
+    ensures sets { IfOk result (λ lent. lent.sets.items ≡ sets_of held.old) }
+    ensures beside { IfOk result (λ lent. (length lent.passes.items ≡ length held.old)
+        × (length lent.shares.items ≡ length held.old)) }
+    ensures lent { IfOk result (λ lent. EachIsLent K.rules B.base (IsDeviceOf D.gives B.devices) B.table lent.sets.items
+        lent.passes.items) }
+    ensures counted { IfOk result (λ lent. EachIsCounted lent.sets.items lent.shares.items) }
+    ensures err { OnErr result ((held.new ≡ held.old) × (keeper.new ≡ keeper.old)) }
+{
+    let mut sets = Vec::with_capacity(alloc, held.len())?;
+    let mut passes = Vec::with_capacity(alloc, held.len())?;
+    let mut shares = Vec::with_capacity(alloc, held.len())?;
+    separate_all(
+        alloc,
+        cell,
+        keeper,
+        held,
+        &mut sets,
+        &mut passes,
+        &mut shares,
+    );
+    Ok(LentSets {
+        sets,
+        passes,
+        shares,
+    })
 }
 
 // Puts sets, passes and shares together again.
@@ -168,23 +205,7 @@ pub fn cancel_on<K: RecordKind + Drop, B: SetsName<K, D>, D: Device, R: Wait>(
     if total == 0 {
         return Ok(None);
     }
-    let mut sets = Vec::with_capacity(access.alloc, held.len())?;
-    let mut passes = Vec::with_capacity(access.alloc, held.len())?;
-    let mut shares = Vec::with_capacity(access.alloc, held.len())?;
-    lend_all(
-        access.alloc,
-        access.journal.cell(),
-        &mut all.pass,
-        held,
-        &mut sets,
-        &mut passes,
-        &mut shares,
-    );
-    let lent = LentSets {
-        sets,
-        passes,
-        shares,
-    };
+    let lent = lend_all(access.alloc, access.journal.cell(), &mut all.pass, held)?;
     let put = Live {
         number,
         holders: total,

@@ -6,7 +6,7 @@ use Rattle.ioc_history.specs.declared.cell.View.{View}
 use Rattle.ioc_journaled_set.specs.Holding.{HeldView}
 use Rattle.ioc_journaled_set.specs.GivingUp.{EachIsLent, EachIsCounted, sets_of}
 use Rattle.ioc_journaled_set.specs.SameDevice.{IsDeviceOf}
-use Rattle.ioc_journaled_set.proofs.giving_up.lend_all.Given as goal
+use Rattle.ioc_journaled_set.proofs.giving_up.separate_all.Given as goal
 
 abbrev pub invariant-loop-i : goal.invariant-loop-i
 invariant-loop-i g l = record {
