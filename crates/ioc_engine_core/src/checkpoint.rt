@@ -44,7 +44,7 @@ impl<K: RecordKind + Drop, B: SetsName<K, D>, D: Device> EngineCore<K, B, D> {
     {
         let mut taken = self.sets.take_all(rt, alloc)?;
         let sets = taken.sets.as_mut_slice();
-        let kept = checkpoint_on(rt, alloc, &self.book, sets, self.sets.len());
+        let kept = checkpoint_on(rt, alloc, &self.journal, sets, self.sets.len());
         self.sets.put_back(rt, taken);
         kept
     }

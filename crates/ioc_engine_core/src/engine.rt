@@ -36,7 +36,7 @@ use std::sync::{Mutex, Wait};
 #[derive(Drop)]
 pub struct EngineCore<K: RecordKind + Drop, B: SetsName<K, D>, D: Device> {
     pub(crate) sets: Directory<JournaledSet<K, B, D>>,
-    pub(crate) book: SharedJournal<K, B>,
+    pub(crate) journal: SharedJournal<K, B>,
     // Locked while the lock of a set is held, and before the journal.
     pub(crate) puts: Mutex<SharedNotifications<K, B>>,
     // Locked while no other lock is held.
@@ -68,7 +68,7 @@ impl<K: RecordKind + Drop, B: SetsName<K, D>, D: Device> EngineCore<K, B, D> {
     /// set has. The sets were made for all records of the load.
     pub fn new(
         sets: Directory<JournaledSet<K, B, D>>,
-        book: SharedJournal<K, B>,
+        journal: SharedJournal<K, B>,
         puts: SharedNotifications<K, B>,
         once: OnceQueue<RequestTickets<K, B>>,
         spare: TallyShare<EngineCounts<K, B>>,
@@ -80,7 +80,7 @@ impl<K: RecordKind + Drop, B: SetsName<K, D>, D: Device> EngineCore<K, B, D> {
     {
         EngineCore {
             sets,
-            book,
+            journal,
             puts: Mutex::new(puts),
             once: Mutex::new(once),
             dropped: AtomicU64::new(0),
@@ -90,12 +90,12 @@ impl<K: RecordKind + Drop, B: SetsName<K, D>, D: Device> EngineCore<K, B, D> {
 
     /// Closes the engine: no call begins from then on. A call that has begun is finished.
     pub fn close(&self) {
-        self.book.gate().close();
+        self.journal.gate().close();
     }
 
     /// Returns whether the engine was closed.
     pub fn is_closed(&self) -> bool {
-        self.book.gate().is_closed()
+        self.journal.gate().is_closed()
     }
 
     // Returns what a call needs to be added to the journal.
@@ -104,7 +104,7 @@ impl<K: RecordKind + Drop, B: SetsName<K, D>, D: Device> EngineCore<K, B, D> {
         JournalAccess {
             rt,
             alloc,
-            journal: &self.book,
+            journal: &self.journal,
         }
     }
 
@@ -113,12 +113,12 @@ impl<K: RecordKind + Drop, B: SetsName<K, D>, D: Device> EngineCore<K, B, D> {
     // fails, the call goes on without it.
     #[inline(always)]
     pub(crate) fn may_begin<R: Wait>(&self, rt: &R, alloc: Global) -> bool {
-        self.book.gate().is_open() || self.may_begin_after_count(rt, alloc)
+        self.journal.gate().is_open() || self.may_begin_after_count(rt, alloc)
     }
 
     #[inline(never)]
     fn may_begin_after_count<R: Wait>(&self, rt: &R, alloc: Global) -> bool {
-        if self.book.gate().takes_count() && self.book.is_short(rt) {
+        if self.journal.gate().takes_count() && self.journal.is_short(rt) {
             let _ = self.checkpoint(rt, alloc);
         }
         !self.is_closed()
@@ -137,7 +137,7 @@ impl<K: RecordKind + Drop, B: SetsName<K, D>, D: Device> EngineCore<K, B, D> {
         if self.is_closed() {
             return Err(IocError::Stopped);
         }
-        self.book.open_desk(rt)
+        self.journal.open_desk(rt)
     }
 
     /// Moves a desk on to the list of a receipt, if that is longer than the list that the desk has
@@ -151,7 +151,7 @@ impl<K: RecordKind + Drop, B: SetsName<K, D>, D: Device> EngineCore<K, B, D> {
         ensures legal { IsAccount K.rules B.base desk.new.seen }
         ensures receipt { receipt.new ≡ receipt.old }
     {
-        desk.learn(rt, self.book.cell(), receipt);
+        desk.learn(rt, self.journal.cell(), receipt);
     }
 }
 

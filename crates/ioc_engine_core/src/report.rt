@@ -135,14 +135,14 @@ impl<K: RecordKind + Drop, B: SetsName<K, D>, D: Device> EngineCore<K, B, D> {
     {
         let EngineCore {
             mut sets,
-            book,
+            journal: shared,
             puts: _,
             once,
             dropped,
             spare,
         } = self;
         let mut all = sets.gather(rt, alloc);
-        let (cell, mut journal) = book.into_parts();
+        let (cell, mut journal) = shared.into_parts();
         journal.is_legal();
         let spare = spare.into_inner().into_share();
         settle(rt, &cell, &mut journal, spare, all.as_mut_slice());

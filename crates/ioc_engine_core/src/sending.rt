@@ -42,7 +42,7 @@ impl<K: RecordKind + Drop, B: SetsName<K, D>, D: Device> EngineCore<K, B, D> {
             add_once(buffers.items(), &mut left, &mut once);
         }
         if !left.is_empty() {
-            self.book.hand_back(rt, left);
+            self.journal.hand_back(rt, left);
         }
         self.count_dropped(buffers);
     }

@@ -205,8 +205,8 @@ pub fn start<K: RecordKind + Drop, B: SetsName<K, D>, D: Device>(
     let Ok((journal, free)) = Journal::new(alloc, master, blank, tickets, counted, limits) else {
         return Err(StartError::NoMemory);
     };
-    let Ok(book) = SharedJournal::new(alloc, cell, journal, free, limits.checkpoint_at) else {
+    let Ok(shared) = SharedJournal::new(alloc, cell, journal, free, limits.checkpoint_at) else {
         return Err(StartError::NoMemory);
     };
-    Ok(EngineCore::new(directory, book, puts, once, spare))
+    Ok(EngineCore::new(directory, shared, puts, once, spare))
 }

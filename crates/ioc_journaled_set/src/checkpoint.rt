@@ -86,7 +86,7 @@ pub fn move_all_on<K: RecordKind + Drop, B: SetsName<K, D>, D: Device, R: Wait>(
 // then.
 fn drop_entries<K: RecordKind + Drop, B: SetsName<K, D>, D: Device, R: Wait>(
     rt: &R,
-    book: &SharedJournal<K, B>,
+    shared: &SharedJournal<K, B>,
     sets: &mut [JournaledSet<K, B, D>],
     base: JournalBase<K>,
 ) -> bool
@@ -97,11 +97,11 @@ fn drop_entries<K: RecordKind + Drop, B: SetsName<K, D>, D: Device, R: Wait>(
     ensures { map (λ h. h.set) sets.new ≡ map (λ h. h.set) sets.old }
 {
     lists_leave_sound::<K>();
-    let mut places = book.lock_places(rt);
-    let mut guard = book.lock(rt);
+    let mut places = shared.lock_places(rt);
+    let mut guard = shared.lock(rt);
     let journal = &mut *guard;
     journal.is_legal();
-    move_all_on(rt, book.cell(), journal, sets);
+    move_all_on(rt, shared.cell(), journal, sets);
     let Some(mut freed) = journal.drop_entries(base) else {
         return false;
     };
@@ -130,7 +130,7 @@ fn fold_all<K: RecordKind + Drop, B: SetsName<K, D>, D: Device>(sets: &mut [Jour
 pub fn checkpoint_on<K: RecordKind + Drop, B: SetsName<K, D>, D: Device, R: Wait>(
     rt: &R,
     alloc: Global,
-    book: &SharedJournal<K, B>,
+    shared: &SharedJournal<K, B>,
     sets: &mut [JournaledSet<K, B, D>],
     count: usize,
 ) -> Result<bool, IocError>
@@ -143,7 +143,7 @@ pub fn checkpoint_on<K: RecordKind + Drop, B: SetsName<K, D>, D: Device, R: Wait
         return Ok(false);
     }
     let base = copy_all(alloc, sets, count)?;
-    if !drop_entries(rt, book, sets, base) {
+    if !drop_entries(rt, shared, sets, base) {
         return Err(IocError::JournalFull);
     }
     fold_all(sets);

@@ -77,7 +77,7 @@ pub(crate) fn counts_since<K: RecordKind, B: JournalName<K>, D>(
 /// rest gets a part for each of its records, and the answers that these await.
 pub(crate) fn divide_share<K: RecordKind, B: JournalName<K>, D, R: Wait>(
     rt: &R,
-    book: &SharedJournal<K, B>,
+    journal: &SharedJournal<K, B>,
     share: &mut TallyShare<EngineCounts<K, B>>,
     started: u64,
     rest: &LockSet<K, D>,
@@ -90,6 +90,6 @@ pub(crate) fn divide_share<K: RecordKind, B: JournalName<K>, D, R: Wait>(
     ensures rest { result ≡ share_view (len rest.now.records) (awaited_alone rest.now.tally.started) }
 {
     let mut other = share.split_off(rest.len() as u64);
-    book.divide_started(rt, share, &mut other, started, rest.tally().started);
+    journal.divide_started(rt, share, &mut other, started, rest.tally().started);
     other
 }

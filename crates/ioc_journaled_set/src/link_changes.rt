@@ -173,7 +173,7 @@ impl<K: RecordKind + Drop, B: SetsName<K, D>, D: Device> JournaledSet<K, B, D> {
     fn compare<R: Wait>(
         &mut self,
         rt: &R,
-        book: &SharedJournal<K, B>,
+        journal: &SharedJournal<K, B>,
         other: &mut JournaledSet<K, B, D>,
     )
         requires one { (n : ℕ) × IsSome (get self.old.set.records n) }
@@ -193,7 +193,7 @@ impl<K: RecordKind + Drop, B: SetsName<K, D>, D: Device> JournaledSet<K, B, D> {
         let Some(mut beside) = other.pass.take() else {
             unreachable!();
         };
-        book.compare(rt, &mut pass, &mut beside);
+        journal.compare(rt, &mut pass, &mut beside);
         self.pass = Some(pass);
         other.pass = Some(beside);
     }

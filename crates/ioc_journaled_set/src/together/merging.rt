@@ -10,7 +10,7 @@ use std::sync::Wait;
 /// Moves the keys of all these passes to `keeper`, and takes the passes.
 pub fn merge_all<K: RecordKind, B: JournalName<K>, R: Wait>(
     rt: &R,
-    book: &SharedJournal<K, B>,
+    journal: &SharedJournal<K, B>,
     keeper: &mut KeyPass,
     passes: &mut [Option<KeyPass>],
 )
@@ -23,6 +23,6 @@ pub fn merge_all<K: RecordKind, B: JournalName<K>, R: Wait>(
         let Some(mut pass) = passes[i].take() else {
             unreachable!();
         };
-        book.merge(rt, keeper, &mut pass);
+        journal.merge(rt, keeper, &mut pass);
     }
 }
