@@ -13,35 +13,32 @@ use rec_numeric::Longin;
 use std::alloc::{AllocError, Global};
 use std::mem;
 
-// No records.
-const NOTHING: &[Run] = &[];
-
 // The records of the chain.
-const CHAIN: &[Run] = &[(0, 10, None)];
+static CHAIN: [Run; 1] = [(0, 10, None)];
 
 // The first three records of the chain once the link of the third is empty, and the others.
-const FRONT: &[Run] = &[(0, 3, None)];
+static FRONT: [Run; 1] = [(0, 3, None)];
 
-const BACK: &[Run] = &[(3, 10, None)];
+static BACK: [Run; 1] = [(3, 10, None)];
 
-const ALONE: &[Run] = &[(10, 11, None)];
+static ALONE: [Run; 1] = [(10, 11, None)];
 
-const FRONT_AND_ALONE: &[Run] = &[(0, 3, Some(10)), (10, 11, None)];
+static FRONT_AND_ALONE: [Run; 2] = [(0, 3, Some(10)), (10, 11, None)];
 
 // The chain, and a record without links.
-const CHAIN_AND_ALONE: &[Run] = &[(0, 10, None), (10, 11, None)];
+static CHAIN_AND_ALONE: [Run; 2] = [(0, 10, None), (10, 11, None)];
 
 // A record whose link leaves its set.
-const LOOSE: &[Run] = &[(4, 5, Some(5))];
+static LOOSE: [Run; 1] = [(4, 5, Some(5))];
 
 // The chain as a ring, and the ring without one of its links.
-const RING: &[Run] = &[(0, 10, Some(0))];
+static RING: [Run; 1] = [(0, 10, Some(0))];
 
-const OPEN_RING: &[Run] = &[(0, 5, None), (5, 10, Some(0))];
+static OPEN_RING: [Run; 2] = [(0, 5, None), (5, 10, Some(0))];
 
 // Returns whether all links of the chain are empty, and those of the bases unchanged.
 fn are_cut<K: RecordKind, D: Device>(set: &mut Members<K, D>) -> bool {
-    for (from, end, last) in CHAIN {
+    for (from, end, last) in &CHAIN {
         for index in *from..*end {
             let number = RecordNo::new(index);
             if !both_lead(set, number, None, target(index, *end, *last)) || !answers(set, number) {
@@ -52,12 +49,42 @@ fn are_cut<K: RecordKind, D: Device>(set: &mut Members<K, D>) -> bool {
     true
 }
 
+/// The records of a set.
+#[derive(Clone, Copy)]
+enum List {
+    Nothing,
+    Chain,
+    Front,
+    Back,
+    Alone,
+    FrontAndAlone,
+    Ring,
+    OpenRing,
+    ChainAndAlone,
+    Loose,
+}
+
+fn records(list: List) -> &'static [Run] {
+    match list {
+        List::Nothing => &[],
+        List::Chain => &CHAIN,
+        List::Front => &FRONT,
+        List::Back => &BACK,
+        List::Alone => &ALONE,
+        List::FrontAndAlone => &FRONT_AND_ALONE,
+        List::Ring => &RING,
+        List::OpenRing => &OPEN_RING,
+        List::ChainAndAlone => &CHAIN_AND_ALONE,
+        List::Loose => &LOOSE,
+    }
+}
+
 /// A step on three sets, with its expected result.
 #[derive(Clone, Copy)]
 enum Step {
     /// Replaces the first set by one of these records.
-    First(&'static [Run]),
-    Second(&'static [Run]),
+    First(List),
+    Second(List),
     /// Adds this record to the first set.
     Add(usize, Option<usize>),
     /// Changes the link of a record of the first set. The records that part from it are the second
@@ -71,7 +98,7 @@ enum Step {
     /// Empties all links of the first set.
     Cut,
     /// The records of the first set and of the second.
-    Are(&'static [Run], &'static [Run]),
+    Are(List, List),
     /// The first set is the chain with all links empty.
     AreCut,
     IsFolded(bool),
@@ -91,49 +118,49 @@ struct Sets<K, D> {
 static STEPS: [Step; 44] = [
     // The third link of the chain is emptied, then leads to the single record, then back to where
     // it led.
-    Step::First(CHAIN),
-    Step::Are(CHAIN, NOTHING),
+    Step::First(List::Chain),
+    Step::Are(List::Chain, List::Nothing),
     Step::Part(2, None),
-    Step::Are(FRONT, BACK),
+    Step::Are(List::Front, List::Back),
     Step::Swap,
-    Step::Are(FRONT, NOTHING),
-    Step::Second(ALONE),
-    Step::Are(FRONT, ALONE),
+    Step::Are(List::Front, List::Nothing),
+    Step::Second(List::Alone),
+    Step::Are(List::Front, List::Alone),
     Step::Join(2, 10),
-    Step::Are(FRONT_AND_ALONE, NOTHING),
+    Step::Are(List::FrontAndAlone, List::Nothing),
     Step::Part(2, None),
-    Step::Are(FRONT, ALONE),
+    Step::Are(List::Front, List::Alone),
     Step::Swap,
-    Step::Are(FRONT, BACK),
+    Step::Are(List::Front, List::Back),
     Step::Join(2, 3),
-    Step::Are(CHAIN, NOTHING),
+    Step::Are(List::Chain, List::Nothing),
     Step::Swap,
-    Step::Are(CHAIN, ALONE),
-    Step::Second(NOTHING),
+    Step::Are(List::Chain, List::Alone),
+    Step::Second(List::Nothing),
     // A link within the set closes the ring, and another one is emptied: no record parts.
-    Step::Are(CHAIN, NOTHING),
+    Step::Are(List::Chain, List::Nothing),
     Step::Part(9, Some(0)),
-    Step::Are(RING, NOTHING),
+    Step::Are(List::Ring, List::Nothing),
     Step::Part(4, None),
-    Step::Are(OPEN_RING, NOTHING),
-    Step::First(CHAIN),
+    Step::Are(List::OpenRing, List::Nothing),
+    Step::First(List::Chain),
     // Two chains have common records.
-    Step::Are(CHAIN, NOTHING),
-    Step::Second(CHAIN),
-    Step::Are(CHAIN, CHAIN),
+    Step::Are(List::Chain, List::Nothing),
+    Step::Second(List::Chain),
+    Step::Are(List::Chain, List::Chain),
     Step::Refused,
     // A further record without links, and one whose link leaves the set.
     Step::Add(10, None),
-    Step::Are(CHAIN_AND_ALONE, CHAIN),
+    Step::Are(List::ChainAndAlone, List::Chain),
     Step::IsPart(false),
-    Step::First(NOTHING),
-    Step::Are(NOTHING, CHAIN),
+    Step::First(List::Nothing),
+    Step::Are(List::Nothing, List::Chain),
     Step::Add(4, Some(5)),
-    Step::Are(LOOSE, CHAIN),
+    Step::Are(List::Loose, List::Chain),
     Step::IsPart(false),
-    Step::First(CHAIN),
+    Step::First(List::Chain),
     // Each record is changed.
-    Step::Are(CHAIN, CHAIN),
+    Step::Are(List::Chain, List::Chain),
     Step::IsFolded(true),
     Step::Cut,
     Step::AreCut,
@@ -148,8 +175,8 @@ fn makes(
     step: &Step,
 ) -> Result<bool, AllocError> {
     match step {
-        Step::First(list) => sets.first = made(alloc, list)?,
-        Step::Second(list) => sets.second = made(alloc, list)?,
+        Step::First(list) => sets.first = made(alloc, records(*list))?,
+        Step::Second(list) => sets.second = made(alloc, records(*list))?,
         Step::Add(number, target) => return add(alloc, &mut sets.first, fresh(), *number, *target),
         step => return changes(alloc, sets, step),
     }
@@ -197,7 +224,9 @@ fn tells<K: RecordKind, D: Device>(
     step: &Step,
 ) -> Result<bool, AllocError> {
     match step {
-        Step::Are(list, other) => Ok(holds(first, list) && holds(second, other)),
+        Step::Are(list, other) => Ok(
+            holds(first, records(*list)) && holds(second, records(*other)),
+        ),
         Step::AreCut => Ok(are_cut(first)),
         Step::IsFolded(wanted) => Ok(first.is_folded() == *wanted),
         Step::IsPart(wanted) => Ok(first.is_part(alloc)? == *wanted),
@@ -222,7 +251,7 @@ fn holds_again(
 
 // Returns the place of the first step with another result.
 fn first_wrong(alloc: Global, sets: &mut Sets<Record<Longin>, Sensor>) -> Option<usize> {
-    let mut before = &Step::Are(NOTHING, NOTHING);
+    let mut before = &Step::Are(List::Nothing, List::Nothing);
     for (place, step) in STEPS.iter().enumerate() {
         if !holds_again(alloc, sets, step, before) {
             return Some(place);
