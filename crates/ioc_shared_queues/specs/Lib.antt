@@ -1,0 +1,6 @@
+pub mod Sight
+pub mod Order
+pub mod Turns
+pub mod Places
+pub mod Requests
+pub mod Ranks
