@@ -1,4 +1,7 @@
 //! The workers that sleep, and who wakes them.
+ghost use Rattle.std.specs.Prelude.{◌≤◌};
+ghost use Rattle.std.specs.Vec.{vec_len, vec_capacity};
+
 use crossbeam_utils::sync::{Parker, Unparker};
 use std::alloc::{AllocError, Global};
 use std::sync::atomic::Ordering::SeqCst;
@@ -32,11 +35,13 @@ struct Sleeping {
     unparker: Unparker,
 }
 
-// It has room for as many as there were workers.
+// Those that sleep, the last one last, and the number of workers that were made. All of them have
+// room on the list.
 #[derive(Drop)]
 struct SleepList {
     sleeping: Vec<Sleeping>,
     workers: usize,
+    ghost room: { (vec_len sleeping ≤ workers) × (workers ≤ vec_capacity sleeping) },
 }
 
 impl SleepList {
@@ -44,20 +49,22 @@ impl SleepList {
     fn add_worker(&mut self) -> Result<usize, AllocError> {
         let number = self.workers;
         let wanted = number.saturating_add(1);
-        self.sleeping
-            .reserve(wanted.saturating_sub(self.sleeping.len()))?;
+        self.sleeping.reserve(wanted - self.sleeping.len())?;
         self.workers = wanted;
         Ok(number)
     }
 
-    // Adds a worker. It has the room that was made for it.
-    fn add(&mut self, sleeper: &Sleeper) -> Result<(), AllocError> {
-        let unparker = sleeper.parker.unparker().clone()?;
-        self.sleeping.push(Sleeping {
-            number: sleeper.number,
-            unparker,
-        })?;
-        Ok(())
+    // Adds a worker that isn't on the list, in the room that was made for it. Returns whether it
+    // could.
+    fn add(&mut self, sleeper: &Sleeper) -> bool {
+        let number = sleeper.number;
+        match sleeper.parker.unparker().clone() {
+            Ok(unparker) if self.sleeping.len() < self.workers => {
+                self.sleeping.push_reserved(Sleeping { number, unparker });
+                true
+            }
+            _ => false,
+        }
     }
 
     // Removes a worker. Returns false if it isn't on the list.
@@ -71,6 +78,19 @@ impl SleepList {
             }
             None => false,
         }
+    }
+
+    // Removes the last one.
+    fn pop(&mut self) -> Option<Sleeping> {
+        self.sleeping.pop()
+    }
+
+    // Wakes and removes all.
+    fn wake_all(&mut self) {
+        for sleeping in self.sleeping.iter() {
+            sleeping.unparker.unpark();
+        }
+        self.sleeping.clear();
     }
 }
 
@@ -117,7 +137,7 @@ impl IdleWorkers {
     // Takes the worker that fell asleep last off the list.
     fn take_last<R: Wait>(&self, rt: &R) -> Option<Sleeping> {
         let mut list = self.list.lock(rt);
-        let taken = list.sleeping.pop();
+        let taken = list.pop();
         self.asleep.store(list.sleeping.len(), SeqCst);
         taken
     }
@@ -126,10 +146,7 @@ impl IdleWorkers {
     pub fn close<R: Wait>(&self, rt: &R) {
         self.closed.store(true, SeqCst);
         let mut list = self.list.lock(rt);
-        for sleeping in list.sleeping.iter() {
-            sleeping.unparker.unpark();
-        }
-        list.sleeping.clear();
+        list.wake_all();
         self.asleep.store(0, SeqCst);
     }
 
@@ -143,11 +160,11 @@ impl IdleWorkers {
         self.asleep.load(SeqCst)
     }
 
-    // Puts a worker on the list. It looks at the queues once more before it sleeps. If there is no
-    // memory, it will wake at once.
+    // Puts a worker on the list. It looks at the queues once more before it sleeps. One that couldn't
+    // be put there will wake at once.
     pub(crate) fn lie_down<R: Wait>(&self, rt: &R, sleeper: &Sleeper) {
         let mut list = self.list.lock(rt);
-        if list.add(sleeper).is_err() {
+        if !list.add(sleeper) {
             sleeper.parker.unparker().unpark();
         }
         self.asleep.store(list.sleeping.len(), SeqCst);
