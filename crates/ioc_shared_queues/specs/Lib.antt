@@ -1,6 +1,6 @@
-pub mod Sight
+pub mod Seen
 pub mod Order
 pub mod Turns
-pub mod Places
+pub mod Lanes
 pub mod Requests
 pub mod Ranks

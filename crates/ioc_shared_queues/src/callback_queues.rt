@@ -1,11 +1,11 @@
 //! The three callback queues and the once queue, which threads share without a lock.
 ghost use Rattle.std.specs.Prelude.{◌≡◌, [], IfOk, IfErr, IfSome, IfNone, OnOk, OnErr, true, false};
 ghost use Rattle.crossbeam_queue.specs.Passes.{view, IsPassOf, ruled_capacity};
-ghost use Rattle.ioc_shared_queues.specs.Sight.{Puts, Takes, HeldThen};
-ghost use Rattle.ioc_shared_queues.specs.Places.{sight_at, PutsAt, TakesAt, FindsEmptyAt, FindsFullAt};
+ghost use Rattle.ioc_shared_queues.specs.Seen.{Puts, Takes, HeldThen};
+ghost use Rattle.ioc_shared_queues.specs.Lanes.{seen_at, PutsAt, TakesAt, FindsEmptyAt, FindsFullAt};
 
 use crate::idle_workers::IdleWorkers;
-use crate::order::{Line, Put, Seat, Taken};
+use crate::order::{OrderedQueue, PutsItem, QueuePass, TakesItem};
 use crate::queues::SharedQueues;
 use crate::rank::Rank;
 use crate::worker::Worker;
@@ -16,27 +16,27 @@ use std::sync::atomic::AtomicU64;
 use std::sync::atomic::Ordering::SeqCst;
 
 /// The number of items that a callback queue holds at most.
-pub const CALLBACKS: usize = 2000;
+pub const CALLBACK_LIMIT: usize = 2000;
 
 /// The number of items that the once queue holds at most.
-pub const ONCES: usize = 1000;
+pub const ONCE_LIMIT: usize = 1000;
 
 /// By which a thread calls the four queues: its passes of them, which take no bytes. Contracts see
 /// what was done to each queue up to the lane's last call that changed it.
 #[derive(Drop)]
 pub struct Lane<T> {
-    high: Seat<T>,
-    medium: Seat<T>,
-    low: Seat<T>,
-    once: Seat<T>,
+    high: QueuePass<T>,
+    medium: QueuePass<T>,
+    low: QueuePass<T>,
+    once: QueuePass<T>,
 }
 
 impl<T> Model for Lane<T> {
     ghost use Rattle.std.specs.Prelude.{◌≡◌, [], ◌∷◌};
     ghost use Rattle.crossbeam_queue.specs.Passes.{view as seen};
-    ghost use Rattle.ioc_shared_queues.specs.Places.{Places};
+    ghost use Rattle.ioc_shared_queues.specs.Lanes.{LaneView};
 
-    ghost Value = { Places T };
+    ghost Value = { LaneView T };
 
     ghost view = { λ l. record { of = l.high.table_id ∷ l.medium.table_id ∷ l.low.table_id ∷ l.once.table_id ∷ []; high = seen l.high; medium = seen l.medium; low = seen l.low; once = seen l.once } };
 
@@ -46,10 +46,10 @@ impl<T> Model for Lane<T> {
 /// The queues, with the list of their workers that sleep. Contracts see which queues they are.
 #[derive(Drop)]
 pub struct CallbackQueues<T> {
-    high: Line<T>,
-    medium: Line<T>,
-    low: Line<T>,
-    once: Line<T>,
+    high: OrderedQueue<T>,
+    medium: OrderedQueue<T>,
+    low: OrderedQueue<T>,
+    once: OrderedQueue<T>,
     idle: IdleWorkers,
     dropped: AtomicU64,
 }
@@ -76,10 +76,10 @@ impl<T> CallbackQueues<T> {
     where
         T: Drop,
     {
-        let (high, _) = Line::<T>::ruled(alloc, CALLBACKS)?;
-        let (medium, _) = Line::<T>::ruled(alloc, CALLBACKS)?;
-        let (low, _) = Line::<T>::ruled(alloc, CALLBACKS)?;
-        let (once, _) = Line::<T>::ruled(alloc, ONCES)?;
+        let (high, _) = OrderedQueue::<T>::ruled(alloc, CALLBACK_LIMIT)?;
+        let (medium, _) = OrderedQueue::<T>::ruled(alloc, CALLBACK_LIMIT)?;
+        let (low, _) = OrderedQueue::<T>::ruled(alloc, CALLBACK_LIMIT)?;
+        let (once, _) = OrderedQueue::<T>::ruled(alloc, ONCE_LIMIT)?;
         Ok(CallbackQueues {
             high,
             medium,
@@ -93,7 +93,7 @@ impl<T> CallbackQueues<T> {
     /// Makes one more lane. It has seen nothing yet.
     pub fn lane(&self) -> Lane<T>
         ensures of { result.of ≡ self.now }
-        ensures new { (rank : _) → sight_at rank result ≡ [] }
+        ensures new { (rank : _) → seen_at rank result ≡ [] }
     {
         Lane {
             high: self.high.pass(),
@@ -112,7 +112,7 @@ impl<T> CallbackQueues<T> {
     where
         T: Drop,
         ensures of { IfOk result (λ w. w.lane.of ≡ self.now) }
-        ensures new { IfOk result (λ w. (rank : _) → sight_at rank w.lane ≡ []) }
+        ensures new { IfOk result (λ w. (rank : _) → seen_at rank w.lane ≡ []) }
     {
         Worker::new(rt, alloc, self.lane(), &self.idle)
     }
@@ -131,7 +131,7 @@ impl<T> CallbackQueues<T> {
 
 impl<T> SharedQueues<Lane<T>, T> for CallbackQueues<T> {
     ghost use Rattle.std.specs.Prelude.{◌≡◌};
-    ghost use Rattle.ioc_shared_queues.specs.Places.{PutsAt, TakesAt, FindsEmptyAt, FindsFullAt};
+    ghost use Rattle.ioc_shared_queues.specs.Lanes.{PutsAt, TakesAt, FindsEmptyAt, FindsFullAt};
 
     ghost is_lane = { λ q l. l.of ≡ q };
 
@@ -186,18 +186,18 @@ impl<T> SharedQueues<Lane<T>, T> for CallbackQueues<T> {
 // Puts an item at the end of a queue. It comes back and is counted if the queue was full.
 fn put<T, R: Wait>(
     rt: &R,
-    line: &Line<T>,
-    seat: &mut Seat<T>,
+    queue: &OrderedQueue<T>,
+    pass: &mut QueuePass<T>,
     item: T,
     dropped: &AtomicU64,
 ) -> Result<(), T>
-    requires { IsPassOf line.now seat.old }
-    ensures seat { IsPassOf line.now seat.new × (seat.new.table_id ≡ seat.old.table_id) }
-    ensures put { OnOk result (Puts (view seat.old) item (view seat.new)) }
+    requires { IsPassOf queue.now pass.old }
+    ensures pass { IsPassOf queue.now pass.new × (pass.new.table_id ≡ pass.old.table_id) }
+    ensures put { OnOk result (Puts (view pass.old) item (view pass.new)) }
     ensures given_back { IfErr result (λ given. given ≡ item) }
-    ensures full { OnErr result ((view seat.new ≡ view seat.old) × HeldThen (view seat.old) (ruled_capacity line.now)) }
+    ensures full { OnErr result ((view pass.new ≡ view pass.old) × HeldThen (view pass.old) (ruled_capacity queue.now)) }
 {
-    let pushed = line.push_as::<Put, R>(rt, seat, item);
+    let pushed = queue.push_as::<PutsItem, R>(rt, pass, item);
     if pushed.is_err() {
         dropped.fetch_add(1, SeqCst);
     }
@@ -205,11 +205,11 @@ fn put<T, R: Wait>(
 }
 
 // Takes the first item of a queue, unless it was empty.
-fn take<T, R: Wait>(rt: &R, line: &Line<T>, seat: &mut Seat<T>) -> Option<T>
-    requires { IsPassOf line.now seat.old }
-    ensures seat { IsPassOf line.now seat.new × (seat.new.table_id ≡ seat.old.table_id) }
-    ensures taken { IfSome result (λ item. Takes (view seat.old) item (view seat.new)) }
-    ensures empty { IfNone result ((view seat.new ≡ view seat.old) × HeldThen (view seat.old) 0) }
+fn take<T, R: Wait>(rt: &R, queue: &OrderedQueue<T>, pass: &mut QueuePass<T>) -> Option<T>
+    requires { IsPassOf queue.now pass.old }
+    ensures pass { IsPassOf queue.now pass.new × (pass.new.table_id ≡ pass.old.table_id) }
+    ensures taken { IfSome result (λ item. Takes (view pass.old) item (view pass.new)) }
+    ensures empty { IfNone result ((view pass.new ≡ view pass.old) × HeldThen (view pass.old) 0) }
 {
-    line.pop_as::<Taken, R>(rt, seat)
+    queue.pop_as::<TakesItem, R>(rt, pass)
 }

@@ -6,23 +6,23 @@ use crossbeam_queue::{Pass, RuledArrayQueue};
 use std::collections::LinkedList;
 
 /// What is done to a queue. No value of it is made.
-pub enum Deed<T> {
+pub enum Change<T> {
     Put(T),
     Taken(T),
 }
 
-/// A deed as a lane sees it, and whether it was the lane's own. No value of it is made.
-pub struct Move<T> {
+/// A change as a lane sees it, and whether it was the lane's own. No value of it is made.
+pub struct SeenChange<T> {
     pub own: bool,
-    pub deed: Deed<T>,
+    pub change: Change<T>,
 }
 
 /// All that was done to a queue up to a lane's last put or taking, in order. No value of it is made.
-pub type Sight<T> = LinkedList<Move<T>>;
+pub type Seen<T> = LinkedList<SeenChange<T>>;
 
 pub struct Ordered;
 
-impl<T> Protocol<T, Sight<T>> for Ordered {
+impl<T> Protocol<T, Seen<T>> for Ordered {
     ghost use Rattle.std.specs.Prelude.{[]};
     ghost use Rattle.ioc_shared_queues.specs.Order.{InOrder};
 
@@ -31,34 +31,34 @@ impl<T> Protocol<T, Sight<T>> for Ordered {
     ghost first = { [] };
 }
 
-pub struct Put;
+pub struct PutsItem;
 
-impl<T> Outcome<T, Sight<T>> for Put {
-    ghost use Rattle.ioc_shared_queues.specs.Sight.{Puts};
+impl<T> Outcome<T, Seen<T>> for PutsItem {
+    ghost use Rattle.ioc_shared_queues.specs.Seen.{Puts};
 
     ghost then = { Puts };
 }
 
-impl<T> Lesson<T, Sight<T>> for Put {
-    ghost use Rattle.ioc_shared_queues.specs.Sight.{Left};
+impl<T> Lesson<T, Seen<T>> for PutsItem {
+    ghost use Rattle.ioc_shared_queues.specs.Seen.{Left};
 
     ghost fact = { Left };
 }
 
-pub struct Taken;
+pub struct TakesItem;
 
-impl<T> Outcome<T, Sight<T>> for Taken {
-    ghost use Rattle.ioc_shared_queues.specs.Sight.{Takes};
+impl<T> Outcome<T, Seen<T>> for TakesItem {
+    ghost use Rattle.ioc_shared_queues.specs.Seen.{Takes};
 
     ghost then = { Takes };
 }
 
-impl<T> Lesson<T, Sight<T>> for Taken {
-    ghost use Rattle.ioc_shared_queues.specs.Sight.{Left};
+impl<T> Lesson<T, Seen<T>> for TakesItem {
+    ghost use Rattle.ioc_shared_queues.specs.Seen.{Left};
 
     ghost fact = { Left };
 }
 
-pub type Line<T> = RuledArrayQueue<T, Sight<T>, Ordered>;
+pub type OrderedQueue<T> = RuledArrayQueue<T, Seen<T>, Ordered>;
 
-pub type Seat<T> = Pass<T, Sight<T>>;
+pub type QueuePass<T> = Pass<T, Seen<T>>;

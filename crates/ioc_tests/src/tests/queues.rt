@@ -194,10 +194,15 @@ impl Done {
         self.count = self.count.wrapping_add(1);
         self.sum = self.sum.wrapping_add(item);
     }
+
+    fn add_all(&mut self, other: &Done) {
+        self.count = self.count.wrapping_add(other.count);
+        self.sum = self.sum.wrapping_add(other.sum);
+    }
 }
 
-// Serves each item by adding it up. All workers together count in `all`, and each waits before its
-// item is served until `open` isn't 0.
+// Serves each item by adding it up, once `open` is 1. All workers together count in `all` the items
+// that they have begun.
 #[derive(Drop)]
 struct Adder<'a> {
     done: Done,
@@ -314,9 +319,11 @@ fn four_and_four<R: Threads + Wait + Sync>(
     let mut put = Done::new();
     let mut served = Done::new();
     for (i, part) in parts.iter().enumerate() {
-        let whole = if i < PUSHERS { &mut put } else { &mut served };
-        whole.count = whole.count.wrapping_add(part.count);
-        whole.sum = whole.sum.wrapping_add(part.sum);
+        if i < PUSHERS {
+            put.add_all(part);
+        } else {
+            served.add_all(part);
+        }
     }
     Ok((put, served))
 }
@@ -345,13 +352,13 @@ fn wake_and_close(
             && is_reached(all, item)
             && are_asleep(queues, WORKERS - item as usize)
         {
-            seen += 1;
+            seen = seen.wrapping_add(1);
         }
     }
     open.store(1, Ordering::SeqCst);
-    seen += are_asleep(queues, WORKERS) as u64;
+    let slept = are_asleep(queues, WORKERS) as u64;
     queues.close(rt);
-    seen
+    seen.wrapping_add(slept)
 }
 
 // Does these steps beside four workers. Returns how many were seen, and what the workers served.
@@ -369,8 +376,7 @@ fn woken_and_closed<R: Threads + Wait + Sync>(
     );
     let mut served = Done::new();
     for part in parts?.iter() {
-        served.count = served.count.wrapping_add(part.count);
-        served.sum = served.sum.wrapping_add(part.sum);
+        served.add_all(part);
     }
     Ok((seen, served))
 }
