@@ -26,7 +26,8 @@ module _ {T : Type 0} where
   at_below (x ∷ xs) zero v e = omega arith
   at_below (x ∷ xs) (suc lane) v e = let b = at_below xs lane v e in omega arith
 
-  at_end : (views : List (Seen T)) (a v : Seen T) (lane : ℕ) → get_elem? (views ++ a ∷ []) lane ≡ some v → (get_elem? views lane ≡ some v) ⊎ ((lane ≡ length views) × (a ≡ v))
+  at_end : (views : List (Seen T)) (a v : Seen T) (lane : ℕ) → get_elem? (views ++ a ∷ []) lane ≡ some v
+      → (get_elem? views lane ≡ some v) ⊎ ((lane ≡ length views) × (a ≡ v))
   at_end [] a v zero e = inr (refl, some-injective a v e)
   at_end [] a v (suc lane) e = absurd (some-ne-none v (sym e))
   at_end (x ∷ xs) a v zero e = inl e
@@ -44,15 +45,18 @@ module _ {T : Type 0} where
   all_takings lane [] = refl
   all_takings lane (e ∷ log) = ap (λ l. taken_by e.1 ++ l) (all_takings lane log)
 
-  seen_more : (lane by : ℕ) (change : Change T) (log : Log T) → seen_by lane (log ++ (by, change) ∷ []) ≡ seen_by lane log ++ seen_change (eqb lane by) change ∷ []
+  seen_more : (lane by : ℕ) (change : Change T) (log : Log T)
+      → seen_by lane (log ++ (by, change) ∷ []) ≡ seen_by lane log ++ seen_change (eqb lane by) change ∷ []
   seen_more lane by change [] = refl
   seen_more lane by change (e ∷ log) = ap (λ l. seen_change (eqb lane e.0) e.1 ∷ l) (seen_more lane by change log)
 
   puts_more : (by : ℕ) (change : Change T) (log : Log T) → puts_of (log ++ (by, change) ∷ []) ≡ puts_of log ++ put_by change
-  puts_more by change log = flat_map-append (λ e. put_by e.1) log ((by, change) ∷ []) ∙ ap (λ l. puts_of log ++ l) (append-nil (put_by change))
+  puts_more by change log =
+      flat_map-append (λ e. put_by e.1) log ((by, change) ∷ []) ∙ ap (λ l. puts_of log ++ l) (append-nil (put_by change))
 
   takings_more : (by : ℕ) (change : Change T) (log : Log T) → takings_of (log ++ (by, change) ∷ []) ≡ takings_of log ++ taken_by change
-  takings_more by change log = flat_map-append (λ e. taken_by e.1) log ((by, change) ∷ []) ∙ ap (λ l. takings_of log ++ l) (append-nil (taken_by change))
+  takings_more by change log =
+      flat_map-append (λ e. taken_by e.1) log ((by, change) ∷ []) ∙ ap (λ l. takings_of log ++ l) (append-nil (taken_by change))
 
   -- a change by another lane follows
   follows_more : (seen now : Seen T) (m : SeenChange T) → IsOthers m → Follows seen now → Follows seen (now ++ m ∷ [])
@@ -63,31 +67,43 @@ module _ {T : Type 0} where
   )
 
   -- a change of another lane changes nothing for this one
-  fits_other : (lane by : ℕ) (change : Change T) (log : Log T) (v : Seen T) → lane ≢ by → Fits log lane v → Fits (log ++ (by, change) ∷ []) lane v
+  fits_other : (lane by : ℕ) (change : Change T) (log : Log T) (v : Seen T) → lane ≢ by → Fits log lane v
+      → Fits (log ++ (by, change) ∷ []) lane v
   fits_other lane by change log v apart f =
-      let more : seen_by lane (log ++ (by, change) ∷ []) ≡ seen_by lane log ++ seen_change false change ∷ [] = seen_more lane by change log ∙ ap (λ b. seen_by lane log ++ seen_change b change ∷ []) (ne_eqb lane by apart) in
+      let more : seen_by lane (log ++ (by, change) ∷ []) ≡ seen_by lane log ++ seen_change false change ∷ [] =
+      seen_more lane by change log ∙ ap (λ b. seen_by lane log ++ seen_change b change ∷ []) (ne_eqb lane by apart) in
       subst (λ l. Follows v l) (sym more) (follows_more v (seen_by lane log) (seen_change false change) refl f)
 
-  own_more : (lane : ℕ) (change : Change T) (log : Log T) → seen_by lane (log ++ (lane, change) ∷ []) ≡ seen_by lane log ++ seen_change true change ∷ []
-  own_more lane change log = seen_more lane lane change log ∙ ap (λ b. seen_by lane log ++ seen_change b change ∷ []) (eq-eqb lane lane refl)
+  own_more : (lane : ℕ) (change : Change T) (log : Log T)
+      → seen_by lane (log ++ (lane, change) ∷ []) ≡ seen_by lane log ++ seen_change true change ∷ []
+  own_more lane change log =
+      seen_more lane lane change log ∙ ap (λ b. seen_by lane log ++ seen_change b change ∷ []) (eq-eqb lane lane refl)
 
   -- the lane's own change
-  own_deed : (lane : ℕ) (change : Change T) (log : Log T) (v : Seen T) → Fits log lane v → Adds v change (seen_by lane (log ++ (lane, change) ∷ []))
-  own_deed lane change log v f = (f.0, f.1, own_more lane change log ∙ ap (λ l. l ++ seen_change true change ∷ []) f.2)
+  own_change : (lane : ℕ) (change : Change T) (log : Log T) (v : Seen T) → Fits log lane v
+      → Adds v change (seen_by lane (log ++ (lane, change) ∷ []))
+  own_change lane change log v f = (f.0, f.1, own_more lane change log ∙ ap (λ l. l ++ seen_change true change ∷ []) f.2)
 
-  by_one_more : (lanes by : ℕ) (change : Change T) (log : Log T) → by < lanes → IsByLanes lanes log → IsByLanes lanes (log ++ (by, change) ∷ [])
-  by_one_more lanes by change log below all = All-append (IsBelow lanes) log ((by, change) ∷ []) all (All-cons (IsBelow lanes) (by, change) [] below (All-nil (IsBelow lanes)))
+  by_one_more : (lanes by : ℕ) (change : Change T) (log : Log T) → by < lanes → IsByLanes lanes log
+      → IsByLanes lanes (log ++ (by, change) ∷ [])
+  by_one_more lanes by change log below all =
+      All-append (IsBelow lanes) log ((by, change) ∷ []) all
+      (All-cons (IsBelow lanes) (by, change) [] below (All-nil (IsBelow lanes)))
 
   by_more_lanes : (lanes more : ℕ) (log : Log T) → lanes < more → IsByLanes lanes log → IsByLanes more log
   by_more_lanes lanes more [] less all = All-nil (IsBelow more)
-  by_more_lanes lanes more (e ∷ log) less all = All-cons (IsBelow more) e log (let a : e.0 < lanes = All-head (IsBelow lanes) e log all in omega arith) (by_more_lanes lanes more log less (All-tail (IsBelow lanes) e log all))
+  by_more_lanes lanes more (e ∷ log) less all =
+      let a : e.0 < lanes = All-head (IsBelow lanes) e log all in
+      All-cons (IsBelow more) e log (omega arith) (by_more_lanes lanes more log less (All-tail (IsBelow lanes) e log all))
 
   -- a new lane made none of the changes
   others_to : (lanes : ℕ) (log : Log T) → IsByLanes lanes log → All IsOthers (seen_by lanes log)
   others_to lanes [] all = All-nil IsOthers
   others_to lanes (e ∷ log) all =
-      let apart : eqb lanes e.0 ≡ false = ne_eqb lanes e.0 (λ h. let a : e.0 < lanes = All-head (IsBelow lanes) e log all in omega arith) in
-      All-cons IsOthers (seen_change (eqb lanes e.0) e.1) (seen_by lanes log) apart (others_to lanes log (All-tail (IsBelow lanes) e log all))
+      let a : e.0 < lanes = All-head (IsBelow lanes) e log all in
+      let apart : eqb lanes e.0 ≡ false = ne_eqb lanes e.0 (λ h. omega arith) in
+      All-cons IsOthers (seen_change (eqb lanes e.0) e.1) (seen_by lanes log) apart
+      (others_to lanes log (All-tail (IsBelow lanes) e log all))
 
   newcomer : (lanes : ℕ) (log : Log T) → IsByLanes lanes log → Fits log lanes []
   newcomer lanes log all = (seen_by lanes log, others_to lanes log all, refl)
@@ -96,20 +112,32 @@ module _ {T : Type 0} where
   AllFit log views = (lane : ℕ) (v : Seen T) → get_elem? views lane ≡ some v → Fits log lane v
 
   -- after a change, where the lane that did it fits, all do
-  all_fit : (log : Log T) (views : List (Seen T)) (by : ℕ) (change : Change T) (w : Seen T) → AllFit log views → Fits (log ++ (by, change) ∷ []) by w → AllFit (log ++ (by, change) ∷ []) (set views by w)
-  all_fit log views by change w all mine j u e = ⊎_elim (λ t. subst (λ (y : ℕ × Seen T). Fits (log ++ (by, change) ∷ []) y.0 y.1) (λ i. (sym t.0 i, t.1 i)) mine)
+  all_fit : (log : Log T) (views : List (Seen T)) (by : ℕ) (change : Change T) (w : Seen T) → AllFit log views
+      → Fits (log ++ (by, change) ∷ []) by w → AllFit (log ++ (by, change) ∷ []) (set views by w)
+  all_fit log views by change w all mine j u e =
+      ⊎_elim
+      (λ t. subst (λ (y : ℕ × Seen T). Fits (log ++ (by, change) ∷ []) y.0 y.1) (λ i. (sym t.0 i, t.1 i)) mine)
       (λ t. fits_other j by change log u t.0 (all j u t.1)) (at_set views by j w u e)
 
   -- one lane more
   all_fit_more : (log : Log T) (views : List (Seen T)) → IsByLanes (length views) log → AllFit log views → AllFit log (views ++ [] ∷ [])
-  all_fit_more log views by all lane v at = ⊎_elim (λ t. all lane v t)
-      (λ t. subst (λ (y : ℕ × Seen T). Fits log y.0 y.1) (λ i. (sym t.0 i, t.1 i)) (newcomer (length views) log by)) (at_end views [] v lane at)
+  all_fit_more log views by all lane v at =
+      ⊎_elim (λ t. all lane v t)
+      (λ t. subst (λ (y : ℕ × Seen T). Fits log y.0 y.1) (λ i. (sym t.0 i, t.1 i)) (newcomer (length views) log by))
+      (at_end views [] v lane at)
 
   by_lane_more : (views : List (Seen T)) (log : Log T) → IsByLanes (length views) log → IsByLanes (length (views ++ [] ∷ [])) log
-  by_lane_more views log all = by_more_lanes (length views) (length (views ++ [] ∷ [])) log (omega (arith, length-append views ([] ∷ []))) all
+  by_lane_more views log all =
+      by_more_lanes (length views) (length (views ++ [] ∷ [])) log (omega (arith, length-append views ([] ∷ []))) all
 
   pub begins : InOrder {T = T} [] ([] ∷ [])
-  begins = ([], refl, All-nil (IsBelow 1), λ lane v at. ⊎_elim (λ t. absurd (some-ne-none v (sym t))) (λ t. subst (λ u. Fits [] lane u) t.1 (same [])) (at_end [] [] v lane at))
+  begins = (
+    [],
+    refl,
+    All-nil (IsBelow 1),
+    λ lane v at. ⊎_elim (λ t. absurd (some-ne-none v (sym t)))
+        (λ t. subst (λ u. Fits [] lane u) t.1 (same [])) (at_end [] [] v lane at),
+  )
 
   pub admits : Admits (InOrder {T = T}) []
   admits items views h = (h.0, h.1, by_lane_more views h.0 h.2, all_fit_more h.0 views h.2 h.3)
@@ -120,16 +148,21 @@ module _ {T : Type 0} where
       let log : Log T = h.0 ++ (lane, change) ∷ [] in
       let w : Seen T = seen_by lane log in
       let left : List T = items ++ x ∷ [] in
-      let order : puts_of log ≡ takings_of log ++ left = puts_more lane change h.0 ∙ ap (λ l. l ++ x ∷ []) h.1 ∙ append_assoc (takings_of h.0) items (x ∷ [])
+      let order : puts_of log ≡ takings_of log ++ left =
+      puts_more lane change h.0 ∙ ap (λ l. l ++ x ∷ []) h.1 ∙ append_assoc (takings_of h.0) items (x ∷ [])
       ∙ ap (λ l. l ++ left) (sym (takings_more lane change h.0 ∙ append-nil (takings_of h.0))) in (
         w,
         (
           log,
           order,
-          subst (λ k. IsByLanes k log) (sym (length-set views lane w)) (by_one_more (length views) lane change h.0 (at_below views lane v at) h.2),
+          subst (λ k. IsByLanes k log) (sym (length-set views lane w))
+              (by_one_more (length views) lane change h.0 (at_below views lane v at) h.2),
           all_fit h.0 views lane change w h.3 (same w),
         ),
-        (own_deed lane change h.0 v (h.3 lane v at), (items, all_puts lane log ∙ order ∙ ap (λ l. l ++ left) (sym (all_takings lane log)))),
+        (
+          own_change lane change h.0 v (h.3 lane v at),
+          (items, all_puts lane log ∙ order ∙ ap (λ l. l ++ left) (sym (all_takings lane log))),
+        ),
       )
 
   pub takes : (lane : ℕ) (v : Seen T) → Pops (InOrder {T = T}) lane v (λ x w. Takes v x w)
@@ -137,16 +170,21 @@ module _ {T : Type 0} where
       let change : Change T = Taken x in
       let log : Log T = h.0 ++ (lane, change) ∷ [] in
       let w : Seen T = seen_by lane log in
-      let order : puts_of log ≡ takings_of log ++ items = puts_more lane change h.0 ∙ append-nil (puts_of h.0) ∙ h.1 ∙ sym (append_assoc (takings_of h.0) (x ∷ []) items)
+      let order : puts_of log ≡ takings_of log ++ items =
+      puts_more lane change h.0 ∙ append-nil (puts_of h.0) ∙ h.1 ∙ sym (append_assoc (takings_of h.0) (x ∷ []) items)
       ∙ ap (λ l. l ++ items) (sym (takings_more lane change h.0)) in (
         w,
         (
           log,
           order,
-          subst (λ k. IsByLanes k log) (sym (length-set views lane w)) (by_one_more (length views) lane change h.0 (at_below views lane v at) h.2),
+          subst (λ k. IsByLanes k log) (sym (length-set views lane w))
+              (by_one_more (length views) lane change h.0 (at_below views lane v at) h.2),
           all_fit h.0 views lane change w h.3 (same w),
         ),
-        (own_deed lane change h.0 v (h.3 lane v at), (items, all_puts lane log ∙ order ∙ ap (λ l. l ++ items) (sym (all_takings lane log)))),
+        (
+          own_change lane change h.0 v (h.3 lane v at),
+          (items, all_puts lane log ∙ order ∙ ap (λ l. l ++ items) (sym (all_takings lane log))),
+        ),
       )
 
   pub learns : (lane : ℕ) (v : Seen T) → Learns (InOrder {T = T}) lane v (Left v)

@@ -32,10 +32,12 @@ module _ {S T : Type 0} (serves refuses hands_back : S → T → S → Type 0) w
 abbrev pub Looks : {P : Type 0} → (P → P → Type 0) → P → P → Type 0
 Looks sees_closed l m = (m ≡ l) ⊎ sees_closed l m
 
-module _ {P S T : Type 0} (takes : P → Rank → T → P → Type 0) (finds_empty : P → Rank → P → Type 0) (sees_closed : P → P → Type 0) (serves refuses hands_back : S → T → S → Type 0) where
+module _ {P S T : Type 0} (takes : P → Rank → T → P → Type 0) (finds_empty : P → Rank → P → Type 0)
+    (sees_closed : P → P → Type 0) (serves refuses hands_back : S → T → S → Type 0) where
   -- In one round an item is taken and is served or handed back, or all queues are found empty.
   abbrev pub Round : Option T → P → S → P → S → Type 0
-  Round (Some item) l x m y = (a : P) × Looks sees_closed l a × TakesFirst takes finds_empty a item m × IsServed serves refuses hands_back x item y
+  Round (Some item) l x m y =
+      (a : P) × Looks sees_closed l a × TakesFirst takes finds_empty a item m × IsServed serves refuses hands_back x item y
   Round None l x m y = (a : P) × Looks sees_closed l a × TakesNone finds_empty a m × (y ≡ x)
 
   -- One round after another, the latest first.

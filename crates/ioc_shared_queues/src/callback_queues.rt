@@ -38,7 +38,13 @@ impl<T> Model for Lane<T> {
 
     ghost Value = { LaneView T };
 
-    ghost view = { λ l. record { of = l.high.table_id ∷ l.medium.table_id ∷ l.low.table_id ∷ l.once.table_id ∷ []; high = seen l.high; medium = seen l.medium; low = seen l.low; once = seen l.once } };
+    ghost view = { λ l. record {
+      of = l.high.table_id ∷ l.medium.table_id ∷ l.low.table_id ∷ l.once.table_id ∷ [];
+      high = seen l.high;
+      medium = seen l.medium;
+      low = seen l.low;
+      once = seen l.once;
+    } };
 
     ghost invariant = { λ l. (l.high.me.1 ≡ []) × (l.medium.me.1 ≡ []) × (l.low.me.1 ≡ []) × (l.once.me.1 ≡ []) };
 }
@@ -61,9 +67,11 @@ impl<T> Model for CallbackQueues<T> {
 
     ghost Value = { List TableId };
 
-    ghost view = { λ q. q.high.table.shared.table_id ∷ q.medium.table.shared.table_id ∷ q.low.table.shared.table_id ∷ q.once.table.shared.table_id ∷ [] };
+    ghost view = { λ q. q.high.table.shared.table_id ∷ q.medium.table.shared.table_id
+        ∷ q.low.table.shared.table_id ∷ q.once.table.shared.table_id ∷ [] };
 
-    ghost invariant = { λ q. (ruled_capacity q.high ≡ 2000) × (ruled_capacity q.medium ≡ 2000) × (ruled_capacity q.low ≡ 2000) × (ruled_capacity q.once ≡ 1000) };
+    ghost invariant = { λ q. (ruled_capacity q.high ≡ 2000) × (ruled_capacity q.medium ≡ 2000)
+        × (ruled_capacity q.low ≡ 2000) × (ruled_capacity q.once ≡ 1000) };
 }
 
 impl<T> CallbackQueues<T> {
