@@ -338,35 +338,48 @@ fn four_pushers_and_four_workers(rt: HostRuntime) -> Result<(), Fail> {
     Ok(())
 }
 
+// Puts an item while so many workers sleep. Returns whether it was begun by one of them, and the
+// others were left asleep: beside the worker that it woke at most one can have left the list, which
+// found the item before it fell asleep.
+fn wakes_one(
+    rt: &impl Wait,
+    queues: &CallbackQueues<u64>,
+    all: &AtomicU64,
+    item: u64,
+    sleeping: usize,
+) -> bool {
+    let pushed = queues.push(rt, &mut queues.lane(), Rank::Low, item).is_ok();
+    let left = queues.idle_workers().asleep();
+    let others = sleeping.saturating_sub(1);
+    pushed
+        && left.saturating_add(1) >= others
+        && is_reached(all, item)
+        && are_asleep(queues, others)
+}
+
 // Wakes one sleeping worker and then another, lets both end their items, and closes the queues once
-// all workers sleep again. Returns how many of these steps were seen.
+// all workers sleep again. Returns which of these steps were seen.
 fn wake_and_close(
     rt: &impl Wait,
     queues: &CallbackQueues<u64>,
     all: &AtomicU64,
     open: &AtomicU64,
-) -> u64 {
-    let mut seen = are_asleep(queues, WORKERS) as u64;
-    for item in 1..3 {
-        if queues.push(rt, &mut queues.lane(), Rank::Low, item).is_ok()
-            && is_reached(all, item)
-            && are_asleep(queues, WORKERS - item as usize)
-        {
-            seen = seen.wrapping_add(1);
-        }
-    }
+) -> [bool; 4] {
+    let slept = are_asleep(queues, WORKERS);
+    let first = wakes_one(rt, queues, all, 1, WORKERS);
+    let second = wakes_one(rt, queues, all, 2, WORKERS - 1);
     open.store(1, Ordering::SeqCst);
-    let slept = are_asleep(queues, WORKERS) as u64;
+    let slept_again = are_asleep(queues, WORKERS);
     queues.close(rt);
-    seen.wrapping_add(slept)
+    [slept, first, second, slept_again]
 }
 
-// Does these steps beside four workers. Returns how many were seen, and what the workers served.
+// Does these steps beside four workers. Returns which were seen, and what the workers served.
 fn woken_and_closed<R: Threads + Wait + Sync>(
     rt: &R,
     alloc: Global,
     queues: &CallbackQueues<u64>,
-) -> Result<(u64, Done), AllocError> {
+) -> Result<([bool; 4], Done), AllocError> {
     let all = &AtomicU64::new(0);
     let open = &AtomicU64::new(0);
     let (seen, parts) = thread::join(
@@ -385,7 +398,7 @@ fn woken_and_closed<R: Threads + Wait + Sync>(
 fn sleeping_workers_are_woken(rt: HostRuntime) -> Result<(), Fail> {
     let queues = CallbackQueues::<u64>::new(rt.alloc())?;
     let (seen, served) = woken_and_closed(&rt, rt.alloc(), &queues)?;
-    assert_eq!(rt; seen, 4);
+    assert_eq!(rt; seen, [true; 4]);
     assert_eq!(rt; (served.count, served.sum), (2, 3));
     assert_eq!(rt; queues.idle_workers().asleep(), 0);
     Ok(())
