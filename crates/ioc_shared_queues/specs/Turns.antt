@@ -52,3 +52,15 @@ module _ {P S T : Type 0} (takes : P → Rank → T → P → Type 0) (finds_emp
   -- Rounds, and then the end.
   abbrev pub Runs : P → S → P → S → Type 0
   Runs l x m y = (rounds : List (Option T)) × (k : P) × (z : S) × Rounds rounds l x k z × Ends k z m y
+
+module _ {P S T : Type 0} (takes : P → Rank → T → P → Type 0) (finds_empty : P → Rank → P → Type 0)
+    (hands_back : S → T → S → Type 0) where
+  -- Items are taken and handed back one after another, the latest first.
+  abbrev pub HandsBackEach : List T → P → S → P → S → Type 0
+  HandsBackEach [] l x m y = (m ≡ l) × (y ≡ x)
+  HandsBackEach (item ∷ earlier) l x m y =
+      (k : P) × (z : S) × HandsBackEach earlier l x k z × TakesFirst takes finds_empty k item m × hands_back z item y
+
+  -- Items are taken and handed back until all four queues are found empty.
+  abbrev pub Drains : P → S → P → S → Type 0
+  Drains l x m y = (items : List T) × (k : P) × HandsBackEach items l x k y × TakesNone finds_empty k m

@@ -8,6 +8,7 @@
 #![tactic(auto)]
 
 pub mod callback_queues;
+pub mod draining;
 pub mod idle_workers;
 pub mod order;
 pub mod queues;
@@ -16,6 +17,7 @@ pub mod record_requests;
 pub mod worker;
 
 pub use callback_queues::{CallbackQueues, Lane};
+pub use draining::hand_back_all;
 pub use idle_workers::IdleWorkers;
 pub use queues::SharedQueues;
 pub use rank::Rank;

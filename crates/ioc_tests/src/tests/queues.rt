@@ -5,7 +5,7 @@ use ioc_ledger::{Ledger, PARTS};
 use ioc_menus::Priority;
 use ioc_names::RecordNo;
 use ioc_shared_queues::{
-    CallbackQueues, Rank, RecordRequest, Serve, SharedQueues, record_requests,
+    CallbackQueues, Rank, RecordRequest, Serve, SharedQueues, hand_back_all, record_requests,
 };
 use std::alloc::{AllocError, Global};
 use std::marker::Brand;
@@ -96,19 +96,28 @@ static PUT: [(Rank, u64); 6] = [
     (Rank::High, 5),
 ];
 
-// Puts these items on their queues, closes the queues, and has one worker serve them.
+static LEFT: [(Rank, u64); 2] = [(Rank::Low, 7), (Rank::High, 8)];
+
+// Puts these items on their queues.
+fn put_each(rt: &impl Wait, queues: &CallbackQueues<u64>, items: &[(Rank, u64)]) {
+    for (rank, item) in items {
+        let _ = queues.push(rt, &mut queues.lane(), *rank, *item);
+    }
+}
+
+// Closes queues with these items, has one worker serve them, and hands back two that come later.
 fn served_alone(
     rt: &impl Wait,
     alloc: Global,
     queues: &CallbackQueues<u64>,
     clerk: &mut Clerk,
 ) -> Result<(), AllocError> {
-    for (rank, item) in &PUT {
-        let _ = queues.push(rt, &mut queues.lane(), *rank, *item);
-    }
+    put_each(rt, queues, &PUT);
     queues.close(rt);
     let mut worker = queues.worker(rt, alloc)?;
     worker.run(rt, queues, clerk);
+    put_each(rt, queues, &LEFT);
+    hand_back_all(rt, queues, &mut queues.lane(), clerk);
     Ok(())
 }
 
@@ -121,7 +130,7 @@ fn high_before_medium_before_low_before_once(rt: HostRuntime) -> Result<(), Fail
     };
     served_alone(&rt, rt.alloc(), &queues, &mut clerk)?;
     assert_eq!(rt; clerk.served.as_slice(), [3, 5, 4, 2, 1].as_slice());
-    assert_eq!(rt; clerk.handed_back.as_slice(), [13].as_slice());
+    assert_eq!(rt; clerk.handed_back.as_slice(), [13, 8, 7].as_slice());
     Ok(())
 }
 
