@@ -1,4 +1,5 @@
--- A lane of the callback queues as contracts see it, and what a call does to it. This project's own.
+-- A lane of the callback queues as contracts see it, and what a call does to it. This project's
+-- own.
 use Rattle.std.specs.Prelude.{◌≡◌, ℕ, List}
 use Rattle.atomic_table.specs.Seated.{TableId}
 use Rattle.ioc_shared_queues.specs.declared.order.SeenChange.{SeenChange}

@@ -1,5 +1,5 @@
--- The rule of a queue: there is one list of all that was done to it, each with the lane that did it.
--- This project's own.
+-- The rule of a queue: there is one list of all that was done to it, each with the lane that did
+-- it. This project's own.
 use Rattle.std.specs.Prelude.{◌≡◌, ℕ, ◌<◌, List, ◌++◌, map, length, eqb}
 use Rattle.std.specs.List.{All, flat_map}
 use mathlib.Core.Option.{some}

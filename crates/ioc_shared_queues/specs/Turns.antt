@@ -18,8 +18,8 @@ module _ {P : Type 0} (finds_empty : P → Rank → P → Type 0) where
   TakesNone l m = (a : P) × FindsEmptyBefore l Once a × finds_empty a Once m
 
 module _ {P T : Type 0} (takes : P → Rank → T → P → Type 0) (finds_empty : P → Rank → P → Type 0) where
-  -- One item is taken, of the first queue that isn't found empty: each queue before it is found empty
-  -- first, one after another.
+  -- One item is taken, of the first queue that isn't found empty: each queue before it is found
+  -- empty first, one after another.
   abbrev pub TakesFirst : P → T → P → Type 0
   TakesFirst l item m = (rank : Rank) × (a : P) × FindsEmptyBefore finds_empty l rank a × takes a rank item m
 

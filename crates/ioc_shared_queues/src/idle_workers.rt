@@ -160,8 +160,8 @@ impl IdleWorkers {
         self.asleep.load(SeqCst)
     }
 
-    // Puts a worker on the list. It looks at the queues once more before it sleeps. One that couldn't
-    // be put there will wake at once.
+    // Puts a worker on the list. It looks at the queues once more before it sleeps. One that could
+    // not be put there will wake at once.
     pub(crate) fn lie_down<R: Wait>(&self, rt: &R, sleeper: &Sleeper) {
         let mut list = self.list.lock(rt);
         if !list.add(sleeper) {

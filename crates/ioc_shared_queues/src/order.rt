@@ -17,7 +17,8 @@ pub struct SeenChange<T> {
     pub change: Change<T>,
 }
 
-/// All that was done to a queue up to a lane's last put or taking, in order. No value of it is made.
+/// All that was done to a queue up to a lane's last put or taking, in order. No value of it is
+/// made.
 pub type Seen<T> = LinkedList<SeenChange<T>>;
 
 pub struct Ordered;

@@ -6,8 +6,8 @@ use crate::idle_workers::IdleWorkers;
 use crate::rank::Rank;
 use std::sync::Wait;
 
-/// The four queues, of items `T`, which a thread calls by a lane `P` of its own. What a call found is
-/// said by relations that have no meaning here: a function for any such queues can tell what was
+/// The four queues, of items `T`, which a thread calls by a lane `P` of its own. What a call found
+/// is said by relations that have no meaning here: a function for any such queues can tell what was
 /// put, taken, found full or found empty only by a call that did so, and in the order of its calls.
 pub trait SharedQueues<P, T> {
     ghost use Rattle.ioc_shared_queues.specs.declared.rank.Rank.{Rank};

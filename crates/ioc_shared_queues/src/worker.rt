@@ -112,9 +112,9 @@ impl<P> Worker<P> {
         if closed { Round::Ended } else { Round::Idle }
     }
 
-    // Makes a round on the list of those that sleep, and sleeps if it finds nothing. An item that is
-    // put before the look at its queue is found by it, and whoever puts one later wakes a worker of
-    // the list. If it is this one, and it has found another item, it wakes the next one instead.
+    // Makes a round on the list of those that sleep, and sleeps if it finds nothing. An item that
+    // is put before the look at its queue is found by it, and whoever puts one later wakes a worker
+    // of the list. If it is this one, and it has found another item, it wakes the next one instead.
     #[inline(never)]
     fn doze<R: Wait, T, Q: SharedQueues<P, T>, S: Serve<T>>(
         &mut self,

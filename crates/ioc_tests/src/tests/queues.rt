@@ -282,8 +282,8 @@ fn work(
     adder.done
 }
 
-// Puts items on all queues in turn. The last pusher to end closes the queues. Returns the items that
-// found room.
+// Puts items on all queues in turn. The last pusher to end closes the queues. Returns the items
+// that found room.
 fn put_all(rt: &impl Wait, queues: &CallbackQueues<u64>, ended: &AtomicU64, first: u64) -> Done {
     let mut done = Done::new();
     for k in 0..ITEMS {
