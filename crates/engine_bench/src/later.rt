@@ -1,6 +1,6 @@
 //! The devices of the records that await them.
-use ioc_engine::{Answer, Device, DeviceName, IocError, Value};
-use std::alloc::Global;
+use ioc_engine::{Answer, Device, DeviceName, Value};
+use std::alloc::{AllocError, Global};
 
 /// A device whose answers are all asynchronous.
 #[derive(Drop)]
@@ -19,7 +19,7 @@ impl Device for Later {
 }
 
 /// Returns this many devices, `d0`, `d1` and so on.
-pub fn devices(alloc: Global, count: usize) -> Result<Vec<(DeviceName, Later)>, IocError> {
+pub fn devices(alloc: Global, count: usize) -> Result<Vec<(DeviceName, Later)>, AllocError> {
     let mut all = Vec::new(alloc);
     for number in 0..count {
         let name = format!(in alloc; "d{number}")?;

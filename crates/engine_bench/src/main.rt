@@ -18,7 +18,7 @@ use crate::database::text;
 use crate::later::{Later, devices};
 use crate::rounds::in_threads;
 use crate::work::{Job, Work};
-use ioc_engine::{Engine, EngineName, FixedClock, IocError, Limits, Macros, Seed, load};
+use ioc_engine::{Engine, EngineName, FixedClock, IocError, Limits, LoadError, Macros, Seed, load};
 use std::alloc::Global;
 use std::marker::Brand;
 use std::sync::Wait;
@@ -40,10 +40,10 @@ struct Measured {
 }
 
 // Returns the seed of the records that a job calls.
-fn seed_of(alloc: Global, job: &Job) -> Result<Seed<Later>, IocError> {
+fn seed_of(alloc: Global, job: &Job) -> Result<Seed<Later>, LoadError> {
     let text = text(alloc, job.records())?;
     let database = load(alloc, text.as_bytes(), &Macros::new(alloc))?;
-    Seed::new(alloc, database, devices(alloc, job.threads)?)
+    Ok(Seed::new(alloc, database, devices(alloc, job.threads)?)?)
 }
 
 // Waits until standard input ends, and returns the number of rounds, which is 1.
@@ -84,12 +84,16 @@ fn micros_since<R: Clock>(rt: &R, begun: io::Result<Instant>) -> u64 {
     }
 }
 
+// Runs a job. Its text is valid, so only a failed allocation keeps it from being loaded.
 fn run<R: Clock + Input + Threads + Wait + Sync>(
     rt: &R,
     alloc: Global,
     job: &Job,
 ) -> Result<Measured, IocError> {
-    carry_out::<Brand, _>(rt, alloc, seed_of(alloc, job)?, job)
+    match seed_of(alloc, job) {
+        Ok(seed) => carry_out::<Brand, _>(rt, alloc, seed, job),
+        Err(_) => Err(IocError::NoMemory),
+    }
 }
 
 // Prints what was measured.

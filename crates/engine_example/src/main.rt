@@ -5,7 +5,7 @@ ghost use Rattle.ioc_engine.specs.Named.{IsNamedBy};
 
 use ioc_engine::{
     Answer, CountingClock, Device, DeviceName, Engine, EngineName, FieldText, IocError, Limits,
-    Macros, Reply, Seed, Value, load,
+    LoadError, Macros, Reply, Seed, Value, load,
 };
 use std::alloc::Global;
 use std::io;
@@ -45,16 +45,22 @@ fn work<B: EngineName<Tank>, R: Wait>(
     Ok(shown)
 }
 
-fn run<R: Wait>(rt: &R, alloc: Global) -> Result<bool, IocError> {
+fn loaded(alloc: Global) -> Result<Seed<Tank>, LoadError> {
     let devices = vec![in alloc; (DeviceName::cut(b"tank"), Tank(12))]?;
-    let seed = Seed::new(alloc, load(alloc, TEXT, &Macros::new(alloc))?, devices)?;
-    Ok(work::<Brand, _>(rt, alloc, seed)? == Reply::Shown(FieldText::cut(b"MINOR")))
+    let database = load(alloc, TEXT, &Macros::new(alloc))?;
+    Ok(Seed::new(alloc, database, devices)?)
 }
 
 fn main(rt: HostRuntime) -> io::Result<()> {
-    match run(&rt, rt.alloc()) {
-        Ok(true) => println!(rt; "copy has the alarm of level"),
-        Ok(false) => println!(rt; "copy has no alarm"),
+    let seed = match loaded(rt.alloc()) {
+        Ok(seed) => seed,
+        Err(error) => return println!(rt; "{error}"),
+    };
+    match work::<Brand, _>(&rt, rt.alloc(), seed) {
+        Ok(shown) if shown == Reply::Shown(FieldText::cut(b"MINOR")) => {
+            println!(rt; "copy has the alarm of level")
+        }
+        Ok(_) => println!(rt; "copy has no alarm"),
         Err(error) => println!(rt; "{error}"),
     }
 }

@@ -8,17 +8,17 @@ use crate::database::Database;
 use crate::database_builder::DatabaseBuilder;
 use ioc_dblex::Macros;
 use ioc_dbparse::fill_by_text;
-use ioc_values::IocError;
+use ioc_values::LoadError;
 use std::alloc::Global;
 
 /// Loads the database of a text, with the macros that it may use.
 ///
 /// # Errors
 ///
-/// [`IocError::BadDb`] with the line and the kind of the first fault in the text.
-/// [`IocError::NoMemory`] if allocation fails. Nothing is loaded then.
+/// [`LoadError::BadDb`] with the line and the kind of the first fault in the text.
+/// [`LoadError::NoMemory`] if allocation fails. Nothing is loaded then.
 #[tactic(auto, unfolding(crate::specs::Finished::loaded_by))]
-pub fn load(alloc: Global, text: &[u8], macros: &Macros) -> Result<Database, IocError>
+pub fn load(alloc: Global, text: &[u8], macros: &Macros) -> Result<Database, LoadError>
     ensures { Gives database_of result (loaded_by record_rules new_record macros.now text.now) }
 {
     let mut builder = DatabaseBuilder::new(alloc);

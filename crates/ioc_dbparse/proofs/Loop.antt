@@ -1,8 +1,8 @@
 -- Steps in the order of a loop.
 use Rattle.std.proofs.Common.{◌≡◌, ℕ, suc, ◌-◌, ◌+◌, ◌≤◌, ◌<◌, Bool, true, false, List, Result, Ok, Err, refl, sym, ◌∙◌, arith}
 use Rattle.ioc_values.specs.declared.error.DbFault.{DbFault}
-use Rattle.ioc_values.specs.declared.error.IocError.{IocError}
-use Rattle.ioc_values.specs.declared.error.IocError.TheVariants as errors
+use Rattle.ioc_values.specs.declared.error.LoadError.{LoadError}
+use Rattle.ioc_values.specs.declared.error.LoadError.TheVariants as errors
 use Rattle.ioc_dblex.specs.Lexing.{Lexeme}
 use Rattle.ioc_dbparse.specs.Statements.{◌>>=◌, Fails, Gives, repeated}
 
@@ -22,7 +22,7 @@ module _ {S : Type 0} (step : S → List Lexeme → Result (Bool × S × List Le
       let one : repeated step out (turns - i) s tokens ≡ Ok (t, after) = rw (turn lt, e, m) refl in
       sym so_far ∙ one
 
-  pub fails : (e : IocError) → i < turns → Fails e (step s tokens) → repeated step out (turns - i) s tokens ≡ total → Fails e total
+  pub fails : (e : LoadError) → i < turns → Fails e (step s tokens) → repeated step out (turns - i) s tokens ≡ total → Fails e total
   unfolding repeated
   fails (errors.BadDb f) lt h so_far = let one : repeated step out (turns - i) s tokens ≡ Err f = rw (turn lt, h) refl in sym so_far ∙ one
   fails errors.NoMemory lt h so_far = tt
@@ -36,7 +36,7 @@ module _ {S : Type 0} (step : S → List Lexeme → Result (Bool × S × List Le
       sym so_far ∙ one
 
 -- The result of a step followed by a function of it.
-pub gives_then : {X Y Z : Type 0} (view : X → Y) (k : Y → Z) (r : Result X IocError) (wanted : Result Y DbFault) → Gives view r wanted → Gives (λ x. k (view x)) r (wanted >>= λ y. Ok (k y))
+pub gives_then : {X Y Z : Type 0} (view : X → Y) (k : Y → Z) (r : Result X LoadError) (wanted : Result Y DbFault) → Gives view r wanted → Gives (λ x. k (view x)) r (wanted >>= λ y. Ok (k y))
 gives_then view k (Ok x) wanted h = rw h refl
 gives_then view k (Err (errors.BadDb f)) wanted h = rw h refl
 gives_then view k (Err errors.NoMemory) wanted h = tt

@@ -10,8 +10,8 @@ use Rattle.ioc_fields.specs.declared.field_no.FieldNo.{FieldNo}
 use Rattle.ioc_dblex.specs.declared.token.TokenKind.{TokenKind}
 use Rattle.ioc_dblex.specs.declared.token.TokenKind.TheVariants.{Word, Quoted, Fault}
 use Rattle.ioc_values.specs.declared.error.DbFault.{DbFault}
-use Rattle.ioc_values.specs.declared.error.IocError.{IocError}
-use Rattle.ioc_values.specs.declared.error.IocError.TheVariants as errors
+use Rattle.ioc_values.specs.declared.error.LoadError.{LoadError}
+use Rattle.ioc_values.specs.declared.error.LoadError.TheVariants as errors
 use Rattle.ioc_dblex.specs.Lexing.{Lexeme}
 use Rattle.ioc_dblex.specs.Escapes.{unescaped_from}
 pub use Rattle.ioc_dblex.specs.Signs.{is_sign_of}
@@ -24,13 +24,13 @@ abbrev pub ◌>>=◌ : {A B : Type 0} → Result A DbFault → (A → Result B D
 (Err e) >>= f = Err e
 
 -- Holds if an error is the wanted fault, or a failed allocation, and nothing else.
-abbrev pub Fails : {Y : Type 0} → IocError → Result Y DbFault → Type 0
+abbrev pub Fails : {Y : Type 0} → LoadError → Result Y DbFault → Type 0
 Fails (errors.BadDb fault) wanted = wanted ≡ Err fault
 Fails errors.NoMemory wanted = Unit {0}
 Fails _ wanted = ⊥
 
 -- Holds if the result of a function, mapped by `view`, is the wanted one, unless allocation fails.
-abbrev pub Gives : {X Y : Type 0} → (X → Y) → Result X IocError → Result Y DbFault → Type 0
+abbrev pub Gives : {X Y : Type 0} → (X → Y) → Result X LoadError → Result Y DbFault → Type 0
 Gives view (Ok x) wanted = wanted ≡ Ok (view x)
 Gives view (Err e) wanted = Fails e wanted
 

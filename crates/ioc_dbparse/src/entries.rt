@@ -8,7 +8,7 @@ use crate::words::{expect, fault, is_sign_of, is_word, next_at, text_of, value_a
 use ioc_dblex::{Token, Tokens};
 use ioc_fields::FieldNo;
 use ioc_names::RecordNo;
-use ioc_values::{BadDbKind, IocError};
+use ioc_values::{BadDbKind, LoadError};
 use std::alloc::Global;
 
 /// Where the entries of a record are read.
@@ -23,7 +23,7 @@ pub struct RecordEntries {
 
 /// Reads `(K, V)` of `info(K, V)`, which has no effect.
 #[tactic(auto, unfolding(crate::specs::Statements::info_at))]
-fn info_at<B: Builder>(last: u64, _builder: &B, tokens: &mut Tokens) -> Result<(), IocError>
+fn info_at<B: Builder>(last: u64, _builder: &B, tokens: &mut Tokens) -> Result<(), LoadError>
     ensures { Gives (λ _. (_builder.now, tokens.new)) result (info_at B.rules last _builder.now tokens.old) }
 {
     expect(b'(', last, tokens)?;
@@ -37,7 +37,7 @@ fn info_at<B: Builder>(last: u64, _builder: &B, tokens: &mut Tokens) -> Result<(
 impl RecordEntries {
     /// Reads F of `field(F, V)`.
     #[tactic(auto, unfolding(crate::specs::Statements::field_at))]
-    fn field_at<B: Builder>(&self, builder: &B, tokens: &mut Tokens) -> Result<FieldNo, IocError>
+    fn field_at<B: Builder>(&self, builder: &B, tokens: &mut Tokens) -> Result<FieldNo, LoadError>
         ensures { Gives (λ f. (f, tokens.new)) result (field_at B.rules self.now.last self.now.number builder.now tokens.old) }
     {
         let token = value_at(self.last, tokens)?;
@@ -55,7 +55,7 @@ impl RecordEntries {
         field: FieldNo,
         builder: &mut B,
         tokens: &mut Tokens,
-    ) -> Result<(), IocError>
+    ) -> Result<(), LoadError>
         ensures { Gives (λ _. (builder.new, tokens.new)) result (set_at B.rules self.now.last self.now.number field builder.old
             tokens.old) }
     {
@@ -63,7 +63,7 @@ impl RecordEntries {
         let value = text_of(self.alloc, true, &token)?;
         match builder.set(self.number, field, value.as_slice()) {
             Ok(()) => Ok(()),
-            Err(BuildError::Memory) => Err(IocError::NoMemory),
+            Err(BuildError::Memory) => Err(LoadError::NoMemory),
             Err(BuildError::Refused(kind)) => Err(fault(token.line, kind)),
         }
     }
@@ -74,21 +74,21 @@ impl RecordEntries {
         &self,
         builder: &mut B,
         tokens: &mut Tokens,
-    ) -> Result<(), IocError>
+    ) -> Result<(), LoadError>
         ensures { Gives (λ _. (builder.new, tokens.new)) result (second_at B.rules self.now.last self.now.number builder.old tokens.old) }
     {
         let token = value_at(self.last, tokens)?;
         let name = text_of(self.alloc, false, &token)?;
         match builder.alias(self.number, name.as_slice()) {
             Ok(()) => Ok(()),
-            Err(BuildError::Memory) => Err(IocError::NoMemory),
+            Err(BuildError::Memory) => Err(LoadError::NoMemory),
             Err(BuildError::Refused(kind)) => Err(fault(token.line, kind)),
         }
     }
 
     /// Reads `(F, V)`.
     #[tactic(auto, unfolding(crate::specs::Statements::setting_at))]
-    fn setting_at<B: Builder>(&self, builder: &mut B, tokens: &mut Tokens) -> Result<(), IocError>
+    fn setting_at<B: Builder>(&self, builder: &mut B, tokens: &mut Tokens) -> Result<(), LoadError>
         ensures { Gives (λ _. (builder.new, tokens.new)) result (setting_at B.rules self.now.last self.now.number builder.old tokens.old) }
     {
         let last = self.last;
@@ -102,7 +102,7 @@ impl RecordEntries {
 
     /// Reads `(A)` of `alias(A)`.
     #[tactic(auto, unfolding(crate::specs::Statements::alias_in))]
-    fn alias_in<B: Builder>(&self, builder: &mut B, tokens: &mut Tokens) -> Result<(), IocError>
+    fn alias_in<B: Builder>(&self, builder: &mut B, tokens: &mut Tokens) -> Result<(), LoadError>
         ensures { Gives (λ _. (builder.new, tokens.new)) result (alias_in B.rules self.now.last self.now.number builder.old tokens.old) }
     {
         let last = self.last;
@@ -119,7 +119,7 @@ impl RecordEntries {
         token: &Token,
         builder: &mut B,
         tokens: &mut Tokens,
-    ) -> Result<(), IocError>
+    ) -> Result<(), LoadError>
         ensures { Gives (λ _. (builder.new, tokens.new)) result (entry_of B.rules self.now.last self.now.number builder.old
             (seen token.now, tokens.old)) }
     {
@@ -137,7 +137,7 @@ impl RecordEntries {
 
     /// Reads an entry or the closing brace, and returns whether there may be more.
     #[tactic(auto, unfolding(crate::specs::Statements::entry_at))]
-    fn entry_at<B: Builder>(&self, builder: &mut B, tokens: &mut Tokens) -> Result<bool, IocError>
+    fn entry_at<B: Builder>(&self, builder: &mut B, tokens: &mut Tokens) -> Result<bool, LoadError>
         ensures { Gives (λ more. (more, builder.new, tokens.new)) result
             (entry_at B.rules self.now.last self.now.number builder.old tokens.old) }
     {
@@ -156,7 +156,7 @@ impl RecordEntries {
         turns: u64,
         builder: &mut B,
         tokens: &mut Tokens,
-    ) -> Result<(), IocError>
+    ) -> Result<(), LoadError>
         ensures { Gives (λ _. (builder.new, tokens.new)) result (body_at B.rules turns self.now.last self.now.number builder.old
             tokens.old) }
     {
@@ -175,7 +175,7 @@ impl RecordEntries {
         turns: u64,
         builder: &mut B,
         tokens: &mut Tokens,
-    ) -> Result<(), IocError>
+    ) -> Result<(), LoadError>
         ensures { Gives (λ _. (builder.new, tokens.new)) result (braces_at B.rules turns self.now.last self.now.number builder.old
             tokens.old) }
     {

@@ -5,7 +5,7 @@ ghost use Rattle.ioc_dbparse.specs.Statements.{Gives};
 use crate::builder::Builder;
 use crate::statements::fill;
 use ioc_dblex::{Macros, Tokens, expand};
-use ioc_values::IocError;
+use ioc_values::LoadError;
 use std::alloc::Global;
 
 /// Fills a database from a text and the macros that it may use. A text of more than
@@ -13,14 +13,14 @@ use std::alloc::Global;
 ///
 /// # Errors
 ///
-/// [`IocError::BadDb`] with the line and the kind of the first fault in the text, and
-/// [`IocError::NoMemory`] if allocation fails. The database must not be used then.
+/// [`LoadError::BadDb`] with the line and the kind of the first fault in the text, and
+/// [`LoadError::NoMemory`] if allocation fails. The database must not be used then.
 pub fn fill_by_text<B: Builder>(
     alloc: Global,
     text: &[u8],
     macros: &Macros,
     builder: &mut B,
-) -> Result<(), IocError>
+) -> Result<(), LoadError>
     ensures { Gives (λ _. builder.new) result (filled_by B.rules builder.old macros.now text.now) }
 {
     let texts = expand(alloc, macros, text)?;

@@ -13,7 +13,7 @@ use crate::words::{
 use ioc_dblex::{Token, Tokens};
 use ioc_fields::RecordType;
 use ioc_names::RecordNo;
-use ioc_values::{BadDbKind, IocError};
+use ioc_values::{BadDbKind, LoadError};
 use std::alloc::Global;
 
 /// Returns the type that a text names: `Some(None)` for `*`, which means any type that the record
@@ -38,7 +38,7 @@ fn type_at<B: Builder>(
     last: u64,
     builder: &B,
     tokens: &mut Tokens<'_>,
-) -> Result<Option<RecordType>, IocError>
+) -> Result<Option<RecordType>, LoadError>
     ensures { Gives (λ t. (t, tokens.new)) result (type_at B.rules last tokens.old) }
 {
     let token = next_at(last, tokens)?;
@@ -81,14 +81,14 @@ fn name_at<B: Builder>(
     record_type: Option<RecordType>,
     builder: &mut B,
     tokens: &mut Tokens<'_>,
-) -> Result<RecordNo, IocError>
+) -> Result<RecordNo, LoadError>
     ensures { Gives (λ n. (n, builder.new, tokens.new)) result (name_at B.rules last begun record_type builder.old tokens.old) }
 {
     let token = value_at(last, tokens)?;
     let name = text_of(alloc, false, &token)?;
     match opened(record_type, name.as_slice(), builder) {
         Ok(number) => Ok(number),
-        Err(BuildError::Memory) => Err(IocError::NoMemory),
+        Err(BuildError::Memory) => Err(LoadError::NoMemory),
         Err(BuildError::Refused(kind)) => Err(fault(name_line(begun, token.line, kind), kind)),
     }
 }
@@ -102,7 +102,7 @@ fn record_at<B: Builder>(
     begun: u64,
     builder: &mut B,
     tokens: &mut Tokens<'_>,
-) -> Result<(), IocError>
+) -> Result<(), LoadError>
     ensures { Gives (λ _. (builder.new, tokens.new)) result (record_at B.rules turns last begun builder.old tokens.old) }
 {
     expect(b'(', last, tokens)?;
@@ -125,7 +125,7 @@ fn found_at<B: Builder>(
     last: u64,
     builder: &B,
     tokens: &mut Tokens<'_>,
-) -> Result<RecordNo, IocError>
+) -> Result<RecordNo, LoadError>
     ensures { Gives (λ n. (n, tokens.new)) result (found_at B.rules last builder.now tokens.old) }
 {
     let token = value_at(last, tokens)?;
@@ -143,7 +143,7 @@ fn alias_at<B: Builder>(
     last: u64,
     builder: &mut B,
     tokens: &mut Tokens<'_>,
-) -> Result<(), IocError>
+) -> Result<(), LoadError>
     ensures { Gives (λ _. (builder.new, tokens.new)) result (alias_at B.rules last builder.old tokens.old) }
 {
     expect(b'(', last, tokens)?;
@@ -168,7 +168,7 @@ fn statement_of<B: Builder>(
     token: &Token<'_>,
     builder: &mut B,
     tokens: &mut Tokens<'_>,
-) -> Result<(), IocError>
+) -> Result<(), LoadError>
     ensures { Gives (λ _. (builder.new, tokens.new)) result (statement_of B.rules turns last builder.old (seen token.now, tokens.old)) }
 {
     if begins_record(token) {
@@ -188,7 +188,7 @@ fn statement_at<B: Builder>(
     last: u64,
     builder: &mut B,
     tokens: &mut Tokens<'_>,
-) -> Result<bool, IocError>
+) -> Result<bool, LoadError>
     ensures { Gives (λ more. (more, builder.new, tokens.new)) result (statement_at B.rules turns last builder.old tokens.old) }
 {
     let Some(token) = tokens.next() else {
@@ -207,7 +207,7 @@ fn statements_at<B: Builder>(
     last: u64,
     builder: &mut B,
     tokens: &mut Tokens<'_>,
-) -> Result<(), IocError>
+) -> Result<(), LoadError>
     ensures { Gives (λ _. (builder.new, tokens.new)) result (statements_at B.rules turns last builder.old tokens.old) }
 {
     for _ in 0..turns {
@@ -226,7 +226,7 @@ pub fn fill<B: Builder>(
     last: u64,
     builder: &mut B,
     tokens: &mut Tokens<'_>,
-) -> Result<(), IocError>
+) -> Result<(), LoadError>
     requires { length tokens.old < turns }
     ensures { Gives (λ _. builder.new) result (filled B.rules last builder.old tokens.old) }
 {

@@ -7,14 +7,14 @@ ghost use Rattle.ioc_dblex.specs.SeenSaid.{said_bytes};
 ghost use Rattle.ioc_dbparse.specs.Statements.{Reads, at, sound, next_at, is_sign_of, expect, is_value, value_at, is_bareword, is_word, text_of, name_line, begins_record, is_left_out, refused_word};
 
 use ioc_dblex::{Token, TokenKind, TokenText, Tokens, read_escapes};
-use ioc_values::{BadDbKind, DbFault, IocError};
+use ioc_values::{BadDbKind, DbFault, LoadError};
 use std::alloc::{AllocError, Global};
 
 /// Returns a fault of this kind on this line.
-pub fn fault(line: u64, kind: BadDbKind) -> IocError
-    ensures { result ≡ IocError.BadDb (at line kind) }
+pub fn fault(line: u64, kind: BadDbKind) -> LoadError
+    ensures { result ≡ LoadError.BadDb (at line kind) }
 {
-    IocError::BadDb(DbFault { line, kind })
+    LoadError::BadDb(DbFault { line, kind })
 }
 
 /// Returns the token if it is no fault.

@@ -46,7 +46,7 @@ pub use ioc_ledger::{Outcome, Tally};
 pub use ioc_names::RecordNo;
 pub use ioc_notify::{NotifyId, Waiting};
 pub use ioc_record::FieldText;
-pub use ioc_values::{Finished, Input, IocError, Text, Value};
+pub use ioc_values::{BadDbKind, DbFault, Finished, Input, IocError, LoadError, Text, Value};
 pub use numbered::{Numbered, numbers_stay, with_numbers};
 pub use rec_types::Record;
 pub use report::{Report, StoppedRecord};

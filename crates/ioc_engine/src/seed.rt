@@ -19,9 +19,8 @@ use ioc_engine_core::{new_cell, with_copies};
 use ioc_history::{Cell, KeyPass, PLACES};
 use ioc_ledger::CountBlanks;
 use ioc_set_records::Loaded;
-use ioc_values::IocError;
 use rec_types::Record;
-use std::alloc::Global;
+use std::alloc::{AllocError, Global};
 use std::sync::ledger::Blank;
 
 /// A loaded database with its devices, from which [`Engine::start`](crate::Engine::start) makes an
@@ -65,13 +64,13 @@ impl<D: Drop> Seed<D> {
     ///
     /// # Errors
     ///
-    /// [`IocError::NoMemory`] if allocation fails.
+    /// [`AllocError`] if allocation fails.
     #[tactic(auto, using(crate::proofs::Closing::closed_in, crate::proofs::Closing::idle_in))]
     pub fn new(
         alloc: Global,
         database: Database,
         devices: Vec<(DeviceName, D)>,
-    ) -> Result<Self, IocError>
+    ) -> Result<Self, AllocError>
         ensures records { IfOk result (λ s. map (λ l. l.fields) s.records.items ≡ database.records.items) }
         ensures names { IfOk result (λ s. s.lookup.names ≡ database.names) }
         ensures types { IfOk result (λ s. s.lookup.types.items ≡ map record_rules.record_type database.records.items) }

@@ -12,8 +12,8 @@ use Rattle.ioc_main.specs.declared.fault.RunFault.{RunFault}
 use Rattle.ioc_main.specs.declared.fault.RunFault.TheVariants.{Memory}
 use Rattle.ioc_main.specs.declared.fault.Stage.TheVariants.{Loading as while_loading}
 use Rattle.ioc_main.specs.Faults.{run_fault_of, fault_of}
-use Rattle.ioc_values.specs.declared.error.IocError.{IocError}
-use Rattle.ioc_values.specs.declared.error.IocError.TheVariants as refusal
+use Rattle.ioc_values.specs.declared.error.LoadError.{LoadError}
+use Rattle.ioc_values.specs.declared.error.LoadError.TheVariants as load
 use Rattle.ioc_dbparse.specs.Statements.{Gives}
 use Rattle.ioc_dbfile.specs.SeenDatabase.{database_of}
 use Rattle.ioc_main.specs.Script.{lines_of}
@@ -56,9 +56,9 @@ pub memory_stops : (macros : List Defined) (text : List ℕ) (a w : Option (List
 memory_stops macros text a w = keeps_same w
 
 -- Nothing was loaded.
-pub load_stops : (e : IocError) (macros : List Defined) (text : List ℕ) (a w : Option (List ℕ)) → Gives database_of (Err e) (loaded macros text) → StopsWith (fault_of e) macros text a w w
-load_stops (refusal.BadDb fault) macros text a w gives = (gives, keeps_same w)
-load_stops other macros text a w gives = memory_stops macros text a w
+pub load_stops : (e : LoadError) (macros : List Defined) (text : List ℕ) (a w : Option (List ℕ)) → Gives database_of (Err e) (loaded macros text) → StopsWith (fault_of e) macros text a w w
+load_stops (load.BadDb fault) macros text a w gives = (gives, keeps_same w)
+load_stops load.NoMemory macros text a w gives = memory_stops macros text a w
 
 -- What is true of a fault is true of the run that it ends.
 pub err_as : {T : Type 0} {r : Result T RunFault} {fault : RunFault} (P : RunFault → Type 0) → (y : RunFault) × (r ≡ Err y) × (y ≡ fault) → P fault → IfErr r P

@@ -33,4 +33,3 @@ refusal_short refusal.QueueFull = lit≤ tt
 refusal_short refusal.NoMemory = lit≤ tt
 refusal_short refusal.JournalFull = lit≤ tt
 refusal_short refusal.Stopped = lit≤ tt
-refusal_short (refusal.BadDb fault) = lit≤ tt

@@ -6,8 +6,8 @@ use Rattle.std.specs.IoError.{error_kind}
 use Rattle.std.specs.declared.io.Error.{Error}
 use Rattle.std.specs.declared.io.ErrorKind.{ErrorKind}
 use Rattle.std.specs.declared.io.ErrorKind.TheVariants as kind
-use Rattle.ioc_values.specs.declared.error.IocError.{IocError}
-use Rattle.ioc_values.specs.declared.error.IocError.TheVariants as refusal
+use Rattle.ioc_values.specs.declared.error.LoadError.{LoadError}
+use Rattle.ioc_values.specs.declared.error.LoadError.TheVariants as load
 use Rattle.ioc_values.specs.Words.{fault_text as db_fault_text}
 use Rattle.ioc_main.specs.declared.fault.LineFault.{LineFault}
 use Rattle.ioc_main.specs.declared.fault.LineFault.TheVariants as line
@@ -86,9 +86,9 @@ stop_text (Memory Loading) = codes "ioc-replay: out of memory while loading"
 stop_text (Memory Line) = codes "ioc-replay: out of memory in a line of the script"
 
 -- The error of a load as a fault of the run.
-abbrev pub fault_of : IocError → RunFault
-fault_of (refusal.BadDb fault) = run.BadDb fault
-fault_of _ = run.Memory Loading
+abbrev pub fault_of : LoadError → RunFault
+fault_of (load.BadDb fault) = run.BadDb fault
+fault_of load.NoMemory = run.Memory Loading
 
 -- The fault of a line as a fault of the script.
 abbrev pub script_fault_of : LineFault → ScriptFault

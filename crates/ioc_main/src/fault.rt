@@ -3,7 +3,7 @@ ghost use Rattle.std.specs.Prelude.{◌≡◌};
 ghost use Rattle.std.specs.IoError.{error_kind};
 ghost use Rattle.ioc_main.specs.Faults.{reason_of, reason_text, is_out_of_memory};
 
-use ioc_values::{DbFault, IocError};
+use ioc_values::{DbFault, LoadError};
 use std::alloc::AllocError;
 use std::{fmt, io};
 
@@ -162,28 +162,16 @@ impl From<AllocError> for RunFault {
     }
 }
 
-/// Converts the error of a load: a refused text, or that allocation failed. A load returns no other
-/// error, so no others are distinguished.
-impl From<IocError> for RunFault {
+/// Converts the error of a load.
+impl From<LoadError> for RunFault {
     ghost use Rattle.ioc_main.specs.Faults.{fault_of};
 
     ghost from_gives = { λ e fault. fault ≡ fault_of e };
 
-    fn from(e: IocError) -> RunFault {
+    fn from(e: LoadError) -> RunFault {
         match e {
-            IocError::BadDb(fault) => RunFault::BadDb(fault),
-            IocError::NoMemory
-            | IocError::NoRecord
-            | IocError::NoField
-            | IocError::NoMod
-            | IocError::PutDisabled
-            | IocError::BadValue
-            | IocError::BadLink
-            | IocError::NotifyPending
-            | IocError::Stale
-            | IocError::QueueFull
-            | IocError::JournalFull
-            | IocError::Stopped => RunFault::Memory(Stage::Loading),
+            LoadError::BadDb(fault) => RunFault::BadDb(fault),
+            LoadError::NoMemory => RunFault::Memory(Stage::Loading),
         }
     }
 }

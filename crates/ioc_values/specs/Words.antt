@@ -2,6 +2,8 @@
 use Rattle.std.specs.Prelude.{ℕ, List, ◌++◌, codes, decimal}
 use Rattle.ioc_values.specs.declared.error.IocError.{IocError}
 use Rattle.ioc_values.specs.declared.error.IocError.TheVariants as refusal
+use Rattle.ioc_values.specs.declared.error.LoadError.{LoadError}
+use Rattle.ioc_values.specs.declared.error.LoadError.TheVariants as load
 use Rattle.ioc_values.specs.declared.error.DbFault.{DbFault}
 use Rattle.ioc_values.specs.declared.error.BadDbKind.{BadDbKind}
 use Rattle.ioc_values.specs.declared.error.BadDbKind.TheVariants.{Syntax, Unclosed, OpenBody, BadType, BadField, NoMod, BadName, BadValue, BadLink, Duplicate, NoRecord, Macro, LeftOut, TooMany}
@@ -37,13 +39,12 @@ refusal_words refusal.QueueFull = codes "E9 QueueFull"
 refusal_words refusal.NoMemory = codes "E10 NoMemory"
 refusal_words refusal.JournalFull = codes "E11 JournalFull"
 refusal_words refusal.Stopped = codes "E12 Stopped"
-refusal_words (refusal.BadDb fault) = codes "E13 BadDb"
 
 -- What a program prints for a rejected database text: the line and the reason too.
 unfoldable pub fault_text : DbFault → List ℕ
 fault_text fault = codes "E13 BadDb line " ++ decimal fault.line ++ codes ": " ++ kind_words fault.kind
 
--- What a program prints for an error.
-unfoldable pub refusal_text : IocError → List ℕ
-refusal_text (refusal.BadDb fault) = fault_text fault
-refusal_text refused = refusal_words refused
+-- What a program prints for a database that wasn't loaded.
+unfoldable pub load_text : LoadError → List ℕ
+load_text (load.BadDb fault) = fault_text fault
+load_text load.NoMemory = refusal_words refusal.NoMemory

@@ -2,7 +2,8 @@
 
 ghost use Rattle.std.specs.Prelude.{◌≡◌};
 ghost use Rattle.ioc_values.specs.Words.{refusal_words, kind_words};
-ghost use Rattle.ioc_values.specs.declared.error.IocError.TheVariants.{NoMemory, BadDb};
+ghost use Rattle.ioc_values.specs.declared.error.IocError.TheVariants.{NoMemory};
+ghost use Rattle.ioc_values.specs.declared.error.LoadError.TheVariants.{BadDb, NoMemory as No-memory};
 
 use std::alloc::{AllocError, AllocFailed};
 use std::fmt;
@@ -34,8 +35,15 @@ pub enum IocError {
     JournalFull,
     /// The engine is closed.
     Stopped,
+}
+
+/// Why a database wasn't loaded.
+#[derive(Clone, Copy, PartialEq, Eq, Debug)]
+pub enum LoadError {
     /// The database text is invalid.
     BadDb(DbFault),
+    /// Allocation failed.
+    NoMemory,
 }
 
 /// Why a database text was rejected, and the line, counted from 1.
@@ -72,8 +80,7 @@ pub enum BadDbKind {
 
 #[tactic(auto, unfolding(crate::specs::Words::refusal_words))]
 impl IocError {
-    /// Returns the number and the name of the error, such as `E5 BadValue`. For a database text the
-    /// line and the reason are left out.
+    /// Returns the number and the name of the error, such as `E5 BadValue`.
     pub fn words(self) -> &'static str
         ensures { result.now ≡ refusal_words self }
     {
@@ -90,7 +97,6 @@ impl IocError {
             IocError::NoMemory => "E10 NoMemory",
             IocError::JournalFull => "E11 JournalFull",
             IocError::Stopped => "E12 Stopped",
-            IocError::BadDb(_) => "E13 BadDb",
         }
     }
 }
@@ -132,17 +138,27 @@ impl fmt::Display for DbFault {
     }
 }
 
-#[tactic(auto, unfolding(crate::specs::Words::refusal_text))]
 impl fmt::Display for IocError {
     ghost use Rattle.std.specs.Prelude.{Some};
-    ghost use Rattle.ioc_values.specs.Words.{refusal_text};
 
-    ghost output = { λ refused. Some (refusal_text refused) };
+    ghost output = { λ refused. Some (refusal_words refused) };
+
+    fn fmt<W: fmt::Write>(&self, f: &mut fmt::Formatter<W>) -> fmt::Result {
+        f.write_str(self.words())
+    }
+}
+
+#[tactic(auto, unfolding(crate::specs::Words::load_text, crate::specs::Words::refusal_words))]
+impl fmt::Display for LoadError {
+    ghost use Rattle.std.specs.Prelude.{Some};
+    ghost use Rattle.ioc_values.specs.Words.{load_text};
+
+    ghost output = { λ error. Some (load_text error) };
 
     fn fmt<W: fmt::Write>(&self, f: &mut fmt::Formatter<W>) -> fmt::Result {
         match self {
-            IocError::BadDb(fault) => fault.fmt(f),
-            _ => f.write_str(self.words()),
+            LoadError::BadDb(fault) => fault.fmt(f),
+            LoadError::NoMemory => f.write_str(IocError::NoMemory.words()),
         }
     }
 }
@@ -151,11 +167,29 @@ impl std::error::Error for DbFault {}
 
 impl std::error::Error for IocError {}
 
-impl From<DbFault> for IocError {
+impl std::error::Error for LoadError {}
+
+impl From<DbFault> for LoadError {
     ghost from_gives = { λ fault e. e ≡ BadDb fault };
 
-    fn from(fault: DbFault) -> IocError {
-        IocError::BadDb(fault)
+    fn from(fault: DbFault) -> LoadError {
+        LoadError::BadDb(fault)
+    }
+}
+
+impl From<AllocError> for LoadError {
+    ghost from_gives = { λ _ e. e ≡ No-memory };
+
+    fn from(_e: AllocError) -> LoadError {
+        LoadError::NoMemory
+    }
+}
+
+impl<T: Drop> From<AllocFailed<T>> for LoadError {
+    ghost from_gives = { λ _ e. e ≡ No-memory };
+
+    fn from(_e: AllocFailed<T>) -> LoadError {
+        LoadError::NoMemory
     }
 }
 

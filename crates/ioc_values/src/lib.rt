@@ -13,7 +13,7 @@ pub mod value;
 
 pub use byte_buffer::ByteBuffer;
 pub use conversion::{convert, of_number};
-pub use error::{BadDbKind, DbFault, IocError};
+pub use error::{BadDbKind, DbFault, IocError, LoadError};
 pub use input::{Input, convert_input, convert_text, spelled_number};
 pub use kind::{Kind, Range};
 pub use short::{

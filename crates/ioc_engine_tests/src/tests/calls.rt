@@ -95,7 +95,7 @@ fn run_session<R: Threads + Wait + Sync>(
     };
     let work = Work::Steps(session.steps);
     let devices = later(alloc, session.later)?;
-    let ended = run_text(rt, alloc, session.text, devices, limits, work)?;
+    let ended = run_text(rt, alloc, session.text, devices, limits, work);
     Ok(result(ended, session.end))
 }
 
@@ -194,7 +194,7 @@ fn are_both_answered<R: Threads + Wait + Sync>(
         asked: &asked,
         answered: &answered,
     };
-    let ended = run_text(rt, alloc, HELD, devices, Limits::default(), work)?;
+    let ended = run_text(rt, alloc, HELD, devices, Limits::default(), work);
     let steps = others.len().saturating_add(first.len());
     Ok(result(ended, &[Sets(sets), Records(5), Devices(2)]) == (steps, true))
 }
@@ -234,7 +234,7 @@ fn are_all_answered<R: Threads + Wait + Sync>(rt: &R, alloc: Global) -> Result<b
     let text = text(alloc)?;
     let bytes = text.as_bytes();
     let devices = later(alloc, &EIGHT)?;
-    let Some(end) = run_text(rt, alloc, bytes, devices, Limits::default(), Work::Eight)? else {
+    let Some(end) = run_text(rt, alloc, bytes, devices, Limits::default(), Work::Eight) else {
         return Ok(false);
     };
     Ok(end.held == THREADS * CALLS && end.records == RECORDS && end.devices == THREADS)
@@ -254,7 +254,7 @@ fn is_there<R: Threads + Wait + Sync>(
 ) -> Result<bool, IocError> {
     let text = b"record(longin,\"a\"){}\n";
     let none = Vec::new(alloc);
-    let Some(end) = run_text(rt, alloc, text, none, Limits::default(), work)? else {
+    let Some(end) = run_text(rt, alloc, text, none, Limits::default(), work) else {
         return Ok(false);
     };
     Ok(end.held == 1)
@@ -311,7 +311,7 @@ fn are_limited<R: Threads + Wait + Sync>(
 ) -> Result<bool, IocError> {
     let text = b"record(longin,\"p\"){field(INP,\"@d\")}\n";
     let devices = later(alloc, &[b"d"])?;
-    let ended = run_text(rt, alloc, text, devices, limits, Work::Steps(steps))?;
+    let ended = run_text(rt, alloc, text, devices, limits, Work::Steps(steps));
     let wanted = [Sets(1), Records(1), Devices(1), AtEnd::Active(1)];
     Ok(result(ended, &wanted) == (steps.len(), true))
 }
@@ -365,7 +365,7 @@ fn is_all_processed<R: Threads + Wait + Sync>(rt: &R, alloc: Global) -> Result<b
     let text = chain_text(alloc)?;
     let work = Work::Steps(&CHAINED);
     let none = Vec::new(alloc);
-    let ended = run_text(rt, alloc, text.as_bytes(), none, Limits::default(), work)?;
+    let ended = run_text(rt, alloc, text.as_bytes(), none, Limits::default(), work);
     let all = CHAIN as u64;
     Ok(result(ended, &[Sets(1), Records(CHAIN), Counts(all, 0, 0)]) == (3, true))
 }
@@ -389,7 +389,7 @@ fn is_without_end<R: Threads + Wait + Sync>(rt: &R, alloc: Global) -> Result<boo
         checkpoint_at: 1,
     };
     let none = Vec::new(alloc);
-    let ended = run_text(rt, alloc, text, none, limits, Work::Steps(&steps))?;
+    let ended = run_text(rt, alloc, text, none, limits, Work::Steps(&steps));
     let wanted = [Counts(1000, 0, 0), AtEnd::FirstPlace(990)];
     Ok(result(ended, &wanted) == (PUTS_WITHOUT_END, true))
 }

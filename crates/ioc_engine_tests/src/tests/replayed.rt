@@ -183,16 +183,19 @@ fn in_order(alloc: Global, calls: &[Kept]) -> Result<Option<Vec<Kept>>, AllocErr
 }
 
 /// Makes these calls on one map of the records of this text, in the order of their places. Returns
-/// the records, or `None` if the places aren't the first ones of the journal or a reply differs.
+/// the records, or `None` if the text can't be loaded, the places aren't the first ones of the
+/// journal, or a reply differs.
 ///
 /// # Errors
 ///
-/// The refusal of the text. [`IocError::NoMemory`] if allocation fails.
+/// [`IocError::NoMemory`] if allocation fails.
 pub fn replayed(alloc: Global, text: &[u8], calls: &[Kept]) -> Result<Option<OneThread>, IocError> {
     let Some(ordered) = in_order(alloc, calls)? else {
         return Ok(None);
     };
-    let Database { names, records } = load(alloc, text, &Macros::new(alloc))?;
+    let Ok(Database { names, records }) = load(alloc, text, &Macros::new(alloc)) else {
+        return Ok(None);
+    };
     let mut one = OneThread {
         machine: Machine::new(alloc, records)?,
         names,

@@ -7,7 +7,7 @@ use crate::tests::sensor::{Sensor, seen};
 use crate::tests::steps::{Step, follow};
 use ioc_engine::{
     Clock, CountingClock, Device, DeviceName, Engine, EngineName, FieldText, Input, IocError,
-    Limits, Macros, Numbered, Outcome, Receipt, Reply, Report, Seed, StoppedRecord, Tally,
+    Limits, LoadError, Macros, Numbered, Outcome, Receipt, Reply, Report, Seed, StoppedRecord, Tally,
     TicketTally, load, with_numbers,
 };
 use ioc_fields::{FieldNo, OwnField};
@@ -287,13 +287,13 @@ fn seed_of(
     alloc: Global,
     text: &[u8],
     devices: Vec<(DeviceName, Sensor)>,
-) -> Result<Seed<Numbered<Sensor>>, IocError> {
+) -> Result<Seed<Numbered<Sensor>>, LoadError> {
     let database = load(alloc, text, &Macros::new(alloc))?;
-    Seed::new(alloc, database, with_numbers(alloc, devices)?)
+    Ok(Seed::new(alloc, database, with_numbers(alloc, devices)?)?)
 }
 
-/// Runs an engine with the records of a text and these devices. Returns `None` if it can't be
-/// started.
+/// Runs an engine with the records of a text and these devices. Returns `None` if the text can't be
+/// loaded, or the engine can't be started.
 pub fn run_text<R: Threads + Wait + Sync>(
     rt: &R,
     alloc: Global,
@@ -301,7 +301,7 @@ pub fn run_text<R: Threads + Wait + Sync>(
     devices: Vec<(DeviceName, Sensor)>,
     limits: Limits,
     work: Work<'_>,
-) -> Result<Option<Ended>, IocError> {
-    let seed = seed_of(alloc, text, devices)?;
-    Ok(run::<Brand, Numbered<Sensor>, R>(rt, alloc, seed, limits, work))
+) -> Option<Ended> {
+    let seed = seed_of(alloc, text, devices).ok()?;
+    run::<Brand, Numbered<Sensor>, R>(rt, alloc, seed, limits, work)
 }

@@ -5,7 +5,7 @@ use ioc_dbfile::{Database, Macros, load};
 use ioc_fields::{FieldNo, field};
 use ioc_names::RecordNo;
 use ioc_record::{RecordKind, text_of};
-use ioc_values::{BadDbKind, IocError};
+use ioc_values::{BadDbKind, IocError, LoadError};
 use std::alloc::Global;
 
 /// A fact of a loaded database.
@@ -85,8 +85,10 @@ fn loaded(
     alloc: Global,
     definitions: &[Definition<'_>],
     text: &[u8],
-) -> Result<Database, IocError> {
-    let macros = defined(alloc, definitions)?;
+) -> Result<Database, LoadError> {
+    let Ok(macros) = defined(alloc, definitions) else {
+        return Err(LoadError::NoMemory);
+    };
     load(alloc, text, &macros)
 }
 
@@ -103,7 +105,7 @@ pub enum Made {
 pub fn makes(alloc: Global, definitions: &[Definition<'_>], text: &[u8], wanted: Made) -> bool {
     match (loaded(alloc, definitions, text), wanted) {
         (Ok(database), Made::Facts(facts)) => all_hold(&database, facts),
-        (Err(IocError::BadDb(fault)), Made::Fault(line, kind)) => {
+        (Err(LoadError::BadDb(fault)), Made::Fault(line, kind)) => {
             fault.line == line && fault.kind == kind
         }
         _ => false,

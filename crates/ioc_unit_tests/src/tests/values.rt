@@ -2,7 +2,7 @@
 use ioc_values::number::{is_number, number, signed};
 use ioc_values::trim::trim;
 use ioc_values::{
-    BadDbKind, DbFault, IocError, Kind, Range, Short, Text, Value, convert, convert_text,
+    BadDbKind, DbFault, IocError, Kind, LoadError, Range, Short, Text, Value, convert, convert_text,
 };
 use std::alloc::Global;
 use std::process::Abort;
@@ -288,16 +288,16 @@ static WORDS: [(Said, &str); 26] = [
 ];
 
 // Returns whether these are the words of the refusal, and its text.
-fn says(alloc: Global, refused: IocError, words: &str, printed: &str) -> bool {
+fn says(alloc: Global, refused: IocError, words: &str) -> bool {
     match refused.to_string(alloc) {
-        Ok(text) => refused.words() == words && text.as_str() == printed,
+        Ok(text) => refused.words() == words && text.as_str() == words,
         Err(_) => false,
     }
 }
 
-// Returns whether this is the text of the fault.
-fn prints(alloc: Global, fault: DbFault, printed: &str) -> bool {
-    match fault.to_string(alloc) {
+// Returns whether this is the text of the error.
+fn prints(alloc: Global, error: LoadError, printed: &str) -> bool {
+    match error.to_string(alloc) {
         Ok(text) => text.as_str() == printed,
         Err(_) => false,
     }
@@ -307,7 +307,7 @@ fn prints(alloc: Global, fault: DbFault, printed: &str) -> bool {
 fn refusals_in_words(rt: HostRuntime) {
     for (said, words) in &WORDS {
         let is_said = match said {
-            Said::Refusal(refused) => says(rt.alloc(), *refused, words, words),
+            Said::Refusal(refused) => says(rt.alloc(), *refused, words),
             Said::Fault(kind) => kind.words() == *words,
         };
         assert!(rt; is_said, "{words}");
@@ -318,8 +318,8 @@ fn refusals_in_words(rt: HostRuntime) {
     };
     let printed = "E13 BadDb line 2: text not closed";
     let held = [
-        prints(rt.alloc(), fault, printed),
-        says(rt.alloc(), IocError::BadDb(fault), "E13 BadDb", printed),
+        prints(rt.alloc(), LoadError::BadDb(fault), printed),
+        prints(rt.alloc(), LoadError::NoMemory, "E10 NoMemory"),
     ];
     assert!(rt; held == [true; 2]);
 }
