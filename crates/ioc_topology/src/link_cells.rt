@@ -14,9 +14,9 @@ use std::sync::{MutexGuard, Wait};
 #[derive(Drop)]
 pub struct NewCells<'a, S: Locked> {
     // The place of the second set, if no other set is concerned.
-    beside: KeyedCell<'a, S>,
+    pub(crate) beside: KeyedCell<'a, S>,
     // The place of the spare set.
-    spare: KeyedCell<'a, S>,
+    pub(crate) spare: KeyedCell<'a, S>,
 }
 
 impl<'a, S: Locked> NewCells<'a, S> {
@@ -60,14 +60,8 @@ impl<S: Locked> Directory<S> {
     ///
     /// [`AllocError`] if allocation fails; nothing has changed then.
     pub fn new_cells<R: Wait>(&self, rt: &R, alloc: Global) -> Result<NewCells<'_, S>, AllocError> {
-        let beside = self.new_place(rt, alloc)?;
-        match self.new_place(rt, alloc) {
-            Ok(spare) => Ok(NewCells { beside, spare }),
-            Err(refused) => {
-                self.leave(rt, beside.key);
-                Err(refused)
-            }
-        }
+        let mut keys = self.keys.lock(rt);
+        keys.take_two(alloc, self.cells.as_slice())
     }
 
     /// Returns the places of both records, or `None` if one of them is in no set. If there is no
@@ -143,17 +137,6 @@ impl<S: Locked> Directory<S> {
         }))
     }
 
-    // Returns a cell with a set without records: one that was left, or the next one.
-    fn new_place(&self, rt: &impl Wait, alloc: Global) -> Result<KeyedCell<'_, S>, AllocError> {
-        let mut free = self.free.lock(rt);
-        if let Some(key) = free.take() {
-            if let Some(lock) = self.lock_at(key) {
-                return Ok(KeyedCell { key, lock });
-            }
-        }
-        free.make(alloc, self.cells.as_slice(), S::empty(alloc))
-    }
-
     // Makes a cell the home of the records of its set, which is locked, or leaves the cell if there
     // are none. Its flag is as the set says.
     fn settle(&self, rt: &impl Wait, set: &S, key: usize) {
@@ -167,7 +150,7 @@ impl<S: Locked> Directory<S> {
 
     // Leaves a cell, whose set has no records. Callers that wait for it will look again.
     fn leave(&self, rt: &impl Wait, key: usize) {
-        self.free.lock(rt).leave(key);
+        self.keys.lock(rt).leave(key);
     }
 }
 
