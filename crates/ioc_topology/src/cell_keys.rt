@@ -2,7 +2,7 @@
 ghost use Rattle.std.specs.Prelude.{◌≡◌, ◌<◌, ◌≤◌, ℕ, [], None, IfOk, OnErr};
 ghost use Rattle.std.specs.Vec.{vec_capacity};
 ghost use Rattle.slab.specs.Slab.{ContainsKey, slab_len, SameValues, Updates};
-ghost use Rattle.ioc_topology.specs.Keys.{TakesKey};
+ghost use Rattle.ioc_topology.specs.Keys.{TakesKey, TakesTwo};
 
 use crate::directory::{KeyedCell, SetCell};
 use crate::link_cells::NewCells;
@@ -88,6 +88,7 @@ impl<S: Locked> CellKeys<S> {
         alloc: Global,
         cells: &'a [SetCell<S>],
     ) -> Result<NewCells<'a, S>, AllocError>
+        ensures taken { IfOk result (λ new. TakesTwo self.old.keys self.new.keys new.0 new.1) }
         ensures err { OnErr result (SameValues self.old.keys self.new.keys) }
     {
         let beside = self.take(alloc, cells)?;

@@ -1,4 +1,4 @@
-use Rattle.std.proofs.Common.{◌≡◌, sym, ap, ◌∙◌, arith, rules, length}
+use Rattle.std.proofs.Common.{◌≡◌, ap, ◌∙◌, arith, rules, length}
 use Rattle.std.specs.Vec.{vec_len}
 use Rattle.slab.specs.Slab.{slab_len}
 use Rattle.slab.proofs.SlabLemmas.{length-entries_from}
