@@ -12,7 +12,7 @@ use Rattle.ioc_program.specs.declared.ending.Stage.TheVariants.{Loading, Line}
 use Rattle.ioc_program.specs.declared.ending.FileRole.{FileRole}
 use Rattle.ioc_program.specs.declared.ending.FileRole.TheVariants.{Database, Script, Journal}
 use Rattle.ioc_program.specs.declared.ending.UsageFault.{UsageFault}
-use Rattle.ioc_program.specs.declared.ending.UsageFault.TheVariants.{NoDefinition, NoFile, NotText}
+use Rattle.ioc_program.specs.declared.ending.UsageFault.TheVariants.{NoDefinition, NoArgument, NotText}
 use Rattle.ioc_program.specs.declared.ending.Stop.{Stop}
 use Rattle.ioc_program.specs.declared.ending.Stop.TheVariants.{Shown, Refused, Usage, Unreadable, BadDb, Write, Memory}
 use Rattle.ioc_program.specs.declared.ending.Ending.{Ending}
@@ -57,7 +57,7 @@ role_text Journal = codes "journal"
 -- The words for a fault of the command line.
 unfoldable pub usage_text : UsageFault → List ℕ
 usage_text (NoDefinition word) = codes "'" ++ string_bytes word ++ codes "' is no NAME=VALUE"
-usage_text NoFile = codes "a file is not named"
+usage_text NoArgument = codes "an argument is missing"
 usage_text NotText = codes "a word is no UTF-8"
 
 -- The exit status of the program.

@@ -1,9 +1,15 @@
 //! The words of a command line.
+ghost use Rattle.std.specs.Prelude.{◌≡◌, IfOk, IfErr, false, map};
+ghost use Rattle.std.specs.String.{string_bytes};
+ghost use Rattle.std.specs.Vec.Iter.{into_iter_items};
+ghost use Rattle.clap.specs.Words.{HasMatchesOf, app_of, kind_of, rule_of};
+ghost use Rattle.ioc_program.specs.CommandLine.{Tells, RefusesWords, program_app, file_rule, definitions_rule, macros_rule, WasNotGiven};
+
 use crate::ending::{Stage, Stop, UsageFault};
 use crate::reason::is_out_of_memory;
 use clap::error::ErrorKind;
 use clap::{Arg, ArgAction, ArgMatches, Command, Error};
-use std::alloc::Global;
+use std::alloc::{AllocError, Global};
 use std::env::Args;
 use std::io;
 
@@ -21,7 +27,9 @@ pub struct Program {
 impl Program {
     /// Returns the command of the program, without arguments. It has `-h`, `--help`, `-V` and
     /// `--version`.
-    pub fn command<'a>(&self, alloc: Global) -> Command<'a> {
+    pub fn command<'a>(&self, alloc: Global) -> Command<'a>
+        ensures { app_of result ≡ program_app self.now.name.now }
+    {
         Command::new(alloc, self.name)
             .version(self.version)
             .about(self.about)
@@ -30,7 +38,10 @@ impl Program {
 }
 
 /// Returns the argument that names a file.
-pub fn file_argument<'a>(alloc: Global, name: &'a str, help: &'a str) -> Arg<'a> {
+pub fn file_argument<'a>(alloc: Global, name: &'a str, help: &'a str) -> Arg<'a>
+    ensures rule { rule_of result ≡ file_rule name.entry.now }
+    ensures local { result.global ≡ false }
+{
     Arg::new(alloc, name).required(true).help(help)
 }
 
@@ -41,7 +52,10 @@ pub const DEFINITIONS: &str = "NAME=VALUE";
 pub const MACROS: &str = "macros";
 
 /// Returns the argument of definitions of macros, which are any number of words.
-pub fn definitions_argument<'a>(alloc: Global) -> Arg<'a> {
+pub fn definitions_argument<'a>(alloc: Global) -> Arg<'a>
+    ensures rule { rule_of result ≡ definitions_rule }
+    ensures local { result.global ≡ false }
+{
     Arg::new(alloc, DEFINITIONS)
         .num_args(0..)
         .action(ArgAction::Append)
@@ -49,7 +63,10 @@ pub fn definitions_argument<'a>(alloc: Global) -> Arg<'a> {
 }
 
 /// Returns the option `-m`, which takes definitions of macros too.
-pub fn macros_option<'a>(alloc: Global) -> Arg<'a> {
+pub fn macros_option<'a>(alloc: Global) -> Arg<'a>
+    ensures rule { rule_of result ≡ macros_rule }
+    ensures local { result.global ≡ false }
+{
     Arg::new(alloc, MACROS)
         .short('m')
         .value_name(DEFINITIONS)
@@ -57,21 +74,40 @@ pub fn macros_option<'a>(alloc: Global) -> Arg<'a> {
         .help("defines macros too, before the words do")
 }
 
+// Returns all words.
+fn collected(alloc: Global, words: Args) -> Result<Vec<String>, AllocError>
+    ensures { IfOk result (λ all. all.items ≡ into_iter_items words) }
+{
+    let mut words = words;
+    let mut all = Vec::new(alloc);
+    while let Some(word) = words.next() {
+        if all.push(word).is_err() {
+            return Err(AllocError);
+        }
+    }
+    Ok(all)
+}
+
 /// Returns the words of a command line, the program's name first.
 ///
 /// # Errors
 ///
 /// [`Stop::Usage`] if one of them isn't UTF-8. [`Stop::Memory`] if allocation fails.
-pub fn given(alloc: Global, words: io::Result<Args>) -> Result<Vec<String>, Stop> {
+pub fn given(alloc: Global, words: io::Result<Args>) -> Result<Vec<String>, Stop>
+    ensures ok { IfOk result (λ all. IfOk words (λ w. all.items ≡ into_iter_items w)) }
+    ensures err { IfErr result (WasNotGiven words) }
+{
     match words {
-        Ok(words) => Ok(words.collect(alloc)?),
+        Ok(words) => Ok(collected(alloc, words)?),
         Err(e) if is_out_of_memory(&e) => Err(Stop::Memory(Stage::Loading)),
         Err(_) => Err(Stop::Usage(UsageFault::NotText)),
     }
 }
 
 // Returns why the program stops if its words gave no matches.
-fn stop_of(alloc: Global, error: &Error) -> Stop {
+fn stop_of(alloc: Global, error: &Error) -> Stop
+    ensures { Tells (kind_of error.now) result }
+{
     let Ok(text) = error.to_string(alloc) else {
         return Stop::Memory(Stage::Loading);
     };
@@ -92,7 +128,10 @@ pub fn parse<'a>(
     alloc: Global,
     command: Command<'a>,
     words: &'a [String],
-) -> Result<ArgMatches<'a>, Stop> {
+) -> Result<ArgMatches<'a>, Stop>
+    ensures ok { IfOk result (HasMatchesOf (app_of command.entry) (map string_bytes words.entry.now)) }
+    ensures err { IfErr result (RefusesWords (app_of command.entry) (map string_bytes words.entry.now)) }
+{
     match command.try_get_matches_from(words) {
         Ok(matches) => Ok(matches),
         Err(error) => Err(stop_of(alloc, &error)),

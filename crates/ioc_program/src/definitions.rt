@@ -65,12 +65,15 @@ pub fn define(alloc: Global, word: &str, macros: &mut Macros) -> Result<(), Stop
 /// # Errors
 ///
 /// [`UsageFault::NoDefinition`] if a word defines no macro. [`Stop::Memory`] if allocation fails.
+#[tactic(auto, using(crate::proofs::Cutting::word_more, crate::proofs::Cutting::word_none))]
 pub fn defined(alloc: Global, words: &[&str], macros: &mut Macros) -> Result<(), Stop>
     ensures ok { OnOk result (all_defined macros.old (map (λ w. w.now) words.now) ≡ Some macros.new) }
     ensures err { IfErr result (Undefined (all_defined macros.old (map (λ w. w.now) words.now))) }
 {
-    for word in words {
+    let mut rest = words;
+    while let [word, after @ ..] = rest {
         define(alloc, word, macros)?;
+        rest = after;
     }
     Ok(())
 }

@@ -38,8 +38,8 @@ pub enum Stage {
 pub enum UsageFault {
     /// This word defines no macro.
     NoDefinition(String),
-    /// A file isn't named.
-    NoFile,
+    /// An argument is missing.
+    NoArgument,
     /// A word is no UTF-8.
     NotText,
 }
@@ -180,7 +180,7 @@ impl fmt::Display for UsageFault {
     fn fmt<W: fmt::Write>(&self, f: &mut fmt::Formatter<W>) -> fmt::Result {
         match self {
             UsageFault::NoDefinition(word) => write!(f, "'{word}' is no NAME=VALUE"),
-            UsageFault::NoFile => f.write_str("a file is not named"),
+            UsageFault::NoArgument => f.write_str("an argument is missing"),
             UsageFault::NotText => f.write_str("a word is no UTF-8"),
         }
     }
