@@ -14,4 +14,4 @@ pub use definitions::{define, defined};
 pub use ending::{Ending, FileRole, Stage, Stop, Stream, UsageFault, unreadable};
 pub use files::{open, read_whole, show};
 pub use reason::{Reason, is_out_of_memory};
-pub use two_files::TwoFiles;
+pub use two_files::{TwoFiles, macros_in};

@@ -62,9 +62,13 @@ fn define_values(
     }
 }
 
-// Returns the macros that the words define, those of `-m` first.
+/// Returns the macros that the words of a command line define, those of `-m` first.
+///
+/// # Errors
+///
+/// [`UsageFault::NoDefinition`] if a word defines no macro. [`Stop::Memory`] if allocation fails.
 #[tactic(auto, using(crate::proofs::Cutting::defined_both, crate::proofs::Cutting::none_of_both))]
-fn macros_in(alloc: Global, matches: &ArgMatches<'_>) -> Result<Macros, Stop>
+pub fn macros_in(alloc: Global, matches: &ArgMatches<'_>) -> Result<Macros, Stop>
     ensures ok { IfOk result (λ m. all_defined [] (definitions_in (rows_of (found_of matches.now))) ≡ Some m) }
     ensures err { IfErr result (Undefined (all_defined [] (definitions_in (rows_of (found_of matches.now))))) }
 {
