@@ -27,12 +27,12 @@ use Rattle.ioc_store.specs.Given.{Answers, Devices, with_device}
 use Rattle.ioc_store.specs.OneMap.{device_at}
 use Rattle.ioc_store.specs.World.{World, begun, begun_at}
 use Rattle.ioc_events.specs.Step.{stepped, tallied, is_refusal}
+use Rattle.ioc_scanner.specs.declared.places.Occasion.TheVariants.{Scanning as When-scanned}
+use Rattle.ioc_scanner.specs.FirstLists.{first_lists, starters}
 use Rattle.ioc_dbfile.specs.FirstWorld.{first_world}
 use Rattle.ioc_dbfile.specs.Finished.{Owner}
 use Rattle.ioc_dbfile.specs.Owners.{owner_of, owns_device}
-use Rattle.ioc_sim.specs.declared.first_lists.Occasion.TheVariants.{Scanning as When-scanned}
 use Rattle.ioc_sim.specs.Scanner.{Scanner, called_on, with_outbox}
-use Rattle.ioc_sim.specs.FirstLists.{first_lists, starters}
 
 -- The answers that are queued for the device of each record that has one.
 abbrev pub Queued : Type 0

@@ -11,11 +11,10 @@ ghost use Rattle.ioc_store.specs.Given.{Answers};
 ghost use Rattle.ioc_store.specs.OneMap.{world_of};
 ghost use Rattle.ioc_store.specs.World.{World, begun};
 ghost use Rattle.ioc_callback.specs.Serving.{no_items};
-ghost use Rattle.ioc_sim.specs.declared.first_lists.Occasion.TheVariants.{Scanning};
-ghost use Rattle.ioc_sim.specs.FirstLists.{first_lists};
+ghost use Rattle.ioc_scanner.specs.declared.places.Occasion.TheVariants.{Scanning};
+ghost use Rattle.ioc_scanner.specs.FirstLists.{first_lists};
 ghost use Rattle.ioc_sim.specs.Machine.{first_queue};
 
-use crate::first_lists::{Occasion, first_lists, starters};
 use crate::leads::lead_among;
 use crate::scanner::Scanner;
 use crate::scripted::Scripted;
@@ -28,6 +27,8 @@ use ioc_ledger::Tally;
 use ioc_links::Link;
 use ioc_names::{Names, RecordNo};
 use ioc_notify::NotifyId;
+use ioc_scanner::first_lists::{first_lists, starters};
+use ioc_scanner::places::Occasion;
 use ioc_store::{EventStore, Frame, OneMap};
 use ioc_values::{Finished, Input};
 use rec_types::Record;
@@ -124,7 +125,7 @@ impl Machine {
     ghost use Rattle.ioc_events.specs.Events.{reply_of};
     ghost use Rattle.ioc_events.specs.SetReply.{event_by};
     ghost use Rattle.ioc_values.specs.Conversion.{input_of};
-    ghost use Rattle.ioc_sim.specs.FirstLists.{starters};
+    ghost use Rattle.ioc_scanner.specs.FirstLists.{starters};
     ghost use Rattle.ioc_sim.specs.Leads.{field_of_link};
     ghost use Rattle.ioc_sim.specs.Machine.{loaded_machine, first_machine, Gives, stepped_on, done, notified, given_up};
     ghost use Rattle.ioc_sim.specs.Machine.{with_ended_kept, with_sent, with_none_ended};
@@ -160,7 +161,7 @@ impl Machine {
     /// # Errors
     ///
     /// [`AllocError`] if allocation fails.
-    #[tactic(auto, unfolding(crate::specs::FirstLists::starters))]
+    #[tactic(auto, unfolding(ioc_scanner::specs::FirstLists::starters))]
     pub fn new(alloc: Global, records: Vec<Record>) -> Result<Self, AllocError>
         requires { IsSettled record_rules (first_world records.items) }
         ensures { IfOk result (λ m. machine_of m ≡ first_machine record_rules records.items) }
