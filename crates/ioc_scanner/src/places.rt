@@ -62,8 +62,8 @@ pub fn place_of<K: RecordKind>(item: &K, occasion: Occasion) -> Option<Placement
     }
 }
 
-/// Returns whether a record may be on a list. Most records aren't, and a place is large.
-pub fn may_be_listed<K: RecordKind>(item: &K, occasion: Occasion) -> bool
+// Returns whether a record may be on a list. Most records aren't, and a place is large.
+pub(crate) fn may_be_listed<K: RecordKind>(item: &K, occasion: Occasion) -> bool
     ensures { result ≡ false → place_of K.rules occasion item.now ≡ None }
 {
     let fields = &item.common().scanning;
