@@ -36,7 +36,8 @@ record Adds (s t : Scanned) (n : ℕ) (o : Option Placement) : Type 0 where
   grows : s.last ≤ t.last
   last : (p : Placement) → o ≡ Some p → (s.last < (entry t n).order) × ((entry t n).order ≤ t.last)
 
-adds : (s : Scanned) (n : ℕ) (o : Option Placement) → n < length s.entries → (entry s n).place ≡ Nothing_ → Adds s (added s n o) n o
+adds : (s : Scanned) (n : ℕ) (o : Option Placement) → n < length s.entries → (entry s n).place ≡ Nothing_
+    → Adds s (added s n o) n o
 adds s n Nothing_ within free = record { others = λ i other. refl; count = refl; here = free; grows = omega arith; last = λ p e. cc }
 adds s n (Some q) within free =
     let e : ListEntry = record { number = (entry s n).number; place = Some q; order = s.last + 1 } in
@@ -57,10 +58,13 @@ fresh (suc count) zero = refl
 fresh (suc count) (suc i) = fresh count i
 
 past : (s : Scanned) (i : ℕ) → length s.entries ≤ i → entry s i ≡ new_entry
-past s i above = sym (unwrap_or-slice_get s.entries i new_entry) ∙ ap (λ (o : Option ListEntry). unwrap_or o new_entry) (slice_get_past s.entries i above)
+past s i above =
+    sym (unwrap_or-slice_get s.entries i new_entry)
+    ∙ ap (λ (o : Option ListEntry). unwrap_or o new_entry) (slice_get_past s.entries i above)
 
 -- The place of a record with PINI.
-at_start : (s : Scanning) (pini : Pini) (p : Placement) → start_place s pini ≡ Some p → (pini ≡ Yes) × (p.phase ≡ s.phase) × (p.priority ≡ s.priority)
+at_start : (s : Scanning) (pini : Pini) (p : Placement) → start_place s pini ≡ Some p
+    → (pini ≡ Yes) × (p.phase ≡ s.phase) × (p.priority ≡ s.priority)
 at_start s Yes p e =
     let is : record { list = Start; phase = s.phase; priority = s.priority } ≡ p = cc in
     (refl, ap (λ (q : Placement). q.phase) (sym is), ap (λ (q : Placement). q.priority) (sym is))
@@ -76,7 +80,8 @@ module _ {R : Type 0} (k : RecordRules R) where
     places : (i : ℕ) (r : R) → slice_get rs i ≡ Some r → (entry after (n + i)).place ≡ place r
     count : length after.entries ≡ length before.entries
     later : (i : ℕ) (p : Placement) → n ≤ i → (entry after i).place ≡ Some p → before.last < (entry after i).order
-    rising : (i j : ℕ) (p q : Placement) → n ≤ i → i < j → (entry after i).place ≡ Some p → (entry after j).place ≡ Some q → (entry after i).order < (entry after j).order
+    rising : (i j : ℕ) (p q : Placement) → n ≤ i → i < j → (entry after i).place ≡ Some p → (entry after j).place ≡ Some q
+        → (entry after i).order < (entry after j).order
 
   places_both : (e : ℕ → ListEntry) (n : ℕ) (r : R) (rs : List R) → (e n).place ≡ place r
       → ((i : ℕ) (q : R) → slice_get rs i ≡ Some q → (e ((1 + n) + i)).place ≡ place q)
@@ -89,7 +94,8 @@ module _ {R : Type 0} (k : RecordRules R) where
       let at : (1 + n) + i ≡ n + suc i = omega arith in
       subst (λ (m : ℕ). (e m).place ≡ place q) at (others i q is)
 
-  lists : (s : Scanned) (n : ℕ) (rs : List R) → n + length rs ≡ length s.entries → ((i : ℕ) → n ≤ i → (entry s i).place ≡ Nothing_) → Lists s (with_each k When-starting s n rs) n rs
+  lists : (s : Scanned) (n : ℕ) (rs : List R) → n + length rs ≡ length s.entries → ((i : ℕ) → n ≤ i → (entry s i).place ≡ Nothing_)
+      → Lists s (with_each k When-starting s n rs) n rs
   lists s n [] many free =
       record {
         same = λ i below. refl;
@@ -102,7 +108,9 @@ module _ {R : Type 0} (k : RecordRules R) where
       let t = added s n (place r) in
       let after = with_each k When-starting t (1 + n) rs in
       let one : Adds s t n (place r) = adds s n (place r) (omega arith) (free n (omega arith)) in
-      let rest : Lists t after (1 + n) rs = lists t (1 + n) rs (omega (arith, one.count)) (λ i above. ap place_in (one.others i (omega arith)) ∙ free i (omega arith)) in
+      let still : (i : ℕ) → 1 + n ≤ i → (entry t i).place ≡ Nothing_ =
+      (λ i above. ap place_in (one.others i (omega arith)) ∙ free i (omega arith)) in
+      let rest : Lists t after (1 + n) rs = lists t (1 + n) rs (omega (arith, one.count)) still in
       let at : entry after n ≡ entry t n = rest.same n (omega arith) in
       let order : (entry after n).order ≡ (entry t n).order = ap (λ (x : ListEntry). x.order) at in
       let first : (p : Placement) → (entry after n).place ≡ Some p → (s.last < (entry t n).order) × ((entry t n).order ≤ t.last) =
@@ -113,12 +121,14 @@ module _ {R : Type 0} (k : RecordRules R) where
         places = places_both (λ i. entry after i) n r rs (ap place_in at ∙ one.here) rest.places;
         count = rest.count ∙ one.count;
         later = λ i p above e. ⊎_elim
-            (λ same. subst (λ (m : ℕ). s.last < (entry after m).order) (sym same) (let f = first p (subst (λ (m : ℕ). (entry after m).place ≡ Some p) same e) in omega arith))
+            (λ same. subst (λ (m : ℕ). s.last < (entry after m).order) (sym same)
+            (let f = first p (subst (λ (m : ℕ). (entry after m).place ≡ Some p) same e) in omega arith))
             (λ other. let g : t.last < (entry after i).order = rest.later i p (omega arith) e in omega arith)
             (cases_eq i n);
         rising = λ i j p q above less e f. ⊎_elim
             (λ same. subst (λ (m : ℕ). (entry after m).order < (entry after j).order) (sym same)
-            (let a = first p (subst (λ (m : ℕ). (entry after m).place ≡ Some p) same e) in let b : t.last < (entry after j).order = rest.later j q (omega arith) f in omega arith))
+            (let a = first p (subst (λ (m : ℕ). (entry after m).place ≡ Some p) same e) in
+            let b : t.last < (entry after j).order = rest.later j q (omega arith) f in omega arith))
             (λ other. rest.rising i j p q (omega arith) less e f)
             (cases_eq i n);
       }
@@ -129,7 +139,8 @@ module _ {R : Type 0} (k : RecordRules R) where
 
     all : Lists (new_lists (length records)) s 0 records
     all =
-        let many : 0 + length records ≡ length (replicate (length records) new_entry) = omega (arith, length-replicate (length records) new_entry) in
+        let many : 0 + length records ≡ length (replicate (length records) new_entry) =
+        omega (arith, length-replicate (length records) new_entry) in
         lists (new_lists (length records)) 0 records many (λ i above. ap place_in (fresh (length records) i))
 
     placed_at : (i : ℕ) (r : R) → slice_get records i ≡ Some r → (entry s i).place ≡ place r
@@ -153,20 +164,27 @@ module _ {R : Type 0} (k : RecordRules R) where
     is_on : (x : Listed) → HasPini k records x → IsOn s Start x
     is_on x has =
         let r = has.0 in
-        let here : place r ≡ start_place (k.common r).scanning Yes = ap (start_place (k.common r).scanning) has.2 in
-        ((k.common r).scanning.phase, placed_at x.number r has.1 ∙ here ∙ ap (λ p. Some (record { list = Start; phase = (k.common r).scanning.phase; priority = p })) (sym has.3))
+        let here : place r ≡ start_place (k.common r).scanning Yes = ap (start_place (k.common r).scanning) has.2 in (
+          (k.common r).scanning.phase,
+          placed_at x.number r has.1 ∙ here
+              ∙ ap (λ p. Some (record { list = Start; phase = (k.common r).scanning.phase; priority = p })) (sym has.3),
+        )
 
     contained : (xs : List Listed) (i : ℕ) (x : Listed) → slice_get xs i ≡ Some x → Contains xs x
     contained xs i x at = (i, slice_get_within xs i x at, get_or_from_slice_get xs i x x at)
 
     -- Of two listed records the one that was added first has the lower number.
-    numbers_rise : (a b : ℕ) (p q : Placement) → (entry s a).place ≡ Some p → (entry s b).place ≡ Some q → (entry s a).order < (entry s b).order → a < b
+    numbers_rise : (a b : ℕ) (p q : Placement) → (entry s a).place ≡ Some p → (entry s b).place ≡ Some q
+        → (entry s a).order < (entry s b).order → a < b
     numbers_rise a b p q at_a at_b less = ⊎_elim
         (λ same. let e : (entry s a).order ≡ (entry s b).order = ap (λ (m : ℕ). (entry s m).order) same in absurd (omega arith))
-        (λ either. ⊎_elim (λ first. first) (λ after. let g : (entry s b).order < (entry s a).order = all.rising b a q p (omega arith) after at_b at_a in absurd (omega arith)) either)
+        (λ either. ⊎_elim (λ first. first) (λ after.
+        let g : (entry s b).order < (entry s a).order = all.rising b a q p (omega arith) after at_b at_a in absurd (omega arith)) either)
         (cases_order a b)
 
-    before : (xs : List Listed) → InPhaseOrder s Start xs → (i j : ℕ) (x y : Listed) → i < j → slice_get xs i ≡ Some x → slice_get xs j ≡ Some y → StartsBefore k records x.number y.number
+    before : (xs : List Listed) → InPhaseOrder s Start xs
+        → (i j : ℕ) (x y : Listed) → i < j → slice_get xs i ≡ Some x → slice_get xs j ≡ Some y
+        → StartsBefore k records x.number y.number
     before xs walk i j x y less at_i at_j = λ q r is_q is_r.
         let on_x = (walk.members x).0 (contained xs i x at_i) in
         let on_y = (walk.members y).0 (contained xs j y at_j) in
@@ -177,7 +195,8 @@ module _ {R : Type 0} (k : RecordRules R) where
         (λ equal. inr (sym a.1 ∙ equal.0 ∙ b.1, numbers_rise x.number y.number _ _ on_x.1 on_y.1 equal.1))
         (walk.ordered i j x y less at_i at_j _ _ on_x.1 on_y.1)
 
-  pub starters_in_order : (records : List R) (xs : List Listed) → InPhaseOrder (first_lists k When-starting records) Start xs → AreStarters k records xs
+  pub starters_in_order : (records : List R) (xs : List Listed) → InPhaseOrder (first_lists k When-starting records) Start xs
+      → AreStarters k records xs
   unfolding first_lists
   starters_in_order records xs walk =
       record {
@@ -185,9 +204,11 @@ module _ {R : Type 0} (k : RecordRules R) where
         ordered = before records xs walk;
       }
 
-  none_at : (records : List R) (i : ℕ) (r : R) → list_any (is_starter k) records ≡ false → slice_get records i ≡ Some r → is_starter k r ≡ false
+  none_at : (records : List R) (i : ℕ) (r : R) → list_any (is_starter k) records ≡ false → slice_get records i ≡ Some r
+      → is_starter k r ≡ false
   none_at [] i r none e = cc
-  none_at (q ∷ qs) zero r none e = let same : q ≡ r = cc in ap (is_starter k) (sym same) ∙ first_none (is_starter k q) (list_any (is_starter k) qs) none
+  none_at (q ∷ qs) zero r none e =
+      let same : q ≡ r = cc in ap (is_starter k) (sym same) ∙ first_none (is_starter k q) (list_any (is_starter k) qs) none
   none_at (q ∷ qs) (suc i) r none e = none_at qs i r (others_none (is_starter k q) (list_any (is_starter k) qs) none) e
 
   not_there : (records : List R) (x : Listed) → list_any (is_starter k) records ≡ false → HasPini k records x → ⊥

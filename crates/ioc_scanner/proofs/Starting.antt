@@ -49,10 +49,12 @@ others_none true b is = absurd cc
 others_none false b is = is
 
 module _ {R : Type 0} (k : RecordRules R) where
-  none_added : (records : List R) (s : Scanned) (n : ℕ) → list_any (is_starter k) records ≡ false → with_each k When-starting s n records ≡ s
+  none_added : (records : List R) (s : Scanned) (n : ℕ) → list_any (is_starter k) records ≡ false
+      → with_each k When-starting s n records ≡ s
   none_added [] s n is = refl
   none_added (r ∷ rs) s n is =
-      rw (unmoved s n (place_of k When-starting r) (first_none (is_starter k r) (list_any (is_starter k) rs) is)) (none_added rs s (1 + n) (others_none (is_starter k r) (list_any (is_starter k) rs) is))
+      rw (unmoved s n (place_of k When-starting r) (first_none (is_starter k r) (list_any (is_starter k) rs) is))
+      (none_added rs s (1 + n) (others_none (is_starter k r) (list_any (is_starter k) rs) is))
 
   pub none_starts : (records : List R) → list_any (is_starter k) records ≡ false → starters k records ≡ []
   unfolding starters first_lists

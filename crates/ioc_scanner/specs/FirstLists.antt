@@ -39,7 +39,8 @@ module _ {R : Type 0} (k : RecordRules R) where
   -- Holds if the member is a record with PINI, with its PRIO.
   abbrev pub HasPini : List R → Listed → Type 0
   HasPini records x =
-      (r : R) × (slice_get records x.number ≡ Some r) × ((k.common r).scanning.at_start ≡ Yes) × (x.priority ≡ (k.common r).scanning.priority)
+      (r : R) × (slice_get records x.number ≡ Some r) × ((k.common r).scanning.at_start ≡ Yes)
+      × (x.priority ≡ (k.common r).scanning.priority)
 
   -- Holds if the first of these records is processed before the second: by PHAS, then by number.
   abbrev pub StartsBefore : List R → ℕ → ℕ → Type 0
@@ -51,4 +52,5 @@ module _ {R : Type 0} (k : RecordRules R) where
   -- Holds if these are the records with PINI, in the order in which they are processed.
   pub record AreStarters (records : List R) (xs : List Listed) : Type 0 where
     pub members : (x : Listed) → Contains xs x ↔ HasPini records x
-    pub ordered : (i j : ℕ) (x y : Listed) → i < j → slice_get xs i ≡ Some x → slice_get xs j ≡ Some y → StartsBefore records x.number y.number
+    pub ordered : (i j : ℕ) (x y : Listed) → i < j → slice_get xs i ≡ Some x → slice_get xs j ≡ Some y
+        → StartsBefore records x.number y.number
