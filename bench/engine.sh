@@ -45,13 +45,13 @@ memory() { # WORDS..: megabytes at most, and after ten seconds
   rm "$work/input"
 }
 
-echo "| Records of a chain | On one map (\`Machine::process\`) | In its lock set (\`LockSet::request\`) | By the engine |"
-echo "|---|---|---|---|"
+echo "| Records of a chain | On one map (\`Machine::process\`) | By the engine |"
+echo "|---|---|---|"
 for records in 1 4 10 16 32 100; do
   by_replay "$records"
   map=$(each Machine::process)
   by_engine "$records" chain
-  echo "| $records | $map | $(each LockSet::request) | $(each 'PROGRAM TOTALS') |"
+  echo "| $records | $map | $(each 'PROGRAM TOTALS') |"
 done
 echo
 echo "| A round | Beside it | Instructions |"

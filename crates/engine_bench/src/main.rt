@@ -7,24 +7,27 @@
 
 ghost use Rattle.ioc_engine.specs.Named.{IsNamedBy};
 
-mod arguments;
+mod command;
 mod database;
 mod later;
 mod rounds;
 mod work;
 
-use crate::arguments::Arguments;
+use crate::command::{PROGRAM, jobs};
 use crate::database::text;
 use crate::later::{Later, devices};
 use crate::rounds::in_threads;
 use crate::work::{Job, Work};
 use ioc_engine::{Engine, EngineName, FixedClock, IocError, Limits, LoadError, Macros, Seed, load};
+use ioc_program::{Ending, Reason, Stop, given, show};
 use std::alloc::Global;
+use std::env::{self, Args};
+use std::io::{self, Eprint, Print};
 use std::marker::Brand;
+use std::process::ExitCode;
 use std::sync::Wait;
 use std::thread::Threads;
 use std::time::{Clock, Instant};
-use std::{env, io};
 
 // The largest journal that an engine can have.
 const LIMITS: Limits = Limits {
@@ -97,7 +100,7 @@ fn run<R: Clock + Input + Threads + Wait + Sync>(
 }
 
 // Prints what was measured.
-fn show(rt: &HostRuntime, job: &Job, measured: &Measured) -> io::Result<()> {
+fn print<R: Print + Eprint>(rt: &R, job: &Job, measured: &Measured) -> io::Result<()> {
     let Measured { rounds, micros } = *measured;
     let name = job.work.name();
     println!(rt; "{name}: {rounds}")?;
@@ -105,16 +108,34 @@ fn show(rt: &HostRuntime, job: &Job, measured: &Measured) -> io::Result<()> {
     eprintln!(rt; "{name}: {rate} rounds a millisecond")
 }
 
-fn main(rt: HostRuntime) -> io::Result<()> {
-    let Some(asked) = Arguments::from_words(rt.alloc(), env::args(&rt)?) else {
-        return eprintln!(rt; "usage: engine-bench CALLS THREADS RECORDS WORK..");
-    };
-    for work in asked.works.as_slice() {
-        let job = asked.job(*work);
-        match run(&rt, rt.alloc(), &job) {
-            Ok(measured) => show(&rt, &job, &measured)?,
-            Err(error) => eprintln!(rt; "{}: {error}", work.name())?,
+// Carries out a job, and prints what was measured, or why the job can't be carried out.
+fn measure<R: Clock + Input + Print + Eprint + Threads + Wait + Sync>(
+    rt: &R,
+    alloc: Global,
+    job: &Job,
+) -> io::Result<()> {
+    match run(rt, alloc, job) {
+        Ok(measured) => print(rt, job, &measured),
+        Err(error) => eprintln!(rt; "{}: {error}", job.work.name()),
+    }
+}
+
+// Carries out the jobs that the words of the command line ask for.
+fn measure_all<R: Clock + Input + Print + Eprint + Threads + Wait + Sync>(
+    rt: &R,
+    alloc: Global,
+    words: io::Result<Args>,
+) -> Result<(), Stop> {
+    let words = given(alloc, words)?;
+    for job in jobs(alloc, words.as_slice())? {
+        if let Err(error) = measure(rt, alloc, &job) {
+            return Err(Stop::Write(Reason::of(&error)));
         }
     }
     Ok(())
+}
+
+fn main(rt: HostRuntime) -> ExitCode {
+    let ended = measure_all(&rt, rt.alloc(), env::args(&rt));
+    show(&rt, &Ending::of(PROGRAM.name, ended))
 }

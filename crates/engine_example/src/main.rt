@@ -5,7 +5,7 @@ ghost use Rattle.ioc_engine.specs.Named.{IsNamedBy};
 
 use ioc_engine::{
     Answer, CountingClock, Device, DeviceName, Engine, EngineName, FieldText, IocError, Limits,
-    LoadError, Macros, Reply, Seed, Value, load,
+    LoadError, Macros, Seed, Value, load,
 };
 use std::alloc::Global;
 use std::io;
@@ -34,12 +34,18 @@ fn work<B: EngineName<Tank>, R: Wait>(
     rt: &R,
     alloc: Global,
     seed: Seed<Tank>,
-) -> Result<Reply, IocError>
+) -> Result<FieldText, IocError>
     requires named { IsNamedBy B.table B.base B.devices B.places B.tickets B.counts seed }
 {
     let engine = Engine::<B, _, _>::start(alloc, seed, CountingClock::new(), Limits::default())?;
     let mut desk = engine.desk(rt)?;
-    engine.set_link(rt, &mut desk, engine.channel(b"copy.INP")?, b"level PP MS")?;
+    let (changed, _receipt) = engine.set_link(
+        rt,
+        &mut desk,
+        engine.channel(b"copy.INP")?,
+        b"level PP MS",
+    )?;
+    changed?;
     engine.process(rt, &mut desk, engine.record(b"copy")?)?;
     let (shown, _receipt) = engine.get(rt, &mut desk, engine.channel(b"copy.SEVR")?)?;
     Ok(shown)
@@ -51,16 +57,18 @@ fn loaded(alloc: Global) -> Result<Seed<Tank>, LoadError> {
     Ok(Seed::new(alloc, database, devices)?)
 }
 
+fn run<R: Wait>(rt: &R, alloc: Global, seed: Seed<Tank>) -> Result<bool, IocError> {
+    Ok(work::<Brand, _>(rt, alloc, seed)? == FieldText::cut(b"MINOR"))
+}
+
 fn main(rt: HostRuntime) -> io::Result<()> {
     let seed = match loaded(rt.alloc()) {
         Ok(seed) => seed,
         Err(error) => return println!(rt; "{error}"),
     };
-    match work::<Brand, _>(&rt, rt.alloc(), seed) {
-        Ok(shown) if shown == Reply::Shown(FieldText::cut(b"MINOR")) => {
-            println!(rt; "copy has the alarm of level")
-        }
-        Ok(_) => println!(rt; "copy has no alarm"),
+    match run(&rt, rt.alloc(), seed) {
+        Ok(true) => println!(rt; "copy has the alarm of level"),
+        Ok(false) => println!(rt; "copy has no alarm"),
         Err(error) => println!(rt; "{error}"),
     }
 }

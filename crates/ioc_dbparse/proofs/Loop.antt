@@ -26,7 +26,6 @@ module _ {S : Type 0} (step : S → List Lexeme → Result (Bool × S × List Le
   unfolding repeated
   fails (errors.BadDb f) lt h so_far = let one : repeated step out (turns - i) s tokens ≡ Err f = rw (turn lt, h) refl in sym so_far ∙ one
   fails errors.NoMemory lt h so_far = tt
-  fails _ lt h so_far = absurd h
 
   pub is_out : turns ≤ i → repeated step out (turns - i) s tokens ≡ total → total ≡ Err out
   unfolding repeated
@@ -40,4 +39,3 @@ pub gives_then : {X Y Z : Type 0} (view : X → Y) (k : Y → Z) (r : Result X L
 gives_then view k (Ok x) wanted h = rw h refl
 gives_then view k (Err (errors.BadDb f)) wanted h = rw h refl
 gives_then view k (Err errors.NoMemory) wanted h = tt
-gives_then view k (Err _) wanted h = absurd h

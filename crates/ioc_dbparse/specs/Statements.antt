@@ -23,11 +23,10 @@ abbrev pub ◌>>=◌ : {A B : Type 0} → Result A DbFault → (A → Result B D
 (Ok x) >>= f = f x
 (Err e) >>= f = Err e
 
--- Holds if an error is the wanted fault, or a failed allocation, and nothing else.
+-- Holds if an error is the wanted fault, or a failed allocation.
 abbrev pub Fails : {Y : Type 0} → LoadError → Result Y DbFault → Type 0
 Fails (errors.BadDb fault) wanted = wanted ≡ Err fault
 Fails errors.NoMemory wanted = Unit {0}
-Fails _ wanted = ⊥
 
 -- Holds if the result of a function, mapped by `view`, is the wanted one, unless allocation fails.
 abbrev pub Gives : {X Y : Type 0} → (X → Y) → Result X LoadError → Result Y DbFault → Type 0

@@ -1,12 +1,12 @@
 -- What the refusals and the replies of calls tell of the types of records.
-use Rattle.std.proofs.Common.{◌≡◌, ◌⊎◌, ℕ, Bool, true, false, cond, Option, Some, None, Result, Ok, Err, refl, sym, ap, subst, ◌∙◌, inl, inr}
+use Rattle.std.proofs.Common.{◌≡◌, ◌⊎◌, ℕ, Bool, true, false, cond, not, List, Option, Some, None, Result, Ok, Err, refl, sym, ap, subst, ◌∙◌, inl, inr}
 use Rattle.std.specs.Prelude.{Contains, IfOk, IfErr, is_some}
 use Rattle.std.specs.Option.{option_map_or}
-use Rattle.std.specs.FinMap.{keys, contains_key-keys}
+use Rattle.std.specs.FinMap.{keys, contains_key, contains_key-keys}
 use Rattle.std.proofs.lemmas.Cmp.{eq_by_cmp_equiv, nat_cmp_total}
 use Rattle.std.proofs.lemmas.Map.Views.{list_any-from_Contains}
 use Rattle.ioc_values.specs.declared.error.IocError.{IocError}
-use Rattle.ioc_values.specs.declared.error.IocError.TheVariants.{NoField, NoMod}
+use Rattle.ioc_values.specs.declared.error.IocError.TheVariants.{NoRecord, NoField, NoMod}
 use Rattle.ioc_values.specs.declared.input.Input.{Input}
 use Rattle.ioc_device.specs.declared.Ask.{Ask}
 use Rattle.ioc_device.specs.declared.Answer.{Answer}
@@ -17,12 +17,13 @@ use Rattle.ioc_record.specs.Values.{kind_to_put, kind_to_put_by}
 use Rattle.rec_types.specs.Record.{Record, record_rules}
 use Rattle.ioc_store.specs.World.{World}
 use Rattle.ioc_events.specs.declared.reply.Reply.{Reply}
-use Rattle.ioc_events.specs.declared.event.Event.TheVariants.{Get, Put, Notify}
+use Rattle.ioc_events.specs.declared.event.Event.TheVariants.{Put, Notify}
+use Rattle.ioc_events.specs.Step.{shown}
 use Rattle.ioc_set.specs.SetState.{now_of}
-use Rattle.ioc_set.specs.NoCalls.{no_call, why_not_shown, why_not_put}
+use Rattle.ioc_set.specs.NoCalls.{no_call, why_not_put}
 use Rattle.ioc_journaled_set.specs.Holding.{HeldView, numbers_of, IsSoundlyHeld}
 use Rattle.ioc_history.specs.Account.{DeskView}
-use Rattle.ioc_engine_core.specs.Served.{CallIsRefused, WasTold, WasServed, WasBegun}
+use Rattle.ioc_engine_core.specs.Served.{CallIsRefused, GetIsRefused, WasTold, WasServed, WasBegun}
 use Rattle.ioc_engine.specs.declared.channel.Channel.{Channel}
 use Rattle.ioc_engine.specs.Types.{type_at, HeldKeepTypes}
 use Rattle.ioc_engine.specs.Refusals.{type_of, HasField, CanBePut, IsGetError, IsPutError}
@@ -36,15 +37,18 @@ pub err_then : {A E : Type 0} (P Q : E → Type 0) (r : Result A E) → ((e : E)
 err_then P Q (Ok x) then is = is
 err_then P Q (Err e) then is = then e is
 
--- Why a field isn't shown or put, by its row.
-shown_row : (row : Option Row) (error : IocError) → why_not_shown row ≡ Some error → (row ≡ None) × (error ≡ NoField)
-shown_row None error is = (refl, cc)
-shown_row (Some row) error is = cc
+-- Whether a record has a field, by what a get answers.
+shown_lacks : (there has : Bool) (text : List ℕ) (error : IocError) → there ≡ true → cond (not there) (Err NoRecord) (cond has (Ok text) (Err NoField)) ≡ Err error → (has ≡ false) × (error ≡ NoField)
+shown_lacks true true text error is e = cc
+shown_lacks true false text error is e = (refl, cc)
+shown_lacks false has text error is e = cc
 
-shown_there : (row : Option Row) → why_not_shown row ≡ None → is_some row ≡ true
-shown_there None is = cc
-shown_there (Some row) is = refl
+shown_has : (there has : Bool) (text shown_so : List ℕ) → there ≡ true → cond (not there) (Err NoRecord) (cond has (Ok text) (Err NoField)) ≡ Ok shown_so → has ≡ true
+shown_has true true text shown_so is e = refl
+shown_has true false text shown_so is e = cc
+shown_has false has text shown_so is e = cc
 
+-- Why a field isn't put, by its row.
 abbrev puts_row : Option Row → Bool
 puts_row row = option_map_or (λ r. r.can_put) row false
 
@@ -64,11 +68,6 @@ put_there (Some row) is = elim row.can_put as (λ b. row.can_put ≡ b → why_n
 ] refl is
 
 module _ (base : World Record) (c : Channel) where
-  agrees-get : (error : IocError) → why_not_shown (row_of (type_of base c) c.field) ≡ Some error → IsGetError base c error
-  agrees-get error is =
-      let p = shown_row (row_of (type_of base c) c.field) error is in
-      subst (IsGetError base c) (sym p.1) (λ has. let e = ap is_some p.0 in cc)
-
   agrees-put : (error : IocError) → why_not_put (kind_to_put (type_of base c) c.field) ≡ Some error → IsPutError base c error
   unfolding kind_to_put
   agrees-put error is = elim (put_row (row_of (type_of base c) c.field) error is) [
@@ -88,10 +87,27 @@ module _ (base : World Record) (c : Channel) where
         keep base (now_of held.set) held.seen sound.holds n (contains_key-keys held.set.records n ∙ list_any-from_Contains (eq_by_cmp_equiv nat_cmp_total) n (keys held.set.records) here)
         ∙ ap (λ (m : ℕ). type_at record_rules base m) same
 
-    get-why : (held : HeldView Record D) → Contains (numbers_of held) n → IsSoundlyHeld record_rules base held
-        → no_call record_rules (now_of held.set) (Get n c.field) ≡ why_not_shown (row_of (type_of base c) c.field)
-    unfolding no_call
-    get-why held here sound = ap (λ (t : RecordType). why_not_shown (row_of t c.field)) (held-type held here sound)
+    held-there : (held : HeldView Record D) → Contains (numbers_of held) n → contains_key (now_of held.set).records n ≡ true
+    held-there held here = contains_key-keys held.set.records n ∙ list_any-from_Contains (eq_by_cmp_equiv nat_cmp_total) n (keys held.set.records) here
+
+    same-row : (held : HeldView Record D) → Contains (numbers_of held) n → IsSoundlyHeld record_rules base held
+        → is_some (row_of (type_at record_rules (now_of held.set) n) c.field) ≡ is_some (row_of (type_of base c) c.field)
+    same-row held here sound = ap (λ (t : RecordType). is_some (row_of t c.field)) (held-type held here sound)
+
+    -- A get of a held record is refused only if the record's type has no such field, and else tells
+    -- its text.
+    get-refused : (held : HeldView Record D) → Contains (numbers_of held) n → IsSoundlyHeld record_rules base held → (error : IocError)
+        → shown record_rules (now_of held.set) n c.field ≡ Err error → IsGetError base c error
+    unfolding shown
+    get-refused held here sound error is =
+        let lacks = shown_lacks (contains_key (now_of held.set).records n) (is_some (row_of (type_at record_rules (now_of held.set) n) c.field)) _ error (held-there held here) is in
+        subst (IsGetError base c) (sym lacks.1) (λ has. let no : true ≡ false = sym has ∙ sym (same-row held here sound) ∙ lacks.0 in cc)
+
+    get-has : (held : HeldView Record D) → Contains (numbers_of held) n → IsSoundlyHeld record_rules base held → (text : List ℕ)
+        → shown record_rules (now_of held.set) n c.field ≡ Ok text → HasField base c
+    unfolding shown
+    get-has held here sound text is =
+        sym (same-row held here sound) ∙ shown_has (contains_key (now_of held.set).records n) (is_some (row_of (type_at record_rules (now_of held.set) n) c.field)) _ text (held-there held here) is
 
     put-why : (held : HeldView Record D) → Contains (numbers_of held) n → IsSoundlyHeld record_rules base held → (given : Input)
         → no_call record_rules (now_of held.set) (Put n c.field given) ≡ why_not_put (kind_to_put (type_of base c) c.field)
@@ -104,8 +120,8 @@ module _ (base : World Record) (c : Channel) where
     notify-why held here sound number given = ap (λ (t : RecordType). why_not_put (kind_to_put t c.field)) (held-type held here sound)
 
     -- A call that was answered had a field of the record's type.
-    pub told-has : {desk desk_then : DeskView} {at_moment : ℕ} {reply : Reply} → WasTold D record_rules base n desk at_moment (Get n c.field) reply desk_then → HasField base c
-    told-has was = shown_there (row_of (type_of base c) c.field) (sym (get-why was.held was.here was.before) ∙ was.tells.is_call)
+    pub told-has : {desk desk_then : DeskView} {at_moment : ℕ} {text : List ℕ} → WasTold D record_rules base n desk at_moment c.field text desk_then → HasField base c
+    told-has {text = text} was = get-has was.held was.here was.before text was.tells.answer
 
     pub served-can : {gives : D → Ask → ℕ → Answer → D → Type 0} {desk desk_then : DeskView} {at_moment : ℕ} {given : Input} {reply : Reply} {come_to : World Record}
         → WasServed D record_rules base gives n desk at_moment (Put n c.field given) reply desk_then come_to → CanBePut base c
@@ -116,12 +132,12 @@ module _ (base : World Record) (c : Channel) where
     begun-can {gives} {desk} {desk_then} {at_moment} {given} was = can-put (sym (notify-why was.held was.here was.before was.begins.number given) ∙ was.begins.serves.is_call)
 
     -- The error of a get that was refused, and that of a put.
-    pub refused-get : (count : ℕ) (error : IocError) → CallIsRefused D record_rules base count n (Get n c.field) error → IsGetError base c error
+    pub refused-get : (count : ℕ) (error : IocError) → GetIsRefused D record_rules base count n c.field error → IsGetError base c error
     refused-get count error (inl e) = subst (IsGetError base c) (sym e) tt
     refused-get count error (inr (inl (inl e))) = subst (IsGetError base c) (sym e) tt
     refused-get count error (inr (inl (inr e))) = subst (IsGetError base c) (sym e) tt
     refused-get count error (inr (inr (inl e))) = subst (IsGetError base c) (sym e.0) tt
-    refused-get count error (inr (inr (inr vain))) = agrees-get error (sym (get-why vain.held vain.here vain.sound) ∙ vain.none)
+    refused-get count error (inr (inr (inr unread))) = get-refused unread.held unread.here unread.sound error unread.none
 
     pub refused-put : (count : ℕ) (error : IocError) {given : Input} → CallIsRefused D record_rules base count n (Put n c.field given) error → IsPutError base c error
     refused-put count error (inl e) = subst (IsPutError base c) (sym e) tt

@@ -1,4 +1,4 @@
--- No event changes the type of a record.
+-- No call changes the type of a record.
 use Rattle.std.proofs.Common.{◌≡◌, ◌≢◌, ℕ, true, false, eqb, Ok, Option, Some, None as Nothing_, refl, ap, sym, subst, ◌∙◌, arith, cond, length, [], ◌∷◌, ◌++◌, unwrap_or}
 use Rattle.std.specs.Prelude.{nat_lt}
 use Rattle.std.proofs.lemmas.Grind.{common_steps}
@@ -15,7 +15,7 @@ use Rattle.ioc_record.specs.RecordRules.{RecordRules}
 use Rattle.ioc_record.specs.Laws.{IsLawful}
 use Rattle.ioc_record.specs.Values.{put_field, put_untested, put_tested, put_once_tested, converted_for}
 use Rattle.ioc_store.specs.World.{World, at, put, changed, begun, begun_at, called, sent, lost, taken_on, let_go, admitted, queued, unqueued, cancelled}
-use Rattle.ioc_store.specs.declared.call.Call.{Call}
+use Rattle.ioc_store.specs.declared.call.Call.{Call as DeviceCall}
 use Rattle.ioc_store.specs.declared.outbox.OutboxItem.{OutboxItem}
 use Rattle.ioc_store.specs.Given.{Answers, listed}
 use Rattle.ioc_store.specs.Worlds.{at-put_same, at-put_other}
@@ -32,11 +32,12 @@ use Rattle.ioc_process.specs.RulesAlone.{request-is, takes_completion-is}
 use Rattle.ioc_events.specs.declared.event.Event.{Event}
 use Rattle.ioc_events.specs.declared.reply.Reply.{Reply}
 use Rattle.ioc_events.specs.Starting.{taken_and_stored}
-use Rattle.ioc_events.specs.Step.{stepped}
-use Rattle.ioc_events.specs.StepRules.{Does, Step, by_itself, then_others, Starts, to_be_processed, at_once_told, StartsAll, no_more, next_starts, no_such_record, no_such_field, shows_field, processes_record, refuses_value, stores_alone, stores_while_active, stores_and_processes, not_awaited, completes_record, leads_to_no_record, no_link_field, keeps_its_link, takes_link, refuses_notified_value, no_place, waits_its_turn, starts_now, not_live, cancels, tells_if_live}
+use Rattle.ioc_events.specs.declared.event.Call.{Call}
+use Rattle.ioc_events.specs.Calls.{called as call_of}
+use Rattle.ioc_events.specs.StepRules.{Does, Step, by_itself, then_others, Starts, to_be_processed, at_once_told, StartsAll, no_more, next_starts, no_such_record, processes_record, refuses_value, stores_alone, stores_while_active, stores_and_processes, not_awaited, completes_record, refuses_notified_value, no_place, waits_its_turn, starts_now, not_live, cancels, Calls, does_event, shows_field, tells_if_live, keeps_its_link, takes_link}
 use Rattle.ioc_history.specs.declared.entry.Note.{Note}
 use Rattle.ioc_history.specs.Legal.{entry_of, done}
-use Rattle.ioc_engine.specs.Types.{type_at, HaveSameTypes, EventsKeepTypes, ListsKeepTypes, HeldKeepTypes}
+use Rattle.ioc_engine.specs.Types.{type_at, HaveSameTypes, CallsKeepTypes, ListsKeepTypes, HeldKeepTypes}
 
 module _ {R : Type 0} (k : RecordRules R) (lawful : IsLawful k) where
   same-all : (w : World R) → HaveSameTypes k w w
@@ -61,7 +62,7 @@ module _ {R : Type 0} (k : RecordRules R) (lawful : IsLawful k) where
   unfolding changed
   same-changed w s f = same-one w s _ (lawful.type_set (at k w s) _)
 
-  same-called : (call : Call) (w : World R) → HaveSameTypes k w (called call w)
+  same-called : (call : DeviceCall) (w : World R) → HaveSameTypes k w (called call w)
   unfolding at called
   same-called call w = record { types = λ n. refl }
 
@@ -196,8 +197,6 @@ module _ {R : Type 0} (k : RecordRules R) (lawful : IsLawful k) where
 
   same-does : (answers : Answers) {w w' : World R} {event : Event} {reply : Reply} {requests : Requests} → Does k answers w event w' reply requests → HaveSameTypes k w w'
   same-does answers (no_such_record {w} _) = same-all w
-  same-does answers (no_such_field {w} _ _) = same-all w
-  same-does answers (shows_field {w} _ _) = same-all w
   same-does answers (processes_record _ r _) = same-requested answers r
   same-does answers (refuses_value {w} _ _) = same-all w
   same-does answers (stores_alone {w} {w'} {s} {field} {given} {r} _ is stored _) = same-stored w w' s field given r is stored
@@ -207,35 +206,37 @@ module _ {R : Type 0} (k : RecordRules R) (lawful : IsLawful k) where
       same-on (same-on (same-stored w w' s field given r is stored) (same-changed w' s (with_put_mark true))) (same-requested answers q)
   same-does answers (not_awaited {w} _ _) = same-all w
   same-does answers (completes_record _ _ r) = same-resumed answers r
-  same-does answers (leads_to_no_record {w} _ _) = same-all w
-  same-does answers (no_link_field {w} _ _ _) = same-all w
-  same-does answers (keeps_its_link {w} _ _ _ _) = same-all w
-  same-does answers (takes_link {w} {s} {field} {link} _ _ _ _) =
-      let v = put w s (k.with_link (at k w s) field link) in
-      let first = same-one w s (k.with_link (at k w s) field link) (lawful.link_set_type (at k w s) field link) in
-      rewired-either k (HaveSameTypes k w) (device_of k (at k w s)) v s first (same-on first (same-moved v s))
   same-does answers (refuses_notified_value {w} _ _) = same-all w
   same-does answers (no_place {w} _ _ _) = same-all w
   same-does answers (waits_its_turn {w} {s} {number} {field} {given} {v} _ _ _ _) = same-on (same-admitted number w) (same-queued _ (admitted number w))
   same-does answers (starts_now {w} {w'} {s} {number} _ _ _ _ one) = same-on (same-admitted number w) (same-starts answers one)
   same-does answers (not_live {w} _) = same-all w
   same-does answers (cancels {w} {number} _) = same-cancelled number w
-  same-does answers (tells_if_live {w}) = same-all w
 
   same-step : (answers : Answers) {w w' : World R} {event : Event} {reply : Reply} {requests : Requests} → Step k answers w event w' reply requests → HaveSameTypes k w w'
   same-step answers (by_itself does _) = same-does answers does
   same-step answers (then_others does _ others) = same-on (same-does answers does) (same-starts_all answers others)
 
-  -- The rules allow the result of each event.
-  abbrev pub AreAllowed : Type 0
-  AreAllowed = (answers : Answers) (w : World R) (event : Event) → Step k answers w event (stepped k answers w event).world (stepped k answers w event).reply (stepped k answers w event).requests
+  same-call : (answers : Answers) {w w' : World R} {made : Call} {requests : Requests} → Calls k answers w made w' requests → HaveSameTypes k w w'
+  same-call answers (does_event step) = same-step answers step
+  same-call answers (shows_field {w} _) = same-all w
+  same-call answers (tells_if_live {w} _) = same-all w
+  same-call answers (keeps_its_link {w} _) = same-all w
+  same-call answers (takes_link {w} {s} {field} {link} _) =
+      let v = put w s (k.with_link (at k w s) field link) in
+      let first = same-one w s (k.with_link (at k w s) field link) (lawful.link_set_type (at k w s) field link) in
+      rewired-either k (HaveSameTypes k w) (device_of k (at k w s)) v s first (same-on first (same-moved v s))
 
-  pub events-keep : AreAllowed → EventsKeepTypes k
-  events-keep allowed answers w event = same-step answers (allowed answers w event)
+  -- The rules allow the result of each call.
+  abbrev pub AreAllowed : Type 0
+  AreAllowed = (answers : Answers) (w : World R) (made : Call) → Calls k answers w (call_of k answers w made).call (call_of k answers w made).world (call_of k answers w made).requests
+
+  pub calls-keep : AreAllowed → CallsKeepTypes k
+  calls-keep allowed answers w made = same-call answers (allowed answers w made)
 
   same-done : AreAllowed → (m : World R) (n : Note) → HaveSameTypes k m (done k m n).world
   unfolding done
-  same-done allowed m n = same-on (same-begun (entry_of n).moment m) (events-keep allowed (listed (entry_of n).answers) (begun_at (entry_of n).moment m) (entry_of n).event)
+  same-done allowed m n = same-on (same-begun (entry_of n).moment m) (calls-keep allowed (listed (entry_of n).answers) (begun_at (entry_of n).moment m) (entry_of n).call)
 
   pub lists-keep : AreAllowed → ListsKeepTypes k
   lists-keep allowed base [] = same-all base

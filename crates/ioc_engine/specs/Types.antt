@@ -6,8 +6,8 @@ use Rattle.ioc_record.specs.RecordRules.{RecordRules}
 use Rattle.rec_types.specs.Record.{Record, record_rules}
 use Rattle.ioc_store.specs.World.{World, Has, at}
 use Rattle.ioc_store.specs.Given.{Answers}
-use Rattle.ioc_events.specs.declared.event.Event.{Event}
-use Rattle.ioc_events.specs.Step.{stepped}
+use Rattle.ioc_events.specs.declared.event.Call.{Call}
+use Rattle.ioc_events.specs.Calls.{called}
 use Rattle.ioc_history.specs.declared.entry.Note.{Note}
 use Rattle.ioc_history.specs.Legal.{map_of}
 use Rattle.ioc_history.specs.Covering.{Holds}
@@ -21,11 +21,11 @@ module _ {R : Type 0} (k : RecordRules R) where
   pub record HaveSameTypes (w v : World R) : Type 0 where
     pub types : (n : ℕ) → type_at v n ≡ type_at w n
 
-  -- No event changes the type of a record.
-  abbrev pub EventsKeepTypes : Type 0
-  EventsKeepTypes = (answers : Answers) (w : World R) (event : Event) → HaveSameTypes w (stepped k answers w event).world
+  -- No call changes the type of a record.
+  abbrev pub CallsKeepTypes : Type 0
+  CallsKeepTypes = (answers : Answers) (w : World R) (made : Call) → HaveSameTypes w (called k answers w made).world
 
-  -- After any list of events each record has the type that it had at the load.
+  -- After any list of calls each record has the type that it had at the load.
   abbrev pub ListsKeepTypes : Type 0
   ListsKeepTypes = (base : World R) (log : List Note) → HaveSameTypes base (map_of k base log)
 

@@ -2,7 +2,7 @@
 ghost use Rattle.std.specs.Prelude.{◌≡◌, ◌⊎◌, ◌∷◌, ℕ, true, [], length, ok_or, IfOk, IfErr, OnOk, OnErr};
 ghost use Rattle.ioc_values.specs.declared.error.IocError.TheVariants.{BadValue, JournalFull, NoMemory, NoRecord, Stopped};
 ghost use Rattle.rec_types.specs.Record.{record_rules};
-ghost use Rattle.ioc_events.specs.declared.event.Event.TheVariants.{Get, Process, Put, Complete};
+ghost use Rattle.ioc_events.specs.declared.event.Event.TheVariants.{Process, Put, Complete};
 ghost use Rattle.ioc_events.specs.Step.{names};
 ghost use Rattle.ioc_set.specs.Doing.{is_ordinary};
 ghost use Rattle.ioc_set_store.specs.SetStore.{world_of};
@@ -11,7 +11,7 @@ ghost use Rattle.ioc_history.specs.Account.{IsAccount, calls, calls_by};
 ghost use Rattle.ioc_history.specs.Places.{AreAllowed};
 ghost use Rattle.ioc_names.specs.NameTable.{number_of};
 ghost use Rattle.ioc_journaled_set.specs.Puts.{HaveEnded};
-ghost use Rattle.ioc_engine_core.specs.Served.{WasServed, WasTold, CallIsRefused};
+ghost use Rattle.ioc_engine_core.specs.Served.{WasServed, WasTold, CallIsRefused, GetIsRefused};
 ghost use Rattle.ioc_engine.specs.Channels.{channel_of};
 ghost use Rattle.ioc_engine.specs.Named.{IsNamedBy};
 ghost use Rattle.ioc_engine.specs.Refusals.{HasField, CanBePut, IsGetError, IsPutError, IsOfEngine};
@@ -29,6 +29,7 @@ use ioc_engine_core::{EngineCore, StartError, start};
 use ioc_events::{Event, Reply};
 use ioc_history::Limits;
 use ioc_names::RecordNo;
+use ioc_record::FieldText;
 use ioc_set_store::EventBuffers;
 use ioc_values::{Finished, Input, IocError};
 use rec_types::Record;
@@ -249,7 +250,7 @@ impl<B: EngineName<D>, D: Device, C: Clock + Drop> Engine<B, D, C> {
         ensures refused { IfErr result (CallIsRefused D record_rules B.base self.now.core number (Process number)) }
         ensures err { OnErr result (desk.new.account ≡ desk.old.account) }
     {
-        let event = Event::Process(number);
+        let event = Event::Process { record: number };
         self.serve(rt, desk, number, &event, moment)
     }
 
@@ -285,7 +286,11 @@ impl<B: EngineName<D>, D: Device, C: Clock + Drop> Engine<B, D, C> {
     {
         types_stay::<Record>();
         let number = channel.record();
-        let event = Event::Put(number, channel.field, given);
+        let event = Event::Put {
+            record: number,
+            field: channel.field,
+            value: given,
+        };
         self.serve(rt, desk, number, &event, self.clock.now())
     }
 
@@ -313,11 +318,15 @@ impl<B: EngineName<D>, D: Device, C: Clock + Drop> Engine<B, D, C> {
         ensures refused { IfErr result (CallIsRefused D record_rules B.base self.now.core number (Complete number wait finished)) }
         ensures err { OnErr result (desk.new.account ≡ desk.old.account) }
     {
-        let event = Event::Complete(number, wait, finished);
+        let event = Event::Complete {
+            record: number,
+            wait,
+            finished,
+        };
         self.serve(rt, desk, number, &event, self.clock.now())
     }
 
-    /// Returns the text of a field (dbGetField), as [`Reply::Shown`].
+    /// Returns the text of a field (dbGetField).
     ///
     /// # Errors
     ///
@@ -327,13 +336,12 @@ impl<B: EngineName<D>, D: Device, C: Clock + Drop> Engine<B, D, C> {
         rt: &R,
         desk: &mut Desk<B, D>,
         channel: Channel,
-    ) -> Result<(Reply, Receipt<B>), IocError>
+    ) -> Result<(FieldText, Receipt<B>), IocError>
         ensures answered { IfOk result (λ x. (moment : ℕ) × C.gives self.now.clock moment × WasTold D record_rules B.base
-            channel.number desk.old.account moment (Get channel.number channel.field) x.0 desk.new.account) }
+            channel.number desk.old.account moment channel.field x.0 desk.new.account) }
         ensures receipt { IfOk result (λ x. x.1 ≡ desk.new.account.seen) }
         ensures ended { desk.new.buffers.ended_everywhere.items ≡ [] }
-        ensures refused { IfErr result (CallIsRefused D record_rules B.base self.now.core channel.number
-            (Get channel.number channel.field)) }
+        ensures refused { IfErr result (GetIsRefused D record_rules B.base self.now.core channel.number channel.field) }
         ensures refused_by_type { IfErr result (IsGetError B.base channel) }
         ensures has_field { OnOk result (HasField B.base channel) }
         ensures err { OnErr result (desk.new.account ≡ desk.old.account) }

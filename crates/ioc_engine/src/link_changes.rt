@@ -19,7 +19,6 @@ use crate::lookup::Lookup;
 use crate::type_laws::types_stay;
 use ioc_dbcommon::{LinkBox, LinkField};
 use ioc_device::Device;
-use ioc_events::Reply;
 use ioc_fields::{FieldKind, kind_of};
 use ioc_journaled_set::Changed;
 use ioc_links::{Link, LinkKind, parse};
@@ -74,15 +73,15 @@ impl<B: EngineName<D>, D: Device, C: Clock + Drop> Engine<B, D, C> {
     /// engine, which has no such record. [`IocError::Stopped`] if the engine was closed.
     /// [`IocError::JournalFull`] if the journal has no place left. [`IocError::NoMemory`] if
     /// allocation fails. Nothing is added to the journal then, and no link has changed; the history
-    /// of a lock set may be forgotten. If DISP forbids the change, the refusal is a reply, which is
-    /// added to the journal.
+    /// of a lock set may be forgotten. If DISP forbids the change, the refusal,
+    /// [`IocError::PutDisabled`], is the reply, which is added to the journal.
     pub fn set_link<R: Wait>(
         &self,
         rt: &R,
         desk: &mut Desk<B, D>,
         channel: Channel,
         text: &[u8],
-    ) -> Result<(Reply, Receipt<B>), IocError>
+    ) -> Result<(Result<(), IocError>, Receipt<B>), IocError>
         ensures changed { IfOk result (λ x. (link : Link) × IsTextOf self.now.lookup.types.items channel text.now link
             × (moment : ℕ) × C.gives self.now.clock moment × WasLinked D record_rules B.base channel.number channel.field
             (field_of_link self.now.lookup.names self.now.lookup.types.items (owner_in self.now.lookup.owners) channel.number link)

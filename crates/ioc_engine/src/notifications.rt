@@ -67,7 +67,7 @@ impl<B: EngineName<D>, D: Device, C: Clock + Drop> Engine<B, D, C> {
     }
 
     /// Replies whether the put with notification with this number is live, which it is from its
-    /// call until the last of its records is done or it is canceled: [`Reply::Live`].
+    /// call until the last of its records is done or it is canceled.
     ///
     /// # Errors
     ///
@@ -78,9 +78,9 @@ impl<B: EngineName<D>, D: Device, C: Clock + Drop> Engine<B, D, C> {
         rt: &R,
         desk: &mut Desk<B, D>,
         number: NotifyId,
-    ) -> Result<(Reply, Receipt<B>), IocError>
+    ) -> Result<(bool, Receipt<B>), IocError>
         ensures asked { IfOk result (λ x. (moment : ℕ) × C.gives self.now.clock moment × (puts puts_then : PutsView)
-            × WasAsked record_rules B.base puts desk.old.account moment number x.0 puts_then desk.new.account) }
+            × WasAsked record_rules B.base puts desk.old.account moment number puts_then desk.new.account x.0) }
         ensures receipt { IfOk result (λ x. x.1 ≡ desk.new.account.seen) }
         ensures ended { OnOk result (desk.new.buffers.ended_everywhere.items ≡ []) }
         ensures refused { IfErr result (λ error. (error ≡ Stopped) ⊎ IsNoPlace error) }

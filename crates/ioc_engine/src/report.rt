@@ -15,7 +15,7 @@ use crate::engine::Engine;
 use crate::engine_name::EngineName;
 use ioc_device::Device;
 use ioc_engine_core::{CoreReport, JournaledSet};
-use ioc_history::{JournalBase, StoredEntry, TicketTally};
+use ioc_history::{JournalBase, JournalEntry, TicketTally};
 use ioc_ledger::Tally;
 use ioc_names::RecordNo;
 use ioc_set_records::Slot;
@@ -157,7 +157,7 @@ impl<B: EngineName<D>, D: Device> Report<B, D> {
     /// Returns the entry of a call in the journal: the desk, the number of the call at its desk,
     /// the event, its time stamp, the answers of devices, and the reply. Returns `None` exactly for
     /// a place before [`Report::first_place`].
-    pub fn entry<R: Wait>(&mut self, rt: &R, receipt: &mut Receipt<B>) -> Option<&StoredEntry>
+    pub fn entry<R: Wait>(&mut self, rt: &R, receipt: &mut Receipt<B>) -> Option<&JournalEntry>
         ensures entry { IfSome result (λ e. IsEntryOf receipt.old self.old.core.journal.filled e.now) }
         ensures kept { IfSome result (λ _. self.old.core.journal.dropped < length receipt.old) }
         ensures dropped { IfNone result (length receipt.old ≤ self.old.core.journal.dropped) }

@@ -1,6 +1,6 @@
 -- Link changes of the engine. Application Developer's Guide, "Database Locking, Scanning, and
 -- Processing": a changed link parts lock sets or joins them. The journal is this project's own.
-use Rattle.std.specs.Prelude.{ℕ, ◌≡◌, ◌⊎◌, Option, Contains}
+use Rattle.std.specs.Prelude.{ℕ, ◌≡◌, ◌⊎◌, Option, Result, Contains}
 use Rattle.ioc_values.specs.declared.error.IocError.{IocError}
 use Rattle.ioc_values.specs.declared.error.IocError.TheVariants.{NoField, Stopped}
 use Rattle.ioc_fields.specs.declared.field_no.FieldNo.{FieldNo}
@@ -9,7 +9,6 @@ use Rattle.ioc_dbcommon.specs.Links.{use_of, record_named}
 use Rattle.ioc_record.specs.RecordRules.{RecordRules}
 use Rattle.ioc_set_records.specs.Joined.{HasLink}
 use Rattle.ioc_store.specs.World.{World}
-use Rattle.ioc_events.specs.declared.reply.Reply.{Reply}
 use Rattle.ioc_history.specs.Account.{DeskView}
 use Rattle.ioc_history.specs.Places.{IsNoPlace}
 use Rattle.ioc_topology.specs.Change.{AreLent, AreSound, LinkIsRefused}
@@ -23,7 +22,7 @@ other_of link = record_named (use_of link)
 module _ {R : Type 0} (D : Type 0) (k : RecordRules R) (base : World R) where
   -- A link change of a desk was done or refused on the sets of the record and of the record that
   -- the link leads to, which were sound before and are sound afterwards.
-  pub record WasLinked (number : ℕ) (field : FieldNo) (link : LinkField) (desk : DeskView) (at_moment : ℕ) (reply : Reply) (moved : ℕ) (desk_then : DeskView) (come_to : World R) : Type 0 where
+  pub record WasLinked (number : ℕ) (field : FieldNo) (link : LinkField) (desk : DeskView) (at_moment : ℕ) (reply : Result (Unit {0}) IocError) (moved : ℕ) (desk_then : DeskView) (come_to : World R) : Type 0 where
     pub first : HeldView R D
     pub second : HeldView R D
     pub spare : HeldView R D

@@ -1,6 +1,6 @@
 -- Calls of the engine. Application Developer's Guide, "Database Locking, Scanning, and Processing".
 -- The journal is this project's own.
-use Rattle.std.specs.Prelude.{ℕ, ◌≡◌, ◌⊎◌, Some, Contains}
+use Rattle.std.specs.Prelude.{ℕ, ◌≡◌, ◌⊎◌, List, Some, Err, Contains}
 use Rattle.ioc_values.specs.declared.error.IocError.{IocError}
 use Rattle.ioc_values.specs.declared.input.Input.{Input}
 use Rattle.ioc_values.specs.declared.error.IocError.TheVariants.{Stopped}
@@ -11,6 +11,7 @@ use Rattle.ioc_record.specs.RecordRules.{RecordRules}
 use Rattle.ioc_store.specs.World.{World}
 use Rattle.ioc_events.specs.declared.event.Event.{Event}
 use Rattle.ioc_events.specs.declared.reply.Reply.{Reply}
+use Rattle.ioc_events.specs.Step.{shown}
 use Rattle.ioc_history.specs.Account.{DeskView}
 use Rattle.ioc_history.specs.Places.{IsNoPlace}
 use Rattle.ioc_set.specs.SetState.{now_of}
@@ -32,14 +33,27 @@ module _ {R : Type 0} (D : Type 0) (k : RecordRules R) (base : World R) where
   abbrev pub CallIsRefused : ℕ → ℕ → Event → IocError → Type 0
   CallIsRefused count number event error = (error ≡ Stopped) ⊎ (IsNoPlace error ⊎ (IsRefused count number error ⊎ IsInVain number event error))
 
-  -- A question of a desk was answered by the set of the record, which was sound before and is sound
-  -- afterwards.
-  pub record WasTold (number : ℕ) (desk : DeskView) (at_moment : ℕ) (asked : Event) (reply : Reply) (desk_then : DeskView) : Type 0 where
+  -- A sound set has the record, and the record has no such field.
+  pub record IsUnreadable (number : ℕ) (field : FieldNo) (error : IocError) : Type 0 where
+    pub held : HeldView R D
+    pub here : Contains (numbers_of held) number
+    pub sound : IsSoundlyHeld k base held
+    pub none : shown k (now_of held.set) number field ≡ Err error
+
+  -- The errors of a get that isn't added to the journal: the engine was closed, the journal has no
+  -- place left, allocation fails, there is no record with this number, or the record has no such
+  -- field.
+  abbrev pub GetIsRefused : ℕ → ℕ → FieldNo → IocError → Type 0
+  GetIsRefused count number field error = (error ≡ Stopped) ⊎ (IsNoPlace error ⊎ (IsRefused count number error ⊎ IsUnreadable number field error))
+
+  -- The text of a field was told to a desk by the set of the record, which was sound before and is
+  -- sound afterwards.
+  pub record WasTold (number : ℕ) (desk : DeskView) (at_moment : ℕ) (field : FieldNo) (text : List ℕ) (desk_then : DeskView) : Type 0 where
     pub held : HeldView R D
     pub held_then : HeldView R D
     pub here : Contains (numbers_of held) number
     pub before : IsSoundlyHeld k base held
-    pub tells : Tells k base held desk at_moment asked reply held_then desk_then
+    pub tells : Tells k base held desk at_moment number field text held_then desk_then
     pub after : IsSoundlyHeld k base held_then
 
   -- An event of a desk was done on the set of the record, which was sound before and is sound

@@ -1,7 +1,8 @@
 //! Cancels of puts with notification.
 ghost use Rattle.std.specs.Prelude.{◌≡◌, ◌⊎◌, [], All, IfOk, IfErr, IfNone, OnOk, OnErr};
 ghost use Rattle.std.specs.Option.{IfSome};
-ghost use Rattle.ioc_values.specs.declared.error.IocError.TheVariants.{Stopped};
+ghost use Rattle.ioc_values.specs.declared.error.IocError.TheVariants.{Stale, Stopped};
+ghost use Rattle.ioc_events.specs.declared.reply.Reply.TheVariants.{Plain, Refused};
 ghost use Rattle.ioc_history.specs.Places.{IsNoPlace};
 ghost use Rattle.ioc_journaled_set.specs.Holding.{IsSoundlyHeld};
 ghost use Rattle.ioc_engine_core.specs.Cancelled.{WasCancelled, WasGivenUp, WasNotLive};
@@ -31,8 +32,8 @@ pub(crate) fn all_sound<K: RecordKind + Drop, B: SetsName<K, D>, D: Device>(
 }
 
 impl<K: RecordKind + Drop, B: SetsName<K, D>, D: Device> EngineCore<K, B, D> {
-    // Refuses to cancel a put with notification that isn't live. Returns `None` if it is live;
-    // nothing is done then.
+    // Refuses to cancel a put with notification that isn't live, with the reply `Stale`. Returns
+    // `None` if it is live; nothing is done then.
     fn refuse_stale<R: Wait>(
         &self,
         rt: &R,
@@ -40,9 +41,9 @@ impl<K: RecordKind + Drop, B: SetsName<K, D>, D: Device> EngineCore<K, B, D> {
         desk: &mut DeskAccount<K, B>,
         number: NotifyId,
         moment: u64,
-    ) -> Result<Option<(Reply, Receipt<K, B>)>, IocError>
-        ensures stale { IfOk result (λ told. IfSome told (λ x. WasNotLive D K.rules B.base number desk.old moment x.0 desk.new)) }
-        ensures receipt { IfOk result (λ told. IfSome told (λ x. x.1 ≡ desk.new.seen)) }
+    ) -> Result<Option<Receipt<K, B>>, IocError>
+        ensures stale { IfOk result (λ told. IfSome told (λ _. WasNotLive D K.rules B.base number desk.old moment (Refused Stale) desk.new)) }
+        ensures receipt { IfOk result (λ told. IfSome told (λ receipt. receipt ≡ desk.new.seen)) }
         ensures live { IfOk result (λ told. IfNone told (desk.new ≡ desk.old)) }
         ensures refused { IfErr result IsNoPlace }
         ensures err { OnErr result (desk.new ≡ desk.old) }
@@ -51,8 +52,8 @@ impl<K: RecordKind + Drop, B: SetsName<K, D>, D: Device> EngineCore<K, B, D> {
         if puts.is_live(number) {
             return Ok(None);
         }
-        let told = puts.refuse_cancel(&self.access(rt, alloc), desk, number, moment)?;
-        Ok(Some(told))
+        let receipt = puts.refuse_cancel(&self.access(rt, alloc), desk, number, moment)?;
+        Ok(Some(receipt))
     }
 
     // Cancels a put with notification in all sets on which it is live. Returns `None` if some of
@@ -65,9 +66,9 @@ impl<K: RecordKind + Drop, B: SetsName<K, D>, D: Device> EngineCore<K, B, D> {
         buffers: &mut EventBuffers<K, D>,
         number: NotifyId,
         moment: u64,
-    ) -> Result<Option<(Reply, Receipt<K, B>)>, IocError>
-        ensures gave_up { IfOk result (λ told. IfSome told (λ x. WasGivenUp D K.rules B.base number desk.old moment x.0 desk.new)) }
-        ensures receipt { IfOk result (λ told. IfSome told (λ x. x.1 ≡ desk.new.seen)) }
+    ) -> Result<Option<Receipt<K, B>>, IocError>
+        ensures gave_up { IfOk result (λ told. IfSome told (λ _. WasGivenUp D K.rules B.base number desk.old moment Plain desk.new)) }
+        ensures receipt { IfOk result (λ told. IfSome told (λ receipt. receipt ≡ desk.new.seen)) }
         ensures ended { IfOk result (λ told. IfSome told (λ _. buffers.new.ended_everywhere.items ≡ [])) }
         ensures missing { IfOk result (λ told. IfNone told (desk.new ≡ desk.old)) }
         ensures refused { IfErr result IsNoPlace }
@@ -120,11 +121,11 @@ impl<K: RecordKind + Drop, B: SetsName<K, D>, D: Device> EngineCore<K, B, D> {
         let _guard = self.sets.guard_topology(rt);
         for _ in rt.forever() {
             buffers.ended_everywhere.clear();
-            if let Some(told) = self.refuse_stale(rt, alloc, desk, number, moment)? {
-                return Ok(told);
+            if let Some(receipt) = self.refuse_stale(rt, alloc, desk, number, moment)? {
+                return Ok((Reply::Refused(IocError::Stale), receipt));
             }
-            if let Some(told) = self.give_up(rt, alloc, desk, buffers, number, moment)? {
-                return Ok(told);
+            if let Some(receipt) = self.give_up(rt, alloc, desk, buffers, number, moment)? {
+                return Ok((Reply::Plain, receipt));
             }
         }
         unreachable!()

@@ -4,7 +4,7 @@ ghost use Rattle.ioc_history.specs.Account.{IsEntryOf};
 ghost use Rattle.ioc_history.specs.Base.{IsBaseOf};
 ghost use Rattle.ioc_history.specs.Legal.{IsLegal, map_of};
 
-use ioc_history::{Cell, Journal, JournalBase, JournalName, Receipt, StoredEntry};
+use ioc_history::{Cell, Journal, JournalBase, JournalEntry, JournalName, Receipt};
 use ioc_record::RecordKind;
 use std::marker::Model;
 use std::sync::Wait;
@@ -43,7 +43,7 @@ impl<K: RecordKind, B: JournalName<K>> EndedJournal<K, B> {
 
     /// Returns the call of a receipt: it is at the receipt's place, and the receipt's list ends with
     /// it. Returns `None` exactly if its entry was dropped at a checkpoint.
-    pub fn entry<R: Wait>(&mut self, rt: &R, receipt: &mut Receipt<K, B>) -> Option<&StoredEntry>
+    pub fn entry<R: Wait>(&mut self, rt: &R, receipt: &mut Receipt<K, B>) -> Option<&JournalEntry>
         ensures entry { IfSome result (λ e. IsEntryOf receipt.old self.old.filled e.now) }
         ensures kept { IfSome result (λ _. self.old.dropped < length receipt.old) }
         ensures dropped { IfNone result (length receipt.old ≤ self.old.dropped) }

@@ -1,7 +1,6 @@
 //! Calls on records by their numbers.
 ghost use Rattle.std.specs.Prelude.{◌≡◌, ◌<◌, ℕ, true, [], ◌∷◌, ◌⊎◌, IfOk, IfErr, OnOk, OnErr};
 ghost use Rattle.ioc_values.specs.declared.error.IocError.TheVariants.{JournalFull, Stopped};
-ghost use Rattle.ioc_events.specs.declared.event.Event.TheVariants.{Get};
 ghost use Rattle.ioc_events.specs.Step.{names};
 ghost use Rattle.ioc_history.specs.Line.{longer, Begins};
 ghost use Rattle.ioc_set.specs.Doing.{is_ordinary};
@@ -11,7 +10,7 @@ ghost use Rattle.ioc_history.specs.Account.{IsAccount, calls, calls_by};
 ghost use Rattle.ioc_journaled_set.specs.Puts.{HaveEnded};
 ghost use Rattle.std.specs.FinMap.{len};
 ghost use Rattle.ioc_engine_core.specs.Loading.{IsSpare};
-ghost use Rattle.ioc_engine_core.specs.Served.{WasTold, WasServed, CallIsRefused};
+ghost use Rattle.ioc_engine_core.specs.Served.{WasTold, WasServed, CallIsRefused, GetIsRefused};
 
 use crate::spare_parts::SpareParts;
 use ioc_callback::OnceQueue;
@@ -22,7 +21,7 @@ use ioc_history::{DeskAccount, EngineCounts, Receipt, RequestTickets, SharedJour
 use ioc_journaled_set::{JournalAccess, JournaledSet, Served, SetsName, SharedNotifications};
 use ioc_ledger::TallyShare;
 use ioc_names::RecordNo;
-use ioc_record::RecordKind;
+use ioc_record::{FieldText, RecordKind};
 use ioc_set_store::EventBuffers;
 use ioc_topology::{Directory, Locked};
 use ioc_values::IocError;
@@ -224,10 +223,10 @@ impl<K: RecordKind + Drop, B: SetsName<K, D>, D: Device> EngineCore<K, B, D> {
         number: RecordNo,
         field: FieldNo,
         moment: u64,
-    ) -> Result<(Reply, Receipt<K, B>), IocError>
-        ensures told { IfOk result (λ x. WasTold D K.rules B.base number desk.old moment (Get number field) x.0 desk.new) }
+    ) -> Result<(FieldText, Receipt<K, B>), IocError>
+        ensures told { IfOk result (λ x. WasTold D K.rules B.base number desk.old moment field x.0 desk.new) }
         ensures receipt { IfOk result (λ x. x.1 ≡ desk.new.seen) }
-        ensures refused { IfErr result (CallIsRefused D K.rules B.base self.now number (Get number field)) }
+        ensures refused { IfErr result (GetIsRefused D K.rules B.base self.now number field) }
         ensures err { OnErr result (desk.new ≡ desk.old) }
     {
         if !self.may_begin(rt, alloc) {

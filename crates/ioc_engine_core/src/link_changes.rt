@@ -78,7 +78,10 @@ impl<K: RecordKind + Drop, B: SetsName<K, D>, D: Device> EngineCore<K, B, D> {
         let _guard = self.sets.guard_topology(rt);
         let new = self.sets.new_cells(rt, alloc)?;
         let changed = self.relink(rt, alloc, desk, buffers, &new, change)?;
-        self.count_dropped(buffers);
+        // After a refused change the buffers still have what the desk's event before it sent.
+        if changed.reply.is_ok() {
+            self.count_dropped(buffers);
+        }
         Ok(changed)
     }
 

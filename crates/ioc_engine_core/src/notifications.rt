@@ -83,9 +83,9 @@ impl<K: RecordKind + Drop, B: SetsName<K, D>, D: Device> EngineCore<K, B, D> {
         desk: &mut DeskAccount<K, B>,
         number: NotifyId,
         moment: u64,
-    ) -> Result<(Reply, Receipt<K, B>), IocError>
+    ) -> Result<(bool, Receipt<K, B>), IocError>
         ensures asked { IfOk result (λ x. (puts puts_then : PutsView)
-            × WasAsked K.rules B.base puts desk.old moment number x.0 puts_then desk.new) }
+            × WasAsked K.rules B.base puts desk.old moment number puts_then desk.new x.0) }
         ensures receipt { IfOk result (λ x. x.1 ≡ desk.new.seen) }
         ensures refused { IfErr result (λ error. (error ≡ Stopped) ⊎ IsNoPlace error) }
         ensures err { OnErr result (desk.new ≡ desk.old) }

@@ -8,9 +8,12 @@ use Rattle.ioc_record.specs.RecordRules.{RecordRules}
 use Rattle.ioc_record.specs.Laws.{IsLawful}
 use Rattle.ioc_store.specs.World.{World, has_place}
 use Rattle.ioc_events.specs.declared.event.Event.{Event}
-use Rattle.ioc_events.specs.declared.event.Event.TheVariants.{Get, Process, Put, Complete, Link, Notify, Cancel, IsLive}
-use Rattle.ioc_events.specs.Holding.{how_many, IsCounted, in_a_waiting_list}
-use Rattle.ioc_events.specs.Local.{number_of, KeepsApart, IsWithin}
+use Rattle.ioc_events.specs.declared.event.Event.TheVariants.{Process, Put, Complete, Notify, Cancel}
+use Rattle.ioc_events.specs.declared.event.Call.{Call}
+use Rattle.ioc_events.specs.declared.event.Call.TheVariants as call
+use Rattle.ioc_events.specs.Calls.{named}
+use Rattle.ioc_events.specs.Holding.{how_many, IsCounted, in_a_waiting_list, Cancels}
+use Rattle.ioc_events.specs.Local.{number_of, KeepsApart, IsWithin, IsCallWithin}
 use Rattle.ioc_events.specs.Starting.{NoneReady}
 use Rattle.ioc_events.specs.Step.{names}
 use Rattle.ioc_events.proofs.Besides.{not_both}
@@ -66,18 +69,15 @@ module _ {R : Type 0} (k : RecordRules R) (lawful : IsLawful k) where
       not_both live (ap (λ (n : ℕ). is_live n w.live) (sym same) ∙ free)
 
   other-number : (w : World R) → IsCounted k w → (event : Event) → ((number : ℕ) → event ≢ Cancel number) → (x : Waiting) → Contains w.waiting x → number_of w event ≢ Some x.number
-  other-number w counted (Get s field) not_cancel x waits = none_some
   other-number w counted (Process s) not_cancel x waits = none_some
   other-number w counted (Put s field given) not_cancel x waits = none_some
   other-number w counted (Complete s number finished) not_cancel x waits = none_some
-  other-number w counted (Link s field link) not_cancel x waits = none_some
   other-number w counted (Notify s number field given) not_cancel x waits =
       elim (has_place w number) as (λ b. has_place w number ≡ b → cond {A = Option ℕ} b (Some number) Nothing_ ≢ Some x.number) [
         | true ↦ λ place is. no-place w counted x waits number place (one_number is)
         | false ↦ λ _. none_some
       ] refl
   other-number w counted (Cancel number) not_cancel x waits = absurd (not_cancel number refl)
-  other-number w counted (IsLive number) not_cancel x waits = none_some
 
   pub counted-within : (mine : ℕ → Bool) (w : World R) (event : Event) → IsCounted k w → ((n : ℕ) → Contains (names event) n → mine n ≡ true) → ((number : ℕ) → event ≢ Cancel number) → IsWithin k mine w event
   counted-within mine w event counted within not_cancel = record {
@@ -85,3 +85,10 @@ module _ {R : Type 0} (k : RecordRules R) (lawful : IsLawful k) where
     waiting = λ x waits out. other-number w counted event not_cancel x waits;
     holders = λ number n is. absurd (not_cancel number is);
   }
+
+  -- A call other than a cancel is done within the records that it names.
+  pub calls-within : (mine : ℕ → Bool) (w : World R) (c : Call) → IsCounted k w → ((n : ℕ) → Contains (named c) n → mine n ≡ true) → ((number : ℕ) → Cancels c number → ⊥) → IsCallWithin k mine w c
+  calls-within mine w (call.Event event reply) counted within not_cancel = counted-within mine w event counted within not_cancel
+  calls-within mine w (call.Get s field text) counted within not_cancel = within
+  calls-within mine w (call.IsLive number live) counted within not_cancel = within
+  calls-within mine w (call.Link s field link reply) counted within not_cancel = within

@@ -10,7 +10,7 @@ use Rattle.ioc_events.specs.declared.event.Event.{Event}
 use Rattle.ioc_events.specs.declared.event.Event.TheVariants.{Notify}
 use Rattle.ioc_events.specs.declared.reply.Reply.{Reply}
 use Rattle.ioc_events.specs.declared.reply.Reply.TheVariants.{Notify as Notify-reply}
-use Rattle.ioc_events.specs.StepRules.{Does, Step, by_itself, then_others, no_such_record, no_such_field, shows_field, processes_record, refuses_value, stores_alone, stores_while_active, stores_and_processes, not_awaited, completes_record, leads_to_no_record, no_link_field, keeps_its_link, takes_link, refuses_notified_value, no_place, waits_its_turn, starts_now, not_live, cancels, tells_if_live}
+use Rattle.ioc_events.specs.StepRules.{Does, Step, by_itself, then_others, no_such_record, processes_record, refuses_value, stores_alone, stores_while_active, stores_and_processes, not_awaited, completes_record, refuses_notified_value, no_place, waits_its_turn, starts_now, not_live, cancels}
 
 -- Holds if the event begins a put with notification under this number, for which there is a place.
 pub record Begins {R : Type 0} (w : World R) (event : Event) (n : ℕ) : Type 0 where
@@ -35,8 +35,6 @@ module _ {R : Type 0} (k : RecordRules R) (answers : Answers) (n : ℕ) where
 
   does-begin : {w w' : World R} {event : Event} {reply : Reply} {requests : Requests} → Does k answers w event w' reply requests → reply ≡ Notify-reply n → Begins w event n
   does-begin (no_such_record _) e = cc
-  does-begin (no_such_field _ _) e = cc
-  does-begin (shows_field _ _) e = cc
   does-begin (processes_record _ _ _) e = cc
   does-begin (refuses_value _ _) e = cc
   does-begin (stores_alone _ _ _ _) e = cc
@@ -44,17 +42,12 @@ module _ {R : Type 0} (k : RecordRules R) (answers : Answers) (n : ℕ) where
   does-begin (stores_and_processes _ _ _ _ _ _ _) e = cc
   does-begin (not_awaited _ _) e = cc
   does-begin (completes_record _ _ _) e = cc
-  does-begin (leads_to_no_record _ _) e = cc
-  does-begin (no_link_field _ _ _) e = cc
-  does-begin (keeps_its_link _ _ _ _) e = cc
-  does-begin (takes_link _ _ _ _) e = cc
   does-begin (refuses_notified_value _ _) e = cc
   does-begin (no_place _ _ _) e = cc
   does-begin (waits_its_turn {w} {s} {number} {field} {given} _ _ place _) e = by-number w s number field given place e
   does-begin (starts_now {w} {s} {number} {field} {given} _ _ place _ _) e = by-number w s number field given place e
   does-begin (not_live _) e = cc
   does-begin (cancels _) e = cc
-  does-begin tells_if_live e = cc
 
   -- An event whose reply is the number of a put with notification begins that one.
   pub step-begins : {w w' : World R} {event : Event} {reply : Reply} {requests : Requests} → Step k answers w event w' reply requests → reply ≡ Notify-reply n → Begins w event n

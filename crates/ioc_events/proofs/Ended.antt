@@ -1,5 +1,5 @@
 -- A put with notification ends if and only if nothing is part of it any more.
-use Rattle.std.proofs.Common.{◌<◌, ◌^◌, ◌≡◌, ◌≢◌, ℕ, zero, suc, ◌+◌, ◌≤◌, true, false, cond, eqb, nat_lt, List, [], ◌∷◌, Option, Some, None as Nothing_, T, is_some, IsTrue, unwrap_or, refl, sym, ap, subst, ◌∙◌, ◌⊎◌, inl, inr, arith}
+use Rattle.std.proofs.Common.{◌<◌, ◌^◌, ◌≡◌, ◌≢◌, ℕ, zero, suc, ◌+◌, ◌≤◌, true, false, cond, eqb, nat_lt, List, [], ◌∷◌, Option, Some, None as Nothing_, Ok, Err, T, is_some, IsTrue, unwrap_or, refl, sym, ap, subst, ◌∙◌, ◌⊎◌, inl, inr, ⊎_elim, arith}
 use Rattle.std.specs.Prelude.{◌↔◌, Contains}
 use Rattle.std.specs.Ordering.{nat_cmp}
 use Rattle.std.specs.Cmp.{unsigned_tied}
@@ -19,13 +19,19 @@ use Rattle.ioc_events.specs.declared.event.Event.TheVariants.{Cancel}
 use Rattle.ioc_events.specs.declared.event.Entry.{Entry}
 use Rattle.ioc_events.specs.declared.reply.Reply.{Reply}
 use Rattle.ioc_events.specs.declared.reply.Reply.TheVariants.{Plain, Notify as Notify-reply}
-use Rattle.ioc_events.specs.StepRules.{Step, Replay, at_the_end, and_then}
-use Rattle.ioc_events.specs.Holding.{how_many, one_if_has, holders, IsCounted, IsHeld, by_a_record, in_a_waiting_list, EndsExactly, IsOver, NoneBegins}
+use Rattle.ioc_events.specs.StepRules.{Step, Calls, does_event, shows_field, tells_if_live, keeps_its_link, takes_link, Replay, at_the_end, and_then}
+use Rattle.ioc_events.specs.declared.event.Call.{Call}
+use Rattle.ioc_events.specs.declared.event.Call.TheVariants as call
+use Rattle.ioc_fields.specs.declared.field_no.FieldNo.{FieldNo}
+use Rattle.ioc_dbcommon.specs.declared.link_field.LinkField.{LinkField}
+use Rattle.ioc_events.specs.Step.{link_refusal, relinked}
+use Rattle.ioc_events.proofs.LinkChanges.{link-parts}
+use Rattle.ioc_events.specs.Holding.{how_many, one_if_has, holders, IsCounted, IsHeld, by_a_record, in_a_waiting_list, Begins, Cancels, EndsExactly, IsOver, NoneBegins}
 use Rattle.ioc_events.proofs.Counting.{few-one, live-lives, lives, one_if, some_more}
 use Rattle.ioc_events.proofs.Holders.{ends, stands, holds-some}
-use Rattle.ioc_events.proofs.HeldStarts.{waiters, waiters-some, Sound}
+use Rattle.ioc_events.proofs.HeldStarts.{waiters, waiters-some, Sound, Leads}
 use Rattle.ioc_events.proofs.Sums.{find-none}
-use Rattle.ioc_events.proofs.HeldSteps.{begins, ceases, step-leads, step-cancelled}
+use Rattle.ioc_events.proofs.HeldSteps.{begins, ceases, live-few, step-leads, step-cancelled, link-leads}
 
 -- An item that is counted is in the list.
 
@@ -146,9 +152,20 @@ module _ {R : Type 0} (k : RecordRules R) (lawful : IsLawful k) where
   unfolding begun begun_at
   begun-ended moment w = (refl, refl)
 
+  -- A link change that is done.
+  link-led : (w : World R) (s : ℕ) (field : FieldNo) (link : LinkField) → link_refusal k w s field link ≡ Nothing_ → IsCounted k w → Leads k lawful w (relinked k w s field link)
+  link-led w s field link kept is = let parts = link-parts k w s field link kept in link-leads k lawful w s field link parts.0 parts.1 (sound-of is)
+
+  pub calls-counted : (answers : Answers) {w w' : World R} {c : Call} {requests : Requests} → Calls k answers w c w' requests → IsCounted k w → IsCounted k w'
+  calls-counted answers (does_event step) is = step-counted answers step is
+  calls-counted answers (shows_field _) is = is
+  calls-counted answers (tells_if_live _) is = is
+  calls-counted answers (keeps_its_link _) is = is
+  calls-counted answers (takes_link {w} {s} {field} {link} kept) is = of-sound (link-led w s field link kept is).sound
+
   pub replay-counted : {w w' : World R} {entries : List Entry} → Replay k w entries w' → IsCounted k w → IsCounted k w'
   replay-counted at_the_end is = is
-  replay-counted (and_then {w} {w'} {w''} {entry} {entries} step _ rest) is = replay-counted rest (step-counted (listed entry.answers) step (begun-counted entry.moment w is))
+  replay-counted (and_then {w} {w'} {w''} {entry} {entries} step _ rest) is = replay-counted rest (calls-counted (listed entry.answers) step (begun-counted entry.moment w is))
 
   -- If there is no put with notification, none is counted.
   pub first-counted : (w : World R) → IsClosed k w → len w.records < 2 ^ 63 → w.live ≡ [] → w.waiting ≡ [] → ((n : ℕ) → Has w n → (common_at k w n).notification ≡ Nothing_) → IsCounted k w
@@ -230,7 +247,7 @@ module _ {R : Type 0} (k : RecordRules R) (lawful : IsLawful k) where
       let found = counted-there (λ (m : ℕ). m) n w'.ended (omega arith) in
       subst (Contains w'.ended) found.2 found.1
 
-  pub step-ends : (answers : Answers) {w w' : World R} {event : Event} {reply : Reply} {requests : Requests} → Step k answers w event w' reply requests → IsCounted k w → w.ended ≡ [] → EndsExactly k w event reply w'
+  pub step-ends : (answers : Answers) {w w' : World R} {event : Event} {reply : Reply} {requests : Requests} → Step k answers w event w' reply requests → IsCounted k w → w.ended ≡ [] → EndsExactly k w (call.Event event reply) w'
   step-ends answers {w} step is empty =
       let sound = sound-of is in
       let led = step-leads k lawful answers step sound in
@@ -238,6 +255,64 @@ module _ {R : Type 0} (k : RecordRules R) (lawful : IsLawful k) where
         ended = λ n. (ended-then answers step sound empty n, then-ended answers step sound empty n);
         once = λ n. let before : ends n w.ended ≡ 0 = ap (ends n) empty in omega (arith, led.balance n, led.fresh n);
       }
+
+  -- A call that begins and cancels none: nothing ends if the database stays as it is, and what a link
+  -- change ends is exactly what nobody has afterwards.
+
+  nothing-in : (n : ℕ) → Contains {X = ℕ} [] n → ⊥
+  nothing-in n h = absurd (omega (arith, h.1))
+
+  same-ends : (w : World R) (c : Call) → ((n : ℕ) → Begins c n → ⊥) → w.ended ≡ [] → EndsExactly k w c w
+  same-ends w c none empty = record {
+    ended = λ n. (λ h. absurd (nothing-in n (subst (λ (xs : List ℕ). Contains xs n) empty h)), λ (had, free, other). absurd (⊎_elim (λ held. free held) (λ begun. none n begun) had));
+    once = λ n. let before : ends n w.ended ≡ 0 = ap (ends n) empty in omega (arith, before);
+  }
+
+  module _ (w w' : World R) (sound : Sound k lawful w) (led : Leads k lawful w w') (empty : w.ended ≡ []) (n : ℕ) where
+    led-ended : Contains w'.ended n → IsHeld k w n × (IsHeld k w' n → ⊥)
+    led-ended h =
+        let before : ends n w.ended ≡ 0 = ap (ends n) empty in
+        let some = there-counted (λ (m : ℕ). m) w'.ended n h in
+        let total_ = led.balance n in
+        let few = live-few k lawful w sound n in (
+          counted-held w n (elim (nat_lt 0 (holders k w n)) as (λ b. nat_lt 0 (holders k w n) ≡ b → 1 ≤ holders k w n) [
+            | true ↦ λ is. ltb-true 0 _ is
+            | false ↦ λ no. absurd (let dead : lives n w.live ≡ 0 = sound.counts.live n ∙ ap one_if no in omega arith)
+          ] refl),
+          λ held. let one = live-held w' led.sound n (held-counted held) in omega arith,
+        )
+
+    ended-led : IsHeld k w n → (IsHeld k w' n → ⊥) → Contains w'.ended n
+    ended-led held free =
+        let before : ends n w.ended ≡ 0 = ap (ends n) empty in
+        let total_ = led.balance n in
+        let dead = held-none w' led.sound n free in
+        let one = live-held w sound n (held-counted held) in
+        let found = counted-there (λ (m : ℕ). m) n w'.ended (omega arith) in
+        subst (Contains w'.ended) found.2 found.1
+
+    led-once : ends n w'.ended ≤ 1
+    led-once =
+        let before : ends n w.ended ≡ 0 = ap (ends n) empty in
+        let few = live-few k lawful w sound n in
+        omega (arith, led.balance n, before, few)
+
+  led-ends : (w w' : World R) (c : Call) → ((n : ℕ) → Begins c n → ⊥) → ((n : ℕ) → Cancels c n → ⊥) → Sound k lawful w → Leads k lawful w w' → w.ended ≡ [] → EndsExactly k w c w'
+  led-ends w w' c none kept sound led empty = record {
+    ended = λ n. (
+      λ h. let both = led-ended w w' sound led empty n h in (inl both.0, both.1, kept n),
+      λ (had, free, other). ⊎_elim (λ held. ended-led w w' sound led empty n held free) (λ begun. absurd (none n begun)) had,
+    );
+    once = led-once w w' sound led empty;
+  }
+
+  pub calls-end : (answers : Answers) {w w' : World R} {c : Call} {requests : Requests} → Calls k answers w c w' requests → IsCounted k w → w.ended ≡ [] → EndsExactly k w c w'
+  calls-end answers (does_event step) is empty = step-ends answers step is empty
+  calls-end answers (shows_field {w} {s} {field} {text} _) is empty = same-ends w (call.Get s field text) (λ n begun. begun) empty
+  calls-end answers (tells_if_live {w} {number} {live} _) is empty = same-ends w (call.IsLive number live) (λ n begun. begun) empty
+  calls-end answers (keeps_its_link {w} {s} {field} {link} {e} _) is empty = same-ends w (call.Link s field link (Err e)) (λ n begun. begun) empty
+  calls-end answers (takes_link {w} {s} {field} {link} kept) is empty =
+      led-ends w _ (call.Link s field link (Ok tt)) (λ n begun. begun) (λ n cancelled. cancelled) (sound-of is) (link-led w s field link kept is) empty
 
   -- Lemmas about cancelled ones, which never end.
 
@@ -258,12 +333,22 @@ module _ {R : Type 0} (k : RecordRules R) (lawful : IsLawful k) where
       let same = begun-ended moment w in
       omega (arith, ap (lives n) same.1, ap (ends n) same.0)
 
-  -- One that is over stays so after an event by which it doesn't begin.
-  stays-over : {w w' : World R} (entry : Entry) (n : ℕ) {requests : Requests} → Step k (listed entry.answers) (begun_at entry.moment w) entry.event w' entry.reply requests → IsCounted k w
-      → lives n w.live ≡ 0 → entry.reply ≢ Notify-reply n → IsCounted k w' × (stands w' n ≡ 0)
-  stays-over {w} {w'} entry n step is dead other =
-      let led = step-leads k lawful (listed entry.answers) step (sound-of (begun-counted entry.moment w is)) in
-      (of-sound led.sound, omega (arith, led.balance n, begun-stands entry.moment w n dead, begins-none entry.reply n other))
+  -- One that is over stays so after a call by which it doesn't begin.
+  calls-over : (answers : Answers) {w w' : World R} {c : Call} {requests : Requests} (n : ℕ) → Calls k answers w c w' requests → IsCounted k w → stands w n ≡ 0
+      → (Begins c n → ⊥) → IsCounted k w' × (stands w' n ≡ 0)
+  calls-over answers n (does_event {w} {w'} {event} {reply} step) is none other =
+      let led = step-leads k lawful answers step (sound-of is) in
+      (of-sound led.sound, omega (arith, led.balance n, none, begins-none reply n other))
+  calls-over answers n (shows_field _) is none other = (is, none)
+  calls-over answers n (tells_if_live _) is none other = (is, none)
+  calls-over answers n (keeps_its_link _) is none other = (is, none)
+  calls-over answers n (takes_link {w} {s} {field} {link} kept) is none other =
+      let led = link-led w s field link kept is in
+      (of-sound led.sound, omega (arith, led.balance n, none))
+
+  stays-over : {w w' : World R} (entry : Entry) (n : ℕ) {requests : Requests} → Calls k (listed entry.answers) (begun_at entry.moment w) entry.call w' requests → IsCounted k w
+      → lives n w.live ≡ 0 → (Begins entry.call n → ⊥) → IsCounted k w' × (stands w' n ≡ 0)
+  stays-over {w} entry n calls is dead other = calls-over (listed entry.answers) n calls (begun-counted entry.moment w is) (begun-stands entry.moment w n dead) other
 
   replay-over : {w w' : World R} {entries : List Entry} (n : ℕ) → Replay k w entries w' → IsCounted k w → stands w n ≡ 0 → NoneBegins entries n → IsOver k w' n
   replay-over n (at_the_end {w}) is none begins_none = over-of w (sound-of is) n none

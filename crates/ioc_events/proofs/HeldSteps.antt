@@ -26,13 +26,13 @@ use Rattle.ioc_store.specs.Scanning.{device_of, rescanned, rewired}
 use Rattle.ioc_process.specs.Keeping.{keeps_all, keeps_on, closed_on, moved-keeps}
 use Rattle.ioc_store.specs.ScanLaws.{rewired-either}
 use Rattle.ioc_events.specs.declared.event.Event.{Event}
-use Rattle.ioc_events.specs.declared.event.Event.TheVariants.{Get, Process, Put, Complete, Link, Notify, Cancel, IsLive}
+use Rattle.ioc_events.specs.declared.event.Event.TheVariants.{Process, Put, Complete, Notify, Cancel}
 use Rattle.ioc_events.specs.declared.reply.Reply.{Reply}
 use Rattle.ioc_events.specs.declared.reply.Reply.TheVariants.{Plain, Outcome as Outcome-reply, Notify as Notify-reply, Refused}
 use Rattle.ioc_events.specs.Step.{is_there, all_there}
 use Rattle.ioc_events.specs.Starting.{must_wait}
 use Rattle.ioc_events.specs.Holding.{one_if_has, holders}
-use Rattle.ioc_events.specs.StepRules.{Does, Step, by_itself, then_others, no_such_record, no_such_field, shows_field, processes_record, refuses_value, stores_alone, stores_while_active, stores_and_processes, not_awaited, completes_record, leads_to_no_record, no_link_field, keeps_its_link, takes_link, refuses_notified_value, no_place, waits_its_turn, starts_now, not_live, cancels, tells_if_live}
+use Rattle.ioc_events.specs.StepRules.{Does, Step, by_itself, then_others, no_such_record, processes_record, refuses_value, stores_alone, stores_while_active, stores_and_processes, not_awaited, completes_record, refuses_notified_value, no_place, waits_its_turn, starts_now, not_live, cancels}
 use Rattle.ioc_events.proofs.Stepping.{put_notification}
 use Rattle.ioc_events.proofs.QuietEvents.{stored-keeps, admitted-keeps, queued-keeps, cancelled-keeps, link-closed}
 use Rattle.ioc_events.proofs.Counting.{lives, one_if, of_each, itself, another, Counts, counts-same, counts-begun, counts-forgotten, begun-lives, forgotten-lives, forgotten-other, live-lives, how_many-append, few-one, some_more}
@@ -70,7 +70,7 @@ module _ {R : Type 0} (k : RecordRules R) (lawful : IsLawful k) where
     -- One that begins wasn't live.
     pub fresh : (n : ℕ) → lives n w.live + begins reply n ≤ 1
 
-  live-few : (w : World R) → Sound k lawful w → (n : ℕ) → lives n w.live ≤ 1
+  pub live-few : (w : World R) → Sound k lawful w → (n : ℕ) → lives n w.live ≤ 1
   live-few w sound n = subst (λ (x : ℕ). x ≤ 1) (sym (sound.counts.live n)) (few-one (nat_lt 0 (holders k w n)))
 
   stays : (w : World R) (event : Event) (reply : Reply) → Sound k lawful w → ((n : ℕ) → ceases event reply n ≡ 0) → ((n : ℕ) → begins reply n ≡ 0) → LeadsBy w event w reply
@@ -91,7 +91,7 @@ module _ {R : Type 0} (k : RecordRules R) (lawful : IsLawful k) where
       (subst (Alike k lawful w) (sym stored)
       (alike-on k lawful (alike-put k lawful w s r there (put_notification k lawful (at k w s) r field given is)) (alike-rescanned k lawful (put w s r) s field (has-put k w s s r there))))
 
-  link-leads : (w : World R) (s : ℕ) (field : FieldNo) (link : LinkField) → Has w s → all_there w (named_by (use_of link)) ≡ true → Sound k lawful w
+  pub link-leads : (w : World R) (s : ℕ) (field : FieldNo) (link : LinkField) → Has w s → all_there w (named_by (use_of link)) ≡ true → Sound k lawful w
       → Leads k lawful w (rewired k (device_of k (at k w s)) (put w s (k.with_link (at k w s) field link)) s)
   link-leads w s field link there led sound =
       let r = k.with_link (at k w s) field link in
@@ -270,8 +270,6 @@ module _ {R : Type 0} (k : RecordRules R) (lawful : IsLawful k) where
 
   does-leads : (answers : Answers) {w w' : World R} {event : Event} {reply : Reply} {requests : Requests} → Does k answers w event w' reply requests → Sound k lawful w → LeadsBy w event w' reply
   does-leads answers (no_such_record {w} {event} _) sound = stays w event _ sound (ceases-refused event _) zero_
-  does-leads answers (no_such_field {w} {s} {field} _ _) sound = stays w (Get s field) _ sound zero_ zero_
-  does-leads answers (shows_field {w} {s} {field} _ _) sound = stays w (Get s field) _ sound zero_ zero_
   does-leads answers (processes_record {w} {w'} {s} {outcome} there r _) sound = leads (Process s) (Outcome-reply outcome) sound (request-leads k lawful answers there r sound) zero_ zero_
   does-leads answers (refuses_value {w} {s} {field} {given} _ _) sound = stays w (Put s field given) _ sound zero_ zero_
   does-leads answers (stores_alone {w} {w'} {s} {field} {given} {r} there is stored _) sound = leads (Put s field given) Plain sound (stored-leads w w' s field given r there is stored sound) zero_ zero_
@@ -286,10 +284,6 @@ module _ {R : Type 0} (k : RecordRules R) (lawful : IsLawful k) where
       leads (Put s field given) (Outcome-reply outcome) sound (leads-on k lawful first (leads-on k lawful marked (request-leads k lawful answers (marked-has k lawful w' s (with_put_mark true) here) q marked.sound))) zero_ zero_
   does-leads answers (not_awaited {w} {s} {number} {x} _ _) sound = stays w (Complete s number x) _ sound zero_ zero_
   does-leads answers (completes_record {w} {w'} {s} {number} {x} there _ r) sound = leads (Complete s number x) Plain sound (completion-leads k lawful answers there r sound) zero_ zero_
-  does-leads answers (leads_to_no_record {w} {s} {field} {link} _ _) sound = stays w (Link s field link) _ sound zero_ zero_
-  does-leads answers (no_link_field {w} {s} {field} {link} _ _ _) sound = stays w (Link s field link) _ sound zero_ zero_
-  does-leads answers (keeps_its_link {w} {s} {field} {link} _ _ _ _) sound = stays w (Link s field link) _ sound zero_ zero_
-  does-leads answers (takes_link {w} {s} {field} {link} there led _ _) sound = leads (Link s field link) Plain sound (link-leads w s field link there led sound) zero_ zero_
   does-leads answers (refuses_notified_value {w} {s} {number} {field} {given} _ _) sound = stays w (Notify s number field given) _ sound zero_ zero_
   does-leads answers (no_place {w} {s} {number} {field} {given} _ _ _) sound = stays w (Notify s number field given) _ sound zero_ zero_
   does-leads answers (waits_its_turn {w} {s} {number} {field} {given} {v} _ _ place _) sound =
@@ -300,7 +294,6 @@ module _ {R : Type 0} (k : RecordRules R) (lawful : IsLawful k) where
       record { sound = lead.sound; balance = λ n. omega (arith, lead.balance n, admitted-stands number w n); fresh = place-fresh w number sound place }
   does-leads answers (not_live {w} {number} _) sound = stays w (Cancel number) _ sound zero_ zero_
   does-leads answers (cancels {w} {number} live) sound = cancel-leads number w live sound
-  does-leads answers (tells_if_live {w} {number}) sound = stays w (IsLive number) _ sound zero_ zero_
 
   pub step-leads : (answers : Answers) {w w' : World R} {event : Event} {reply : Reply} {requests : Requests} → Step k answers w event w' reply requests → Sound k lawful w → LeadsBy w event w' reply
   step-leads answers (by_itself does _) sound = does-leads answers does sound
@@ -320,8 +313,6 @@ module _ {R : Type 0} (k : RecordRules R) (lawful : IsLawful k) where
   does-cancel : (answers : Answers) {w w' : World R} {event : Event} {reply : Reply} {requests : Requests} (n : ℕ) → Does k answers w event w' reply requests → event ≡ Cancel n → Sound k lawful w → ends n w.ended ≡ 0
       → stands w' n ≡ 0
   does-cancel answers n (no_such_record {w} {event} isnt) is sound none = absurd (there-always w event n is isnt)
-  does-cancel answers n (no_such_field _ _) is sound none = cc
-  does-cancel answers n (shows_field _ _) is sound none = cc
   does-cancel answers n (processes_record _ _ _) is sound none = cc
   does-cancel answers n (refuses_value _ _) is sound none = cc
   does-cancel answers n (stores_alone _ _ _ _) is sound none = cc
@@ -329,10 +320,6 @@ module _ {R : Type 0} (k : RecordRules R) (lawful : IsLawful k) where
   does-cancel answers n (stores_and_processes _ _ _ _ _ _ _) is sound none = cc
   does-cancel answers n (not_awaited _ _) is sound none = cc
   does-cancel answers n (completes_record _ _ _) is sound none = cc
-  does-cancel answers n (leads_to_no_record _ _) is sound none = cc
-  does-cancel answers n (no_link_field _ _ _) is sound none = cc
-  does-cancel answers n (keeps_its_link _ _ _ _) is sound none = cc
-  does-cancel answers n (takes_link _ _ _ _) is sound none = cc
   does-cancel answers n (refuses_notified_value _ _) is sound none = cc
   does-cancel answers n (no_place _ _ _) is sound none = cc
   does-cancel answers n (waits_its_turn _ _ _ _) is sound none = cc
@@ -344,7 +331,6 @@ module _ {R : Type 0} (k : RecordRules R) (lawful : IsLawful k) where
       let e : number ≡ n = cancel-same is in
       let one : one_if (eqb number n) ≡ 1 = ap one_if (eq-eqb number n e) in
       omega (arith, (cancel-leads number w live sound).balance n, one, none, live-few w sound n)
-  does-cancel answers n tells_if_live is sound none = cc
 
   pub step-cancelled : (answers : Answers) {w w' : World R} {event : Event} {reply : Reply} {requests : Requests} (n : ℕ) → Step k answers w event w' reply requests → event ≡ Cancel n → Sound k lawful w
       → ends n w.ended ≡ 0 → stands w' n ≡ 0

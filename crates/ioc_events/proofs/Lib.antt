@@ -20,6 +20,7 @@ mod HeldSteps
 pub mod Ended
 mod ToldEvents
 mod Apart
+pub mod Calling
 pub mod Beginning
 pub mod Rewired
 pub mod Sums

@@ -1,6 +1,6 @@
 -- The effect of a link change on the records that a record names.
-use Rattle.std.proofs.Common.{◌≡◌, ℕ, zero, suc, Bool, true, false, List, [], ◌∷◌, Option, Some, refl, ap, ◌∙◌, subst, ◌⊎◌, inl, inr, arith}
-use Rattle.std.specs.Prelude.{Contains, ◌&&◌}
+use Rattle.std.proofs.Common.{◌≡◌, ℕ, zero, suc, Bool, true, false, List, [], ◌∷◌, Option, Some, None as Nothing_, cond, refl, ap, ◌∙◌, subst, ◌⊎◌, inl, inr, arith}
+use Rattle.std.specs.Prelude.{Contains, not, ◌&&◌}
 use Rattle.std.specs.FinMap.{contains_key}
 use Rattle.std.proofs.lemmas.List.Elements.{Contains-append_cases, Contains-append_left, Contains-append_right}
 use Rattle.ioc_fields.specs.declared.field_no.FieldNo.{FieldNo}
@@ -9,7 +9,8 @@ use Rattle.ioc_dbcommon.specs.Links.{use_of, named_by, named_by_field, named_by_
 use Rattle.ioc_record.specs.RecordRules.{RecordRules, targets}
 use Rattle.ioc_record.specs.Laws.{IsLawful}
 use Rattle.ioc_store.specs.World.{World, Has}
-use Rattle.ioc_events.specs.Step.{all_there}
+use Rattle.ioc_values.specs.declared.error.IocError.{IocError}
+use Rattle.ioc_events.specs.Step.{all_there, link_refusal}
 
 -- If each field has the link that it had or this one, the record names what it named or what this
 -- link leads to.
@@ -37,6 +38,10 @@ one_of : (m n : ℕ) → Contains (m ∷ []) n → m ≡ n
 one_of m n (zero, lt, is) = is
 one_of m n (suc i, lt, is) = absurd (omega arith)
 
+not_refused : (b : Bool) (e : IocError) (rest : Option IocError) → cond {A = Option IocError} (not b) (Some e) rest ≡ Nothing_ → b ≡ true
+not_refused true e rest is = refl
+not_refused false e rest is = cc
+
 -- Each of several records that all exist exists.
 pub there_of : {R : Type 0} (w : World R) (ns : List ℕ) (n : ℕ) → all_there w ns ≡ true → Contains ns n → Has w n
 there_of w [] n all h = absurd (omega (arith, h.1))
@@ -61,3 +66,9 @@ all-alike w v [] alike = refl
 all-alike w v (n ∷ ns) alike =
     ap (λ (b : Bool). b && all_there w ns) (alike n (0, omega arith, refl))
     ∙ ap (λ (b : Bool). contains_key v.records n && b) (all-alike w v ns (λ m h. alike m (Contains-append_right (n ∷ []) ns m h)))
+
+-- A link change that isn't refused has its record and those that the link leads to.
+pub link-parts : {R : Type 0} (k : RecordRules R) (w : World R) (s : ℕ) (field : FieldNo) (link : LinkField) → link_refusal k w s field link ≡ Nothing_
+    → (contains_key w.records s ≡ true) × (all_there w (named_by (use_of link)) ≡ true)
+unfolding link_refusal
+link-parts k w s field link is = both_true _ _ (not_refused _ _ _ is)

@@ -1,6 +1,6 @@
 -- Events depend only on the records that links lead to, and change only these.
 use Rattle.std.proofs.Common.{◌≡◌, ◌≢◌, ◌||◌, ℕ, Bool, true, false, cond, List, Ok, Err, is_some, Option, Some, refl, sym, ap, subst, ◌∙◌, nat_eq, inl, inr, [], ◌∷◌, arith}
-use Rattle.std.specs.Prelude.{Result, Contains, not}
+use Rattle.std.specs.Prelude.{Result, Contains, not, ◌&&◌}
 use Rattle.std.specs.Prelude.{None as Nothing_}
 use Rattle.std.specs.FinMap.{contains_key}
 use Rattle.std.specs.List.{list_any}
@@ -33,13 +33,16 @@ use Rattle.ioc_store.specs.StepFrames.{targets-set}
 use Rattle.ioc_process.specs.Processing.{ran}
 use Rattle.ioc_process.specs.Alongside.{OwnAlone, changed-goes, rescanned-goes, rewired-goes, ran-goes, takes_completion-goes}
 use Rattle.ioc_events.specs.declared.event.Event.{Event}
-use Rattle.ioc_events.specs.declared.event.Event.TheVariants.{Get, Process, Put, Complete, Link, Notify, Cancel, IsLive}
+use Rattle.ioc_events.specs.declared.event.Event.TheVariants.{Process, Put, Complete, Notify, Cancel}
 use Rattle.ioc_events.specs.declared.reply.Reply.{Reply}
-use Rattle.ioc_events.specs.declared.reply.Reply.TheVariants.{Plain, Outcome as Outcome-reply, Shown, Notify as Notify-reply, Live as Live-reply}
-use Rattle.ioc_events.specs.Beside.{Same, Spares}
-use Rattle.ioc_events.specs.Local.{AskAlike, KeepsApart, IsWithin, EventIsLocal}
+use Rattle.ioc_events.specs.declared.reply.Reply.TheVariants.{Plain, Outcome as Outcome-reply, Notify as Notify-reply}
+use Rattle.ioc_events.specs.Beside.{Shut, Same, Spares}
+use Rattle.ioc_events.specs.Local.{AskAlike, Alike, KeepsApart, IsWithin, AgreeCall, EventIsLocal, CallIsLocal}
+use Rattle.ioc_events.specs.declared.event.Call.{Call}
+use Rattle.ioc_events.specs.declared.event.Call.TheVariants as call
+use Rattle.ioc_events.specs.Calls.{called, linked}
 use Rattle.ioc_events.specs.Starting.{value_to_put, must_wait, started}
-use Rattle.ioc_events.specs.Step.{Stepped, is_there, names, all_there, relinked, processes, awaits, refused, told, after_put, after_completion, put_with, begun_or_queued, notify_with, lets_start, done_there, done_alone, with_starts, stepped}
+use Rattle.ioc_events.specs.Step.{shown, link_refusal, relinked, Stepped, is_there, names, all_there, processes, awaits, refused, told, after_put, after_completion, put_with, begun_or_queued, notify_with, lets_start, done_there, done_alone, with_starts, stepped}
 use Rattle.ioc_events.proofs.Besides.{not_both, Within, Along, put_along, guards, along}
 use Rattle.ioc_events.proofs.LinkChanges.{linked-names, all-alike}
 use Rattle.ioc_events.proofs.RecordLists.{waits-too, added-same, added-elsewhere, taken-same, taken-elsewhere, any-same}
@@ -96,19 +99,6 @@ module _ {R : Type 0} (k : RecordRules R) (lawful : IsLawful k) (mine : ℕ → 
   marked both s u f links = changed-goes k lawful U (Within k mine w v) Both (guards k mine w v lawful) both s u f links
 
   -- A get of this record.
-  abbrev shows : FieldNo → R → World R → Stepped R
-  shows field r a = cond (is_some (row_of (k.record_type r) field)) (made a (Shown (text_of k r field)) None) (refused a NoField)
-
-  shows-local : {a b : World R} → Both a b → (field : FieldNo) (r : R) → Agrees (shows field r a) (shows field r b)
-  shows-local {a} {b} both field r =
-      elim (is_some (row_of (k.record_type r) field)) as (λ c. Agrees (cond c (made a (Shown (text_of k r field)) None) (refused a NoField)) (cond c (made b (Shown (text_of k r field)) None) (refused b NoField))) [
-        | true ↦ unchanged both _ _
-        | false ↦ unchanged both _ _
-      ]
-
-  get-local : {a b : World R} → Both a b → (s : ℕ) (field : FieldNo) → U s → Agrees (done_there k answers a (Get s field)) (done_there k answers b (Get s field))
-  unfolding done_there
-  get-local {a} {b} both s field u = subst (λ (r : R). Agrees (shows field (at k a s) a) (shows field r b)) (both.same.records s u) (shows-local both field (at k a s))
 
   -- What follows a put, given whether the field processes the record and whether it is active.
   abbrev follows : ℕ → Bool → Bool → World R → Stepped R
@@ -160,42 +150,7 @@ module _ {R : Type 0} (k : RecordRules R) (lawful : IsLawful k) (mine : ℕ → 
 
   -- A link change, given whether the records that it leads to exist, whether the field has a link,
   -- and whether DISP forbids it.
-  abbrev linked : ℕ → FieldNo → LinkField → R → Bool → Bool → Bool → World R → Stepped R
-  linked s field link r led has stops a =
-      cond {A = Stepped R} (not led) (refused a NoRecord)
-      (cond {A = Stepped R} (not has) (refused a NoField)
-      (cond {A = Stepped R} stops (refused a PutDisabled) (made (rewired k (device_of k r) (put a s (k.with_link r field link)) s) Plain None)))
-
-  links-local : {a b : World R} → Both a b → (s : ℕ) (field : FieldNo) (link : LinkField) → U s → ((n : ℕ) → Contains (named_by (use_of link)) n → U n) → (led has stops : Bool)
-      → Agrees (linked s field link (at k a s) led has stops a) (linked s field link (at k a s) led has stops b)
-  links-local {a} {b} both s field link u into true true false =
-      let stored = put_along k mine w v _ _ both s u (k.with_link (at k a s) field link) (λ target h. elim (linked-names k lawful (at k a s) field link target h) [
-        | inl before ↦ both.shut.shut s target u before
-        | inr new ↦ into target new
-      ]) in
-      unchanged (rewired-goes k lawful U (Within k mine w v) Both (guards k mine w v lawful) stored (device_of k (at k a s)) s u) _ _
-  links-local both s field link u into true true true = unchanged both _ _
-  links-local both s field link u into true false stops = unchanged both _ _
-  links-local both s field link u into false has stops = unchanged both _ _
-
-  abbrev links-at : ℕ → FieldNo → LinkField → Bool → R → World R → Stepped R
-  links-at s field link led r a = linked s field link r led (is_some (k.link r field)) (stops_put (k.common r) field) a
-
-  link-local : {a b : World R} → Both a b → (s : ℕ) (field : FieldNo) (link : LinkField) → U s → ((n : ℕ) → Contains (named_by (use_of link)) n → U n)
-      → all_there a (named_by (use_of link)) ≡ all_there b (named_by (use_of link))
-      → Agrees (done_there k answers a (Link s field link)) (done_there k answers b (Link s field link))
-  unfolding done_there relinked
-  link-local {a} {b} both s field link u into alike =
-      subst (λ (r : R). Agrees (links-at s field link (all_there a (named_by (use_of link))) (at k a s) a) (links-at s field link (all_there b (named_by (use_of link))) r b)) (both.same.records s u)
-      (subst (λ (c : Bool). Agrees (links-at s field link (all_there a (named_by (use_of link))) (at k a s) a) (links-at s field link c (at k a s) b)) alike
-      (links-local both s field link u into _ _ _))
-
   -- The question whether one is live has the same reply in both.
-  live-local : {a b : World R} → Both a b → (number : ℕ) → is_live number a.live ≡ is_live number b.live → Agrees (done_there k answers a (IsLive number)) (done_there k answers b (IsLive number))
-  unfolding done_there
-  live-local {a} {b} both number alike =
-      subst (λ (c : Bool). Agrees (made a (Live-reply (is_live number a.live)) None) (made b (Live-reply c) None)) alike (unchanged both _ _)
-
   admitted-goes : {a b : World R} → Both a b → (number : ℕ) → Both (admitted number a) (admitted number b)
   unfolding at admitted
   admitted-goes both number = record {
@@ -364,28 +319,19 @@ module _ {R : Type 0} (k : RecordRules R) (lawful : IsLawful k) (mine : ℕ → 
 
   there-local : {a b : World R} → Both a b → ((n : ℕ) → U n → contains_key a.records n ≡ contains_key b.records n) → (event : Event) → IsWithin k mine a event → IsWithin k mine b event
       → AskAlike a b event → Agrees (done_there k answers a event) (done_there k answers b event)
-  there-local both there (Get s field) within _ asks = get-local both s field (within.named s (0, omega arith, refl))
   there-local both there (Process s) within _ asks = process-local both s (within.named s (0, omega arith, refl))
   there-local both there (Put s field given) within _ asks = put-local both s field given (within.named s (0, omega arith, refl))
   there-local both there (Complete s number x) within _ asks = complete-local both s number x (within.named s (0, omega arith, refl))
-  there-local {a} {b} both there (Link s field link) within _ asks =
-      let led = named_by (use_of link) in
-      let into : (n : ℕ) → Contains led n → U n = λ n h. within.named n (Contains-append_right (s ∷ []) led n h) in
-      link-local both s field link (within.named s (0, omega arith, refl)) into (all-alike a b led (λ n h. there n (into n h)))
   there-local both there (Notify s number field given) within _ asks = notify-local both s number field given (within.named s (0, omega arith, refl)) asks
   there-local {a} {b} both there (Cancel number) within other_within asks = cancel-local both there number (foreign-of a number within) (foreign-of b number other_within) asks
-  there-local both there (IsLive number) within _ asks = live-local both number asks
 
   -- The record of the event exists in both worlds or in neither.
   there-alike : (a b : World R) (event : Event) → ((n : ℕ) → Contains (names event) n → contains_key a.records n ≡ contains_key b.records n) → is_there a event ≡ is_there b event
-  there-alike a b (Get s field) alike = alike s (0, omega arith, refl)
   there-alike a b (Process s) alike = alike s (0, omega arith, refl)
   there-alike a b (Put s field given) alike = alike s (0, omega arith, refl)
   there-alike a b (Complete s number x) alike = alike s (0, omega arith, refl)
-  there-alike a b (Link s field link) alike = alike s (0, omega arith, refl)
   there-alike a b (Notify s number field given) alike = alike s (0, omega arith, refl)
   there-alike a b (Cancel number) alike = refl
-  there-alike a b (IsLive number) alike = refl
 
   alone-local : {a b : World R} → Both a b → ((n : ℕ) → U n → contains_key a.records n ≡ contains_key b.records n) → (event : Event) → IsWithin k mine a event → IsWithin k mine b event
       → AskAlike a b event → Agrees (done_alone k answers a event) (done_alone k answers b event)
@@ -433,8 +379,8 @@ module _ {R : Type 0} (k : RecordRules R) (lawful : IsLawful k) (mine : ℕ → 
   stepped-local w v event goes apart other_apart =
       let first = done_alone k answers w event in
       let other = done_alone k answers v event in
-      subst (λ (r : Reply). GoesEvent k mine w v (cond {A = Stepped R} (lets_start event first.reply) (with_starts k answers first) first) (cond {A = Stepped R} (lets_start event r) (with_starts k answers other) other)) goes.reply
-      (starts-local k lawful mine answers w v first other (lets_start event first.reply) goes apart other_apart)
+      subst (λ (r : Reply). GoesEvent k mine w v (cond {A = Stepped R} (lets_start first.reply) (with_starts k answers first) first) (cond {A = Stepped R} (lets_start r) (with_starts k answers other) other)) goes.reply
+      (starts-local k lawful mine answers w v first other (lets_start first.reply) goes apart other_apart)
 
   pub event-local : EventIsLocal k mine answers
   event-local w v event shut alike apart other_apart within other_within asks =
@@ -448,3 +394,69 @@ module _ {R : Type 0} (k : RecordRules R) (lawful : IsLawful k) (mine : ℕ → 
         spares = done.inv.spares;
         other_spares = done.inv.other_spares;
       }
+
+module _ {R : Type 0} (k : RecordRules R) (lawful : IsLawful k) (mine : ℕ → Bool) (answers : Answers) where
+  -- The field shows the same in both worlds.
+  shown-same : (w v : World R) (s : ℕ) (field : FieldNo) → Alike k mine w v → mine s ≡ true → shown k w s field ≡ shown k v s field
+  unfolding shown
+  shown-same w v s field alike u =
+      ap (λ (b : Bool). cond {A = Result (List ℕ) IocError} (not b) (Err NoRecord) (cond {A = Result (List ℕ) IocError} (is_some (row_of (k.record_type (at k w s)) field)) (Ok (text_of k (at k w s) field)) (Err NoField))) (alike.there s u)
+      ∙ ap (λ (r : R). cond {A = Result (List ℕ) IocError} (not (contains_key v.records s)) (Err NoRecord) (cond {A = Result (List ℕ) IocError} (is_some (row_of (k.record_type r) field)) (Ok (text_of k r field)) (Err NoField))) (alike.same.records s u)
+
+  refusal-by : (there : Bool) (field : FieldNo) (r : R) → Option IocError
+  refusal-by there field r = cond {A = Option IocError} (not there) (Some NoRecord) (cond {A = Option IocError} (not (is_some (k.link r field))) (Some NoField) (cond {A = Option IocError} (stops_put (k.common r) field) (Some PutDisabled) Nothing_))
+
+  -- A link change is refused in both worlds or in neither.
+  refusal-same : (w v : World R) (s : ℕ) (field : FieldNo) (link : LinkField) → Alike k mine w v → ((n : ℕ) → Contains (s ∷ named_by (use_of link)) n → mine n ≡ true)
+      → link_refusal k w s field link ≡ link_refusal k v s field link
+  unfolding link_refusal refusal-by
+  refusal-same w v s field link alike within =
+      let led = named_by (use_of link) in
+      let there : (contains_key w.records s && all_there w led) ≡ (contains_key v.records s && all_there v led) = all-alike w v (s ∷ led) (λ n h. alike.there n (within n h)) in
+      ap (λ (b : Bool). refusal-by b field (at k w s)) there ∙ ap (λ (r : R). refusal-by (contains_key v.records s && all_there v led) field r) (alike.same.records s (within s (0, omega arith, refl)))
+
+  -- Neither world changes.
+  unchanged-call : {w v : World R} {one other : Call} → Shut k mine w → Alike k mine w v → one ≡ other
+      → AgreeCall k mine w v (record { world = w; call = one; requests = None }) (record { world = v; call = other; requests = None })
+  unchanged-call {w} {v} shut alike same =
+      let both = along k mine w v shut alike.same in
+      record { alike = alike; call = same; requests = refl; shut = both.shut; spares = both.spares; other_spares = both.other_spares }
+
+  relinked-both : (w v : World R) (s : ℕ) (field : FieldNo) (link : LinkField) → Shut k mine w → Alike k mine w v → ((n : ℕ) → Contains (s ∷ named_by (use_of link)) n → mine n ≡ true)
+      → Along k mine w v (relinked k w s field link) (relinked k v s field link)
+  relinked-both w v s field link shut alike within =
+      let both = along k mine w v shut alike.same in
+      let U : ℕ → Type 0 = λ n. mine n ≡ true in
+      let u = within s (0, omega arith, refl) in
+      let stored = put_along k mine w v _ _ both s u (k.with_link (at k w s) field link) (λ target h. elim (linked-names k lawful (at k w s) field link target h) [
+        | inl before ↦ shut.shut s target u before
+        | inr new ↦ within target (Contains-append_right (s ∷ []) (named_by (use_of link)) target new)
+      ]) in
+      subst (λ (r : R). Along k mine w v (relinked k w s field link) (rewired k (device_of k r) (put v s (k.with_link r field link)) s)) (alike.same.records s u)
+      (rewired-goes k lawful U (Within k mine w v) (Along k mine w v) (guards k mine w v lawful) stored (device_of k (at k w s)) s u)
+
+  link-agrees : (w v : World R) (s : ℕ) (field : FieldNo) (link : LinkField) (o : Option IocError) → Shut k mine w → Alike k mine w v → ((n : ℕ) → Contains (s ∷ named_by (use_of link)) n → mine n ≡ true)
+      → AgreeCall k mine w v (linked k answers w s field link o) (linked k answers v s field link o)
+  link-agrees w v s field link (Some e) shut alike within = unchanged-call shut alike refl
+  link-agrees w v s field link Nothing_ shut alike within =
+      let done = relinked-both w v s field link shut alike within in
+      record {
+        alike = record { same = done.same; there = λ n u. done.there n u (alike.there n u) };
+        call = refl;
+        requests = refl;
+        shut = done.shut;
+        spares = done.spares;
+        other_spares = done.other_spares;
+      }
+
+  pub call-local : CallIsLocal k mine answers
+  unfolding called
+  call-local w v (call.Event event reply) shut alike apart other_apart within other_within asks =
+      let done = event-local k lawful mine answers w v event shut alike apart other_apart within other_within asks in
+      record { alike = done.alike; call = ap (call.Event event) done.reply; requests = done.requests; shut = done.shut; spares = done.spares; other_spares = done.other_spares }
+  call-local w v (call.Get s field text) shut alike apart other_apart within other_within asks =
+      unchanged-call shut alike (ap (call.Get s field) (shown-same w v s field alike (within s (0, omega arith, refl))))
+  call-local w v (call.IsLive number live) shut alike apart other_apart within other_within asks = unchanged-call shut alike (ap (call.IsLive number) asks)
+  call-local w v (call.Link s field link reply) shut alike apart other_apart within other_within asks =
+      subst (λ (o : Option IocError). AgreeCall k mine w v (linked k answers w s field link (link_refusal k w s field link)) (linked k answers v s field link o)) (refusal-same w v s field link alike within)
+      (link-agrees w v s field link (link_refusal k w s field link) shut alike within)

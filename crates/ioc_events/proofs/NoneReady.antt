@@ -20,14 +20,13 @@ use Rattle.ioc_events.specs.declared.event.Event.TheVariants.{Cancel}
 use Rattle.ioc_events.specs.declared.reply.Reply.{Reply}
 use Rattle.ioc_store.specs.World.{World, Has, at, common_at, put, changed, sent, lost, cancelled, freed, is_notification}
 use Rattle.ioc_store.specs.Given.{Answers}
-use Rattle.ioc_store.specs.Scanning.{device_of, moved, rewired}
+use Rattle.ioc_store.specs.Scanning.{moved, rewired}
 use Rattle.ioc_events.specs.Starting.{NoneReady, IsGivenUp}
-use Rattle.ioc_events.specs.StepRules.{Does, Step, by_itself, then_others, StartsAll, no_more, next_starts, no_such_record, no_such_field, shows_field, processes_record, refuses_value, stores_alone, stores_while_active, stores_and_processes, not_awaited, completes_record, leads_to_no_record, no_link_field, keeps_its_link, takes_link, refuses_notified_value, no_place, waits_its_turn, starts_now, not_live, cancels, tells_if_live}
+use Rattle.ioc_events.specs.StepRules.{Does, Step, by_itself, then_others, StartsAll, no_more, next_starts, no_such_record, processes_record, refuses_value, stores_alone, stores_while_active, stores_and_processes, not_awaited, completes_record, refuses_notified_value, no_place, waits_its_turn, starts_now, not_live, cancels}
 use Rattle.ioc_store.specs.Worlds.{at-put_same, at-put_other}
 use Rattle.ioc_store.specs.ScanLaws.{moved-either, rewired-either}
 use Rattle.ioc_events.proofs.StartRules.{one_item}
 use Rattle.ioc_events.proofs.StartsLocal.{idle_alone, ready-is}
-use Rattle.ioc_events.proofs.Waitings.{rewired-waiting, put-waiting}
 use Rattle.ioc_store.specs.Freeing.{cancelled-free_at}
 use Rattle.ioc_events.proofs.Stepping.{step-cancel}
 use Rattle.ioc_events.proofs.StepLaws.{does-is}
@@ -74,20 +73,18 @@ module _ {R : Type 0} (k : RecordRules R) (lawful : IsLawful k) where
   as_idle-moved : (w v : World R) (n : ℕ) → AsIdle w v → AsIdle w (moved k v n)
   as_idle-moved w v n same = moved-either k (AsIdle w) v n (λ item. as_idle-sent w _ item (as_idle-numbered w v n same)) (as_idle-lost w v same)
 
-  as_idle-linked : (w : World R) (s : ℕ) (f : FieldNo) (l : LinkField) (before : List ℕ) → AsIdle w (rewired k before (put w s (k.with_link (at k w s) f l)) s)
+  pub as_idle-linked : (w : World R) (s : ℕ) (f : FieldNo) (l : LinkField) (before : List ℕ) → AsIdle w (rewired k before (put w s (k.with_link (at k w s) f l)) s)
   as_idle-linked w s f l before =
       let linked : AsIdle w (put w s (k.with_link (at k w s) f l)) = as_idle-put w s _ (ap (λ (c : Common). not c.active && not (is_some c.notification)) (lawful.link_set_common (at k w s) f l)) in
       rewired-either k (AsIdle w) before (put w s (k.with_link (at k w s) f l)) s linked (as_idle-moved w _ s linked)
 
-  none-same : (w v : World R) → AsIdle w v → v.waiting ≡ w.waiting → NoneReady k w → NoneReady k v
+  pub none-same : (w v : World R) → AsIdle w v → v.waiting ≡ w.waiting → NoneReady k w → NoneReady k v
   none-same w v same waits none = record {
     none = λ x h. ready-is k lawful v x ∙ same x.target ∙ sym (ready-is k lawful w x) ∙ none.none x (subst (λ (l : List Waiting). Contains l x) waits h);
   }
 
-  does-none : (answers : Answers) {w w' : World R} {event : Event} {reply : Reply} {requests : Requests} → Does k answers w event w' reply requests → lets_start event reply ≡ false → NoneReady k w → NoneReady k w'
+  does-none : (answers : Answers) {w w' : World R} {event : Event} {reply : Reply} {requests : Requests} → Does k answers w event w' reply requests → lets_start reply ≡ false → NoneReady k w → NoneReady k w'
   does-none answers (no_such_record _) lets none = none
-  does-none answers (no_such_field _ _) lets none = none
-  does-none answers (shows_field _ _) lets none = none
   does-none answers (processes_record _ _ _) lets none = cc
   does-none answers (refuses_value _ _) lets none = none
   does-none answers (stores_alone _ _ _ _) lets none = cc
@@ -95,18 +92,12 @@ module _ {R : Type 0} (k : RecordRules R) (lawful : IsLawful k) where
   does-none answers (stores_and_processes _ _ _ _ _ _ _) lets none = cc
   does-none answers (not_awaited _ _) lets none = none
   does-none answers (completes_record _ _ _) lets none = cc
-  does-none answers (leads_to_no_record _ _) lets none = none
-  does-none answers (no_link_field _ _ _) lets none = none
-  does-none answers (keeps_its_link _ _ _ _) lets none = none
-  does-none answers (takes_link {w} {s} {field} {link} _ _ _ _) lets none =
-      none-same w _ (as_idle-linked w s field link (device_of k (at k w s))) (rewired-waiting k lawful _ _ s ∙ put-waiting k lawful w s _) none
   does-none answers (refuses_notified_value _ _) lets none = none
   does-none answers (no_place _ _ _) lets none = none
   does-none answers (waits_its_turn _ _ _ _) lets none = cc
   does-none answers (starts_now _ _ _ _ _) lets none = cc
   does-none answers (not_live _) lets none = none
   does-none answers (cancels _) lets none = cc
-  does-none answers tells_if_live lets none = none
 
   all-none : (answers : Answers) {w w' : World R} {requests : Requests} → StartsAll k answers w w' requests → NoneReady k w'
   all-none answers (no_more none) = none

@@ -1,5 +1,5 @@
 -- The cases of a put, whatever form its value has.
-use Rattle.std.proofs.Common.{◌≡◌, ℕ, true, false, [], refl, sym, ◌∙◌}
+use Rattle.std.proofs.Common.{◌≡◌, ℕ, true, false, refl}
 use Rattle.std.specs.Global.{Vec}
 use Rattle.std.specs.Prelude.{Ok, Err}
 use Rattle.std.specs.FinMap.{contains_key}

@@ -1,6 +1,6 @@
 -- Events keep a quiet database quiet.
 use Rattle.std.proofs.Common.{◌≡◌, ◌≢◌, ℕ, true, false, eqb, Ok, IsSome, IsTrue, Option, None as Nothing_, Bool, refl, ap, subst, ◌∙◌, inl, inr, arith, cond, Some, length, [], ◌∷◌, ◌++◌, sym}
-use Rattle.std.specs.Prelude.{◌↔◌, Contains, nat_lt, ◌&&◌, List}
+use Rattle.std.specs.Prelude.{◌↔◌, Contains, nat_lt, ◌&&◌}
 use Rattle.std.proofs.lemmas.Grind.{common_steps}
 use Rattle.ioc_values.specs.declared.input.Input.{Input}
 use Rattle.ioc_values.specs.declared.value.Finished.{Finished}
@@ -24,9 +24,8 @@ use Rattle.ioc_values.specs.declared.value.Value.{Value}
 use Rattle.ioc_process.specs.Rules.{Requested, Resumes, IsQuiet, IsSettled}
 use Rattle.ioc_process.specs.Processing.{Done}
 use Rattle.ioc_events.specs.declared.event.Event.{Event}
-use Rattle.ioc_events.specs.Step.{is_link_change, all_there}
-use Rattle.ioc_events.specs.StepRules.{Does, Step, by_itself, then_others, Starts, to_be_processed, at_once_told, StartsAll, no_more, next_starts, no_such_record, no_such_field, shows_field, processes_record, refuses_value, stores_alone, stores_while_active, stores_and_processes, not_awaited, completes_record, leads_to_no_record, no_link_field, keeps_its_link, takes_link, refuses_notified_value, no_place, waits_its_turn, starts_now, not_live, cancels, tells_if_live, Replay, at_the_end, and_then}
-use Rattle.ioc_events.specs.declared.event.Entry.{Entry}
+use Rattle.ioc_events.specs.Step.{all_there}
+use Rattle.ioc_events.specs.StepRules.{Does, Step, by_itself, then_others, Starts, to_be_processed, at_once_told, StartsAll, no_more, next_starts, no_such_record, processes_record, refuses_value, stores_alone, stores_while_active, stores_and_processes, not_awaited, completes_record, refuses_notified_value, no_place, waits_its_turn, starts_now, not_live, cancels}
 use Rattle.ioc_events.proofs.LinkChanges.{linked-names, there_of}
 use Rattle.ioc_store.specs.Worlds.{at-put_same, at-put_other, has-put, has-put_back}
 use Rattle.ioc_process.specs.Keeping.{same_links, keeps_all, keeps_on, closed_on, keeps-put, keeps-changed, request-keeps, takes_completion-keeps, rescanned-keeps, notified-keeps}
@@ -35,9 +34,9 @@ use Rattle.ioc_process.specs.RulesLaws.{resumes-others, resumes-own}
 use Rattle.ioc_events.proofs.Stepping.{keeps-put_field, put_active, put_pending}
 use Rattle.ioc_process.specs.RulesAlone.{request-is, takes_completion-is}
 use Rattle.ioc_process.specs.Quieting.{request-quiet, left-quiet, settled_by}
-use Rattle.ioc_store.specs.Given.{Answers, listed}
-use Rattle.ioc_store.specs.Scanning.{device_of, moved, rescanned}
-use Rattle.ioc_store.specs.ScanLaws.{moved-either, rescanned-either, rewired-either}
+use Rattle.ioc_store.specs.Given.{Answers}
+use Rattle.ioc_store.specs.Scanning.{moved, rescanned}
+use Rattle.ioc_store.specs.ScanLaws.{moved-either, rescanned-either}
 use Rattle.ioc_store.specs.declared.outbox.OutboxItem.{OutboxItem}
 
 neither : {active : Bool} {pending : Option ℕ} → active ≡ false → pending ≡ Nothing_ → IsTrue active ↔ IsSome pending
@@ -96,7 +95,7 @@ module _ {R : Type 0} (k : RecordRules R) (lawful : IsLawful k) where
         | false ↦ record { closed = record { closed = λ n target h. settled.closed.closed n target h }; quiet = record { quiet = λ n has. settled.quiet.quiet n has } }
       ]
 
-  moved-settled : (w : World R) (n : ℕ) → Has w n → IsSettled k w → IsSettled k (moved k w n)
+  pub moved-settled : (w : World R) (n : ℕ) → Has w n → IsSettled k w → IsSettled k (moved k w n)
   moved-settled w n there settled =
       moved-either k (IsSettled k) w n (λ item. sent-settled item _ (mark-settled w n change_numbered (λ c. (refl, refl)) (λ c. refl) (λ c. refl) there settled)) (lost-settled w settled)
 
@@ -151,7 +150,7 @@ module _ {R : Type 0} (k : RecordRules R) (lawful : IsLawful k) where
         ] refl);
       }
 
-  link-settled : (w : World R) (s : ℕ) (f : FieldNo) (l : LinkField) → Has w s → all_there w (named_by (use_of l)) ≡ true → IsSettled k w → IsSettled k (put w s (k.with_link (at k w s) f l))
+  pub link-settled : (w : World R) (s : ℕ) (f : FieldNo) (l : LinkField) → Has w s → all_there w (named_by (use_of l)) ≡ true → IsSettled k w → IsSettled k (put w s (k.with_link (at k w s) f l))
   link-settled w s f l there led settled = record {
     closed = link-closed w s f l there led settled.closed;
     quiet = quiet-put w s _ there (lawful.link_set_active _ f l) (lawful.link_set_pending _ f l) settled.quiet;
@@ -249,8 +248,6 @@ module _ {R : Type 0} (k : RecordRules R) (lawful : IsLawful k) where
 
   pub does-settled : (answers : Answers) {w w' : World R} {event : Event} {reply : Reply} {requests : Requests} → Does k answers w event w' reply requests → IsSettled k w → IsSettled k w'
   does-settled answers (no_such_record _) settled = settled
-  does-settled answers (no_such_field _ _) settled = settled
-  does-settled answers (shows_field _ _) settled = settled
   does-settled answers (processes_record there r _) settled = request-settled answers there r settled
   does-settled answers (refuses_value _ _) settled = settled
   does-settled answers (stores_alone {w} {w'} {s} {field} {given} {r} there is stored _) settled = stored-settled w w' s field given r there is stored settled
@@ -262,20 +259,12 @@ module _ {R : Type 0} (k : RecordRules R) (lawful : IsLawful k) where
       (mark-settled w' s (with_put_mark true) (λ c. (refl, refl)) (λ c. refl) (λ c. refl) here (stored-settled w w' s field given r there is stored settled))
   does-settled answers (not_awaited _ _) settled = settled
   does-settled answers (completes_record there _ r) settled = completion-settled answers there r settled
-  does-settled answers (leads_to_no_record _ _) settled = settled
-  does-settled answers (no_link_field _ _ _) settled = settled
-  does-settled answers (keeps_its_link _ _ _ _) settled = settled
-  does-settled answers (takes_link {w} {s} {field} {link} there led _ _) settled =
-      let v = put w s (k.with_link (at k w s) field link) in
-      let put_first = link-settled w s field link there led settled in
-      rewired-either k (IsSettled k) (device_of k (at k w s)) v s put_first (moved-settled v s (has-put k w s s _ there) put_first)
   does-settled answers (refuses_notified_value _ _) settled = settled
   does-settled answers (no_place _ _ _) settled = settled
   does-settled answers (waits_its_turn {w} {s} {number} {field} {given} {v} _ _ _ _) settled = queued-settled _ _ (admitted-settled number w settled)
   does-settled answers (starts_now {w} {w'} {s} {number} there _ _ _ one) settled = starts-settled answers one (admitted-has number s w there) (admitted-settled number w settled)
   does-settled answers (not_live _) settled = settled
   does-settled answers (cancels {w} {number} _) settled = cancelled-settled number w settled
-  does-settled answers tells_if_live settled = settled
 
   pub step-settled : (answers : Answers) {w w' : World R} {event : Event} {reply : Reply} {requests : Requests} → Step k answers w event w' reply requests → IsSettled k w → IsSettled k w'
   step-settled answers (by_itself does _) settled = does-settled answers does settled
@@ -313,40 +302,33 @@ module _ {R : Type 0} (k : RecordRules R) (lawful : IsLawful k) where
       let two = keeps_on k first (starts-keeps answers one (first.has x.target (ready-has w x next.ready)) (closed_on k lawful first closed)) in
       keeps_on k two (starts_all-keeps answers others (closed_on k lawful two closed))
 
-  pub does-keeps : (answers : Answers) {w w' : World R} {event : Event} {reply : Reply} {requests : Requests} → Does k answers w event w' reply requests → is_link_change event ≡ false → IsClosed k w → Keeps k w w'
-  does-keeps answers (no_such_record {w} _) other closed = keeps_all k w
-  does-keeps answers (no_such_field {w} _ _) other closed = keeps_all k w
-  does-keeps answers (shows_field {w} _ _) other closed = keeps_all k w
-  does-keeps answers (processes_record there r _) other closed = request-kept answers there r closed
-  does-keeps answers (refuses_value {w} _ _) other closed = keeps_all k w
-  does-keeps answers (stores_alone {w} {w'} {s} {field} {given} {r} there is stored _) other closed = stored-keeps w w' s field given r there is stored
-  does-keeps answers (stores_while_active {w} {w'} {s} {field} {given} {r} there is stored _ _) other closed =
+  pub does-keeps : (answers : Answers) {w w' : World R} {event : Event} {reply : Reply} {requests : Requests} → Does k answers w event w' reply requests → IsClosed k w → Keeps k w w'
+  does-keeps answers (no_such_record {w} _) closed = keeps_all k w
+  does-keeps answers (processes_record there r _) closed = request-kept answers there r closed
+  does-keeps answers (refuses_value {w} _ _) closed = keeps_all k w
+  does-keeps answers (stores_alone {w} {w'} {s} {field} {given} {r} there is stored _) closed = stored-keeps w w' s field given r there is stored
+  does-keeps answers (stores_while_active {w} {w'} {s} {field} {given} {r} there is stored _ _) closed =
       let first = stored-keeps w w' s field given r there is stored in
       keeps_on k first (keeps-changed k lawful w' s (first.has s there) (with_reprocess_mark true) (λ c. (refl, refl)))
-  does-keeps answers (stores_and_processes {w} {w'} {w''} {s} {field} {given} {r} there is stored _ _ q _) other closed =
+  does-keeps answers (stores_and_processes {w} {w'} {w''} {s} {field} {given} {r} there is stored _ _ q _) closed =
       let put_first = stored-keeps w w' s field given r there is stored in
       let first = keeps_on k put_first (keeps-changed k lawful w' s (put_first.has s there) (with_put_mark true) (λ c. (refl, refl))) in
       keeps_on k first (request-kept answers (first.has s there) q (closed_on k lawful first closed))
-  does-keeps answers (not_awaited {w} _ _) other closed = keeps_all k w
-  does-keeps answers (completes_record {w} {w'} {s} {number} {x} there _ r) other closed =
+  does-keeps answers (not_awaited {w} _ _) closed = keeps_all k w
+  does-keeps answers (completes_record {w} {w'} {s} {number} {x} there _ r) closed =
       subst (Keeps k w) (ap (λ (d : Done R). d.world) (takes_completion-is k lawful answers r)) (takes_completion-keeps k lawful w closed answers s there x)
-  does-keeps answers (leads_to_no_record {w} _ _) other closed = cc
-  does-keeps answers (no_link_field {w} _ _ _) other closed = cc
-  does-keeps answers (keeps_its_link {w} _ _ _ _) other closed = cc
-  does-keeps answers (takes_link _ _ _ _) other closed = cc
-  does-keeps answers (refuses_notified_value {w} _ _) other closed = keeps_all k w
-  does-keeps answers (no_place {w} _ _ _) other closed = keeps_all k w
-  does-keeps answers (waits_its_turn {w} {s} {number} {field} {given} {v} _ _ _ _) other closed = keeps_on k (admitted-keeps number w) (queued-keeps _ (admitted number w))
-  does-keeps answers (starts_now {w} {w'} {s} {number} there _ _ _ one) other closed =
+  does-keeps answers (refuses_notified_value {w} _ _) closed = keeps_all k w
+  does-keeps answers (no_place {w} _ _ _) closed = keeps_all k w
+  does-keeps answers (waits_its_turn {w} {s} {number} {field} {given} {v} _ _ _ _) closed = keeps_on k (admitted-keeps number w) (queued-keeps _ (admitted number w))
+  does-keeps answers (starts_now {w} {w'} {s} {number} there _ _ _ one) closed =
       let first = admitted-keeps number w in keeps_on k first (starts-keeps answers one (first.has s there) (closed_on k lawful first closed))
-  does-keeps answers (not_live {w} _) other closed = keeps_all k w
-  does-keeps answers (cancels {w} {number} _) other closed = cancelled-keeps number w
-  does-keeps answers (tells_if_live {w}) other closed = keeps_all k w
+  does-keeps answers (not_live {w} _) closed = keeps_all k w
+  does-keeps answers (cancels {w} {number} _) closed = cancelled-keeps number w
 
-  pub step-keeps : (answers : Answers) {w w' : World R} {event : Event} {reply : Reply} {requests : Requests} → Step k answers w event w' reply requests → is_link_change event ≡ false → IsClosed k w → Keeps k w w'
-  step-keeps answers (by_itself does _) other closed = does-keeps answers does other closed
-  step-keeps answers (then_others does _ others) other closed =
-      let first = does-keeps answers does other closed in keeps_on k first (starts_all-keeps answers others (closed_on k lawful first closed))
+  pub step-keeps : (answers : Answers) {w w' : World R} {event : Event} {reply : Reply} {requests : Requests} → Step k answers w event w' reply requests → IsClosed k w → Keeps k w w'
+  step-keeps answers (by_itself does _) closed = does-keeps answers does closed
+  step-keeps answers (then_others does _ others) closed =
+      let first = does-keeps answers does closed in keeps_on k first (starts_all-keeps answers others (closed_on k lawful first closed))
 
   pub begun-settled : (moment : ℕ) (w : World R) → IsSettled k w → IsSettled k (begun_at moment w)
   unfolding at begun begun_at
@@ -354,7 +336,3 @@ module _ {R : Type 0} (k : RecordRules R) (lawful : IsLawful k) where
     closed = record { closed = λ n target h. settled.closed.closed n target h };
     quiet = record { quiet = λ n has. settled.quiet.quiet n has };
   }
-
-  pub replay-settled : {w w' : World R} {entries : List Entry} → Replay k w entries w' → IsSettled k w → IsSettled k w'
-  replay-settled at_the_end settled = settled
-  replay-settled (and_then {w} {w'} {w''} {entry} {entries} first _ rest) settled = replay-settled rest (step-settled (listed entry.answers) first (begun-settled entry.moment w settled))

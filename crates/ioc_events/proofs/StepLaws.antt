@@ -1,9 +1,9 @@
 -- The rules of an event allow the result of the function, and nothing else.
-use Rattle.std.proofs.Common.{◌≡◌, ℕ, Bool, true, false, cond, List, Some, is_some, refl, sym, ap, subst, ◌∙◌}
-use Rattle.std.specs.Prelude.{Result, Ok, Err, not}
+use Rattle.std.proofs.Common.{◌≡◌, ℕ, Bool, true, false, cond, Some, refl, sym, ap, ◌∙◌}
+use Rattle.std.specs.Prelude.{Result, Ok, Err}
 use Rattle.std.specs.FinMap.{contains_key}
 use Rattle.ioc_values.specs.declared.error.IocError.{IocError}
-use Rattle.ioc_values.specs.declared.error.IocError.TheVariants.{NoRecord, NoField, PutDisabled, Stale, QueueFull}
+use Rattle.ioc_values.specs.declared.error.IocError.TheVariants.{Stale, QueueFull}
 use Rattle.ioc_values.specs.declared.input.Input.{Input}
 use Rattle.ioc_values.specs.declared.value.Value.{Value}
 use Rattle.ioc_notify.specs.declared.waiting_lists.Waiting.{Waiting}
@@ -11,33 +11,29 @@ use Rattle.ioc_notify.specs.Living.{is_live}
 use Rattle.ioc_values.specs.declared.value.Finished.{Finished}
 use Rattle.ioc_dbcommon.specs.Steps.{with_put_mark, with_reprocess_mark}
 use Rattle.ioc_fields.specs.declared.field_no.FieldNo.{FieldNo}
-use Rattle.ioc_fields.specs.Table.{row_of}
 use Rattle.ioc_ledger.specs.declared.outcome.Outcome.{Outcome}
 use Rattle.ioc_ledger.specs.declared.outcome.Outcome.TheVariants.{Reprocess}
 use Rattle.ioc_ledger.specs.Requests.{Requests, None, Request, first_outcome, followed_by}
 use Rattle.ioc_record.specs.RecordRules.{RecordRules}
 use Rattle.ioc_record.specs.Laws.{IsLawful}
-use Rattle.ioc_record.specs.Values.{text_of, put_field, stops_put}
-use Rattle.ioc_dbcommon.specs.declared.link_field.LinkField.{LinkField}
-use Rattle.ioc_dbcommon.specs.Links.{use_of, named_by}
+use Rattle.ioc_record.specs.Values.{put_field}
 use Rattle.ioc_events.specs.declared.reply.Reply.{Reply}
-use Rattle.ioc_events.specs.declared.reply.Reply.TheVariants.{Plain, Outcome as Outcome-reply, Shown, Notify as Notify-reply, Live as Live-reply}
+use Rattle.ioc_events.specs.declared.reply.Reply.TheVariants.{Plain, Outcome as Outcome-reply, Notify as Notify-reply}
 use Rattle.ioc_store.specs.World.{World, at, common_at, put, changed, has_place, admitted, queued, cancelled}
 use Rattle.ioc_events.specs.Starting.{value_to_put, must_wait, started}
 use Rattle.ioc_events.proofs.StartRules.{starts-is, starts-allowed, starts_all-is, starts_all-allowed}
-use Rattle.ioc_store.specs.Scanning.{device_of, rescanned, rewired}
+use Rattle.ioc_store.specs.Scanning.{rescanned}
 use Rattle.ioc_process.specs.Rules.{Requested}
 use Rattle.ioc_process.specs.Processing.{Done, ran, resumed_with}
 use Rattle.ioc_events.specs.declared.event.Event.{Event}
-use Rattle.ioc_events.specs.declared.event.Event.TheVariants.{Get, Process, Put, Complete, Link, Notify, Cancel, IsLive}
-use Rattle.ioc_events.specs.Step.{Stepped, is_there, all_there, refused, relinked, told, awaits, after_put, after_completion, put_with, processes, begun_or_queued, notify_with, lets_start, done_there, done_alone, with_starts, stepped}
-use Rattle.ioc_events.specs.StepRules.{Does, Step, by_itself, then_others, no_such_record, no_such_field, shows_field, processes_record, refuses_value, stores_alone, stores_while_active, stores_and_processes, not_awaited, completes_record, leads_to_no_record, no_link_field, keeps_its_link, takes_link, refuses_notified_value, no_place, waits_its_turn, starts_now, not_live, cancels, tells_if_live, Replay, at_the_end, and_then}
-use Rattle.ioc_events.specs.declared.event.Entry.{Entry}
+use Rattle.ioc_events.specs.declared.event.Event.TheVariants.{Process, Put, Complete, Notify, Cancel}
+use Rattle.ioc_events.specs.Step.{Stepped, is_there, refused, told, awaits, after_put, after_completion, put_with, processes, begun_or_queued, notify_with, lets_start, done_there, done_alone, with_starts, stepped}
+use Rattle.ioc_events.specs.StepRules.{Does, Step, by_itself, then_others, no_such_record, processes_record, refuses_value, stores_alone, stores_while_active, stores_and_processes, not_awaited, completes_record, refuses_notified_value, no_place, waits_its_turn, starts_now, not_live, cancels}
 use Rattle.ioc_process.specs.RulesAlone.{request-is, takes_completion-is}
 use Rattle.ioc_process.specs.RulesAllowed.{ran-allowed, takes_completion-allowed}
 use Rattle.ioc_process.specs.Depth.{request-rule}
 use Rattle.ioc_events.proofs.Stepping.{step-missing, step-there, step-process, step-put, step-complete, step-notify, step-no_place, step-let_in, step-cancel}
-use Rattle.ioc_store.specs.Given.{Answers, listed}
+use Rattle.ioc_store.specs.Given.{Answers}
 
 some_same : {X : Type 0} {x y : X} → Some x ≡ Some y → x ≡ y
 some_same is = cc
@@ -57,11 +53,6 @@ module _ {R : Type 0} (k : RecordRules R) (lawful : IsLawful k) (answers : Answe
       let same : (ran k answers w s).outcome ≡ outcome = some_same (first-outcome (ap (λ (d : Done R). d.requests) done) is) in
       ap (λ (d : Done R). record { world = d.world; reply = Outcome-reply (ran k answers w s).outcome; requests = d.requests }) done
       ∙ ap (λ (o : Outcome). record { world = w'; reply = Outcome-reply o; requests = requests }) same
-
-  get-is : (w : World R) (s : ℕ) (field : FieldNo) (b : Bool) → contains_key w.records s ≡ true → is_some (row_of (k.record_type (at k w s)) field) ≡ b
-      → done_alone k answers w (Get s field) ≡ cond b (record { world = w; reply = Shown (text_of k (at k w s) field); requests = None }) (refused w NoField)
-  unfolding done_there
-  get-is w s field b there is = step-there k answers w (Get s field) there ∙ rw is refl
 
   put-refused-is : (w : World R) (s : ℕ) (field : FieldNo) (given : Input) (e : IocError) → contains_key w.records s ≡ true → put_field k (at k w s) field given ≡ Err e
       → done_alone k answers w (Put s field given) ≡ refused w e
@@ -83,40 +74,16 @@ module _ {R : Type 0} (k : RecordRules R) (lawful : IsLawful k) (answers : Answe
   unfolding after_completion
   completion-is w s x done is = ap (λ (d : Done R). record { world = d.world; reply = Plain; requests = d.requests }) is
 
-  abbrev relinks : World R → ℕ → FieldNo → LinkField → World R
-  relinks w s field link = rewired k (device_of k (at k w s)) (put w s (k.with_link (at k w s) field link)) s
-
-  either_way : (w : World R) (done : Stepped R) (led has stops : Bool)
-      → cond {A = Stepped R} (not led) (refused w NoRecord) (cond {A = Stepped R} (not has) (refused w NoField) (cond {A = Stepped R} stops (refused w PutDisabled) done))
-      ≡ cond {A = Stepped R} led (cond {A = Stepped R} has (cond {A = Stepped R} stops (refused w PutDisabled) done) (refused w NoField)) (refused w NoRecord)
-  either_way w done true true stops = refl
-  either_way w done true false stops = refl
-  either_way w done false has stops = refl
-
-  relinked-is : (w : World R) (s : ℕ) (field : FieldNo) (link : LinkField) (led has stops : Bool) → contains_key w.records s ≡ true → all_there w (named_by (use_of link)) ≡ led
-      → is_some (k.link (at k w s) field) ≡ has → stops_put (common_at k w s) field ≡ stops
-      → done_alone k answers w (Link s field link)
-      ≡ cond {A = Stepped R} led (cond {A = Stepped R} has (cond {A = Stepped R} stops (refused w PutDisabled) (made (relinks w s field link) Plain None)) (refused w NoField)) (refused w NoRecord)
-  unfolding done_there relinked
-  relinked-is w s field link led has stops there is_led is_there is_stopped =
-      step-there k answers w (Link s field link) there ∙ rw (is_led, is_there, is_stopped) (either_way w (made (relinks w s field link) Plain None) led has stops)
-
   begun-is : (w : World R) (x : Waiting) (b : Bool) → must_wait k w x.target ≡ b
       → begun_or_queued k answers w x ≡ cond {A = Stepped R} b (made (queued x (admitted x.number w)) (Notify-reply x.number) None)
       (made (started k answers (admitted x.number w) x).world (Notify-reply x.number) (started k answers (admitted x.number w) x).requests)
   unfolding begun_or_queued
   begun-is w x b is = rw is refl
 
-  live-is : (w : World R) (number : ℕ) → done_alone k answers w (IsLive number) ≡ made w (Live-reply (is_live number w.live)) None
-  unfolding done_alone done_there
-  live-is w number = refl
-
   -- The rules allow no other result than that of the function.
   pub does-is : {w : World R} {event : Event} {w' : World R} {reply : Reply} {requests : Requests} → Does k answers w event w' reply requests
       → done_alone k answers w event ≡ record { world = w'; reply = reply; requests = requests }
   does-is (no_such_record {w} {event} missing) = step-missing k answers w event missing
-  does-is (no_such_field {w} {s} {field} there none) = get-is w s field false there none
-  does-is (shows_field {w} {s} {field} there some) = get-is w s field true there some
   does-is (processes_record {w} {w'} {s} {outcome} {requests} there r is) = step-process k answers w s there ∙ told-is w w' s outcome requests r is
   does-is (refuses_value {w} {s} {field} {given} {e} there is) = put-refused-is w s field given e there is
   does-is (stores_alone {w} {w'} {s} {field} {given} {r} there is stored plain) =
@@ -129,10 +96,6 @@ module _ {R : Type 0} (k : RecordRules R) (lawful : IsLawful k) (answers : Answe
   does-is (not_awaited {w} {s} {number} {x} there is) = stale-is w s number x there is
   does-is (completes_record {w} {w'} {s} {number} {x} {requests} there is r) =
       step-complete k answers w s number x there is ∙ completion-is w s x _ (takes_completion-is k lawful answers r)
-  does-is (leads_to_no_record {w} {s} {field} {link} there led) = relinked-is w s field link false _ _ there led refl refl
-  does-is (no_link_field {w} {s} {field} {link} there led has) = relinked-is w s field link true false _ there led has refl
-  does-is (keeps_its_link {w} {s} {field} {link} there led has stops) = relinked-is w s field link true true true there led has stops
-  does-is (takes_link {w} {s} {field} {link} there led has stops) = relinked-is w s field link true true false there led has stops
   does-is (refuses_notified_value {w} {s} {number} {field} {given} {e} there is) = step-notify k answers w s number field given (Err e) there is
   does-is (no_place {w} {s} {number} {field} {given} {v} there is full) = step-no_place k answers w s number field given v there is full
   does-is (waits_its_turn {w} {s} {number} {field} {given} {v} there is place waits) =
@@ -143,7 +106,6 @@ module _ {R : Type 0} (k : RecordRules R) (lawful : IsLawful k) (answers : Answe
       ∙ ap (λ (d : Done R). made d.world (Notify-reply number) d.requests) (starts-is k lawful answers r)
   does-is (not_live {w} {number} is) = step-cancel k answers w number false is
   does-is (cancels {w} {number} is) = step-cancel k answers w number true is
-  does-is (tells_if_live {w} {number}) = live-is w number
 
   -- Lemmas that the result of the function is allowed.
 
@@ -153,16 +115,6 @@ module _ {R : Type 0} (k : RecordRules R) (lawful : IsLawful k) (answers : Answe
   process-allowed : (w : World R) (s : ℕ) → contains_key w.records s ≡ true → Allows w (Process s) (told k answers w s)
   unfolding told Allows
   process-allowed w s there = processes_record there (ran-allowed k lawful answers w s) refl
-
-  get-allowed : (w : World R) (s : ℕ) (field : FieldNo) → contains_key w.records s ≡ true → Allows w (Get s field) (done_there k answers w (Get s field))
-  unfolding Allows done_there
-  get-allowed w s field there =
-      elim (is_some (row_of (k.record_type (at k w s)) field)) as (λ b. is_some (row_of (k.record_type (at k w s)) field) ≡ b →
-      let x = cond {A = Stepped R} b (record { world = w; reply = Shown (text_of k (at k w s) field); requests = None }) (refused w NoField) in
-      Does k answers w (Get s field) x.world x.reply x.requests) [
-        | true ↦ λ some. shows_field there some
-        | false ↦ λ none. no_such_field there none
-      ] refl
 
   after-allowed : (w : World R) (s : ℕ) (field : FieldNo) (given : Input) (r : R) → contains_key w.records s ≡ true → put_field k (at k w s) field given ≡ Ok r
       → Allows w (Put s field given) (after_put k answers (rescanned k (put w s r) s field) s field)
@@ -194,20 +146,6 @@ module _ {R : Type 0} (k : RecordRules R) (lawful : IsLawful k) (answers : Answe
       Does k answers w (Complete s number x) done.world done.reply done.requests) [
         | true ↦ λ is. completes_record there is (takes_completion-allowed k lawful answers w s x)
         | false ↦ λ is. not_awaited there is
-      ] refl
-
-  link-allowed : (w : World R) (s : ℕ) (field : FieldNo) (link : LinkField) → contains_key w.records s ≡ true → Allows w (Link s field link) (done_alone k answers w (Link s field link))
-  unfolding Allows
-  link-allowed w s field link there =
-      elim (all_there w (named_by (use_of link))) as (λ b. all_there w (named_by (use_of link)) ≡ b → Allows w (Link s field link) (done_alone k answers w (Link s field link))) [
-        | true ↦ λ led. elim (is_some (k.link (at k w s) field)) as (λ b. is_some (k.link (at k w s) field) ≡ b → Allows w (Link s field link) (done_alone k answers w (Link s field link))) [
-          | true ↦ λ has. elim (stops_put (common_at k w s) field) as (λ b. stops_put (common_at k w s) field ≡ b → Allows w (Link s field link) (done_alone k answers w (Link s field link))) [
-            | true ↦ λ stops. rw (relinked-is w s field link true true true there led has stops) (keeps_its_link there led has stops)
-            | false ↦ λ stops. rw (relinked-is w s field link true true false there led has stops) (takes_link there led has stops)
-          ] refl
-          | false ↦ λ has. rw (relinked-is w s field link true false _ there led has refl) (no_link_field there led has)
-        ] refl
-        | false ↦ λ led. rw (relinked-is w s field link false _ _ there led refl refl) (leads_to_no_record there led)
       ] refl
 
   let_in-allowed : (w : World R) (s number : ℕ) (field : FieldNo) (given : Input) (v : Value) → contains_key w.records s ≡ true → value_to_put k (at k w s) field given ≡ Ok v → has_place w number ≡ true
@@ -244,20 +182,13 @@ module _ {R : Type 0} (k : RecordRules R) (lawful : IsLawful k) (answers : Answe
         | false ↦ λ not. not_live not
       ] refl
 
-  live-allowed : (w : World R) (number : ℕ) → Allows w (IsLive number) (done_there k answers w (IsLive number))
-  unfolding Allows done_there
-  live-allowed w number = tells_if_live
-
   there-allowed : (w : World R) (event : Event) → is_there w event ≡ true → Allows w event (done_there k answers w event)
   unfolding done_there
-  there-allowed w (Get s field) there = get-allowed w s field there
   there-allowed w (Process s) there = process-allowed w s there
   there-allowed w (Put s field given) there = put-allowed w s field given _ there refl
   there-allowed w (Complete s number x) there = complete-allowed w s number x there
-  there-allowed w (Link s field link) there = subst (Allows w (Link s field link)) (step-there k answers w (Link s field link) there) (link-allowed w s field link there)
   there-allowed w (Notify s number field given) there = notify-allowed w s number field given _ there refl
   there-allowed w (Cancel number) there = cancel-allowed w number
-  there-allowed w (IsLive number) there = live-allowed w number
 
   pub does-allowed : (w : World R) (event : Event) → Does k answers w event (done_alone k answers w event).world (done_alone k answers w event).reply (done_alone k answers w event).requests
   unfolding Allows
@@ -269,17 +200,17 @@ module _ {R : Type 0} (k : RecordRules R) (lawful : IsLawful k) (answers : Answe
 
   -- Lemmas about the starts after an event.
 
-  starting-is : (event : Event) (first : Stepped R) (b : Bool) → lets_start event first.reply ≡ b
-      → cond {A = Stepped R} (lets_start event first.reply) (with_starts k answers first) first ≡ cond {A = Stepped R} b (with_starts k answers first) first
+  starting-is : (event : Event) (first : Stepped R) (b : Bool) → lets_start first.reply ≡ b
+      → cond {A = Stepped R} (lets_start first.reply) (with_starts k answers first) first ≡ cond {A = Stepped R} b (with_starts k answers first) first
   starting-is event first b is = ap (λ (c : Bool). cond {A = Stepped R} c (with_starts k answers first) first) is
 
   pub step-is : {w : World R} {event : Event} {w' : World R} {reply : Reply} {requests : Requests} → Step k answers w event w' reply requests
       → stepped k answers w event ≡ record { world = w'; reply = reply; requests = requests }
   unfolding stepped
   step-is (by_itself {w} {w'} {event} {reply} {requests} does lets) =
-      ap (λ (x : Stepped R). cond {A = Stepped R} (lets_start event x.reply) (with_starts k answers x) x) (does-is does) ∙ starting-is event (made w' reply requests) false lets
+      ap (λ (x : Stepped R). cond {A = Stepped R} (lets_start x.reply) (with_starts k answers x) x) (does-is does) ∙ starting-is event (made w' reply requests) false lets
   step-is (then_others {w} {w'} {w''} {event} {reply} {first} {rest} does lets others) =
-      ap (λ (x : Stepped R). cond {A = Stepped R} (lets_start event x.reply) (with_starts k answers x) x) (does-is does) ∙ starting-is event (made w' reply first) true lets
+      ap (λ (x : Stepped R). cond {A = Stepped R} (lets_start x.reply) (with_starts k answers x) x) (does-is does) ∙ starting-is event (made w' reply first) true lets
       ∙ ap (λ (d : Done R). made d.world reply (followed_by first d.requests)) (starts_all-is k lawful answers others)
 
   StepAllows : World R → Event → Stepped R → Type 0
@@ -289,15 +220,7 @@ module _ {R : Type 0} (k : RecordRules R) (lawful : IsLawful k) (answers : Answe
   unfolding stepped StepAllows
   step-allowed w event =
       let first = done_alone k answers w event in
-      elim (lets_start event first.reply) as (λ b. lets_start event first.reply ≡ b → StepAllows w event (cond {A = Stepped R} b (with_starts k answers first) first)) [
+      elim (lets_start first.reply) as (λ b. lets_start first.reply ≡ b → StepAllows w event (cond {A = Stepped R} b (with_starts k answers first) first)) [
         | true ↦ λ lets. then_others (does-allowed w event) lets (starts_all-allowed k lawful answers first.world)
         | false ↦ λ lets. by_itself (does-allowed w event) lets
       ] refl
-
-module _ {R : Type 0} (k : RecordRules R) (lawful : IsLawful k) where
-  -- A list of events replays in one way.
-  pub replay-is : {w w' w'' : World R} {entries : List Entry} → Replay k w entries w' → Replay k w entries w'' → w' ≡ w''
-  replay-is at_the_end at_the_end = refl
-  replay-is (and_then {w} {w'} {w''} {entry} {entries} first _ rest) (and_then second _ others) =
-      let same = sym (step-is k lawful (listed entry.answers) first) ∙ step-is k lawful (listed entry.answers) second in
-      replay-is (subst (λ (v : World R). Replay k v entries w'') (ap (λ (x : Stepped R). x.world) same) rest) others

@@ -27,23 +27,12 @@ use Rattle.ioc_process.specs.Processing.{Done, ran, processed, resumed_with}
 use Rattle.ioc_process.specs.Runs.{Comes, Leaves}
 use Rattle.ioc_events.specs.declared.event.Event.{Event}
 use Rattle.ioc_events.specs.declared.event.Event.TheVariants.{Process, Put, Complete, Notify, Cancel}
-use Rattle.ioc_events.specs.declared.event.SetEvent.{SetEvent}
-use Rattle.ioc_events.specs.declared.event.SetEvent.TheVariants.{Process as process, Put as put-event, Complete as complete, Notify as notify, Cancel as cancel}
-use Rattle.ioc_events.specs.SetReply.{event_by}
 use Rattle.ioc_events.specs.Step.{Stepped, is_there, is_refusal, lets_start, refused, told, processes, awaits, after_put, after_completion, put_with, begun_or_queued, notify_with, done_there, done_alone, with_starts, stepped, completes, calls_since, tallied}
 use Rattle.ioc_events.specs.Events.{Tells, Makes, ends, Ends}
 use Rattle.ioc_events.specs.Starting.{value_to_put, all_started}
 use Rattle.ioc_notify.specs.Living.{is_live}
 use Rattle.ioc_process.specs.Bodies.{counted-followed_by}
 use Rattle.ioc_store.specs.Scanning.{rescanned}
-
--- Waiting puts with notification start after each event on a set that isn't refused.
-pub set-lets_start : (event : SetEvent) (reply : Reply) → lets_start (event_by event) reply ≡ not (is_refusal reply)
-set-lets_start (process s) reply = refl
-set-lets_start (put-event s field given) reply = refl
-set-lets_start (complete s wait finished) reply = refl
-set-lets_start (notify s number field given) reply = refl
-set-lets_start (cancel number) reply = refl
 
 module _ {R : Type 0} (k : RecordRules R) where
   module _ (answers : Answers) where
@@ -146,9 +135,9 @@ module _ {R : Type 0} (k : RecordRules R) where
       tally : t2 ≡ counted_started (counted t done.requests) (later_among (drop asked w2.calls))
 
     ended : (w1 w2 : World R) (event : Event) (reply : Reply) (requests : Requests) (asked : ℕ) (t t1 t2 : Tally) (b : Bool) → t1 ≡ counted t requests
-        → lets_start event reply ≡ not b → Ends w2 asked t1 t2 (cond {A = Done R} b (record { world = w1; requests = None }) (all_started k answers w1))
+        → lets_start reply ≡ not b → Ends w2 asked t1 t2 (cond {A = Done R} b (record { world = w1; requests = None }) (all_started k answers w1))
         → let first : Stepped R = record { world = w1; reply = reply; requests = requests } in
-        IsStepped w2 asked reply t t2 (cond {A = Stepped R} (lets_start event reply) (with_starts k answers first) first)
+        IsStepped w2 asked reply t t2 (cond {A = Stepped R} (lets_start reply) (with_starts k answers first) first)
     ended w1 w2 event reply requests asked t t1 t2 true counts lets ends =
         rw lets (record { world = ends.world; reply_is = refl; tally = ends.tally ∙ ap (λ (x : Tally). counted_started x (later_among (drop asked w2.calls))) counts })
     ended w1 w2 event reply requests asked t t1 t2 false counts lets ends =
@@ -160,11 +149,11 @@ module _ {R : Type 0} (k : RecordRules R) where
         })
 
     is_stepped : (w w1 w2 : World R) (event : Event) (reply : Reply) (asked : ℕ) (t t1 t2 : Tally) → Makes w1 reply t t1 (done_alone k answers w event)
-        → lets_start event reply ≡ not (is_refusal reply) → Ends w2 asked t1 t2 (ends k answers w1 reply) → IsStepped w2 asked reply t t2 (stepped k answers w event)
+        → lets_start reply ≡ not (is_refusal reply) → Ends w2 asked t1 t2 (ends k answers w1 reply) → IsStepped w2 asked reply t t2 (stepped k answers w event)
     unfolding stepped
     is_stepped w w1 w2 event reply asked t t1 t2 makes lets ends =
         let first = done_alone k answers w event in
-        subst (λ (x : Stepped R). IsStepped w2 asked reply t t2 (cond {A = Stepped R} (lets_start event x.reply) (with_starts k answers x) x)) (same-first first w1 reply t t1 makes)
+        subst (λ (x : Stepped R). IsStepped w2 asked reply t t2 (cond {A = Stepped R} (lets_start x.reply) (with_starts k answers x) x)) (same-first first w1 reply t t1 makes)
         (ended w1 w2 event reply first.requests asked t t1 t2 (is_refusal reply) makes.tally lets ends)
 
     tells-from : (w w2 : World R) (event : Event) (reply : Reply) (t t2 counts : Tally) (done : Stepped R) → IsStepped w2 (length w.calls) reply t t2 done
@@ -180,7 +169,7 @@ module _ {R : Type 0} (k : RecordRules R) where
 
     -- An event by itself, and what follows it.
     pub tells-event : (w w1 w2 : World R) (event : Event) (reply : Reply) (asked : ℕ) (t t1 t2 counts : Tally) → asked ≡ length w.calls → Makes w1 reply t t1 (done_alone k answers w event)
-        → lets_start event reply ≡ not (is_refusal reply) → Ends w2 asked t1 t2 (ends k answers w1 reply) → counts ≡ cond (completes event reply) (counted_completion t2) t2
+        → lets_start reply ≡ not (is_refusal reply) → Ends w2 asked t1 t2 (ends k answers w1 reply) → counts ≡ cond (completes event reply) (counted_completion t2) t2
         → Tells w w2 reply t counts event (stepped k answers w event)
     tells-event w w1 w2 event reply asked t t1 t2 counts at_first makes lets ends counted_last =
         tells-from w w2 event reply t t2 counts _ (subst (λ (n : ℕ). IsStepped w2 n reply t t2 (stepped k answers w event)) at_first (is_stepped w w1 w2 event reply asked t t1 t2 makes lets ends)) counted_last

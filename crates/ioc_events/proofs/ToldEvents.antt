@@ -14,19 +14,17 @@ use Rattle.ioc_record.specs.Values.{put_field}
 use Rattle.ioc_record.specs.Laws.{IsLawful}
 use Rattle.ioc_store.specs.World.{World, Has, at, common_at, put, begun, begun_at, admitted, queued, unqueued, cancelled}
 use Rattle.ioc_store.specs.Freeing.{at_cancelled-either, at_missing}
-use Rattle.ioc_store.specs.Given.{Answers, listed}
+use Rattle.ioc_store.specs.Given.{Answers}
 use Rattle.ioc_store.specs.Scanning.{rescanned}
-use Rattle.ioc_store.specs.ScanLaws.{rewired-either}
 use Rattle.ioc_process.specs.Rules.{IdleIsFree, IsSettled}
-use Rattle.ioc_process.specs.Telling.{IsFree, told-put, told-changed, changed-other, put-other, moved-told, rescanned-told, notified-told, requested-told, resumes-told}
+use Rattle.ioc_process.specs.Telling.{IsFree, told-put, told-changed, changed-other, put-other, rescanned-told, notified-told, requested-told, resumes-told}
 use Rattle.ioc_events.specs.declared.event.Event.{Event}
-use Rattle.ioc_events.specs.declared.event.Entry.{Entry}
 use Rattle.ioc_events.specs.declared.reply.Reply.{Reply}
 use Rattle.ioc_events.specs.Starting.{is_ready, taken_and_stored, NoneReady}
 use Rattle.ioc_events.specs.Holding.{HoldersAwait}
-use Rattle.ioc_events.specs.StepRules.{Does, Step, by_itself, then_others, Starts, to_be_processed, at_once_told, StartsAll, no_more, next_starts, no_such_record, no_such_field, shows_field, processes_record, refuses_value, stores_alone, stores_while_active, stores_and_processes, not_awaited, completes_record, leads_to_no_record, no_link_field, keeps_its_link, takes_link, refuses_notified_value, no_place, waits_its_turn, starts_now, not_live, cancels, tells_if_live, Replay, at_the_end, and_then}
+use Rattle.ioc_events.specs.StepRules.{Does, Step, by_itself, then_others, Starts, to_be_processed, at_once_told, StartsAll, no_more, next_starts, no_such_record, processes_record, refuses_value, stores_alone, stores_while_active, stores_and_processes, not_awaited, completes_record, refuses_notified_value, no_place, waits_its_turn, starts_now, not_live, cancels}
 use Rattle.ioc_events.proofs.Stepping.{put_active, put_notification}
-use Rattle.ioc_events.proofs.QuietEvents.{step-settled, begun-settled}
+use Rattle.ioc_events.proofs.QuietEvents.{step-settled}
 use Rattle.ioc_events.proofs.NoneReady.{step-none}
 
 module _ {R : Type 0} (k : RecordRules R) (lawful : IsLawful k) (n : ℕ) where
@@ -68,8 +66,6 @@ module _ {R : Type 0} (k : RecordRules R) (lawful : IsLawful k) (n : ℕ) where
   does-told : (answers : Answers) {w w' : World R} {event : Event} {reply : Reply} {requests : Requests} → Does k answers w event w' reply requests → Free w → Free w'
   unfolding admitted queued
   does-told answers (no_such_record _) told = told
-  does-told answers (no_such_field _ _) told = told
-  does-told answers (shows_field _ _) told = told
   does-told answers (processes_record _ r _) told = requested-told k lawful n answers r (λ _. told)
   does-told answers (refuses_value _ _) told = told
   does-told answers (stores_alone {w} {w'} {s} {field} {given} {r} _ is stored _) told = stored-told w w' s field given r is stored told
@@ -79,19 +75,12 @@ module _ {R : Type 0} (k : RecordRules R) (lawful : IsLawful k) (n : ℕ) where
       requested-told k lawful n answers q (λ _. told-changed k lawful n w' s (with_put_mark true) (λ c. refl) (λ c. refl) (stored-told w w' s field given r is stored told))
   does-told answers (not_awaited _ _) told = told
   does-told answers (completes_record _ _ r) told = resumes-told k lawful n answers r (λ _. told)
-  does-told answers (leads_to_no_record _ _) told = told
-  does-told answers (no_link_field _ _ _) told = told
-  does-told answers (keeps_its_link _ _ _ _) told = told
-  does-told answers (takes_link {w} {s} {field} {link} _ _ _ _) told =
-      let linked = told-put k lawful n w s (k.with_link (at k w s) field link) (lawful.link_set_active (at k w s) field link) (ap (λ (c : Common). c.notification) (lawful.link_set_common (at k w s) field link)) told in
-      rewired-either k Free _ _ s linked (moved-told k lawful n _ s linked)
   does-told answers (refuses_notified_value _ _) told = told
   does-told answers (no_place _ _ _) told = told
   does-told answers (waits_its_turn {w} _ _ _ _) told = beside-told _ _ w told
   does-told answers (starts_now {w} _ _ _ _ one) told = starts-told answers one (beside-told _ _ w told)
   does-told answers (not_live _) told = told
   does-told answers (cancels {w} {number} _) told = cancelled-told number w told
-  does-told answers tells_if_live told = told
 
   pub step-told : (answers : Answers) {w w' : World R} {event : Event} {reply : Reply} {requests : Requests} → Step k answers w event w' reply requests → Free w → Free w'
   step-told answers (by_itself does _) told = does-told answers does told
@@ -126,14 +115,14 @@ unready-active true false o is = cc
 unready-active false active o is = refl
 
 module _ {R : Type 0} (k : RecordRules R) (lawful : IsLawful k) where
-  all-told : (w : World R) → IsSettled k w → HoldersAwait k w → (n : ℕ) → IsFree k lawful n w
+  pub all-told : (w : World R) → IsSettled k w → HoldersAwait k w → (n : ℕ) → IsFree k lawful n w
   all-told w settled await n idle =
       elim (contains_key w.records n) as (λ b. contains_key w.records n ≡ b → (common_at k w n).notification ≡ Nothing_) [
         | true ↦ λ has. some-one _ (λ some. not-both ((settled.quiet.quiet n has).1 (await.records n has some)) idle)
         | false ↦ λ isnt. absurd (not-both (ap (λ (r : R). (k.common r).active) (at_missing k 0 w n isnt) ∙ lawful.missing_is_active) idle)
       ] refl
 
-  none-ready : (w : World R) → IsSettled k w → HoldersAwait k w → NoneReady k w
+  pub none-ready : (w : World R) → IsSettled k w → HoldersAwait k w → NoneReady k w
   unfolding is_ready
   none-ready w settled await = record {
     none = λ x h. elim (contains_key w.records x.target) as (λ b. contains_key w.records x.target ≡ b → b && (not (common_at k w x.target).active && not (is_some (common_at k w x.target).notification)) ≡ false) [
@@ -146,7 +135,7 @@ module _ {R : Type 0} (k : RecordRules R) (lawful : IsLawful k) where
   unfolding is_ready
   ready-of w x unready has idle = ready-parts (contains_key w.records x.target) (common_at k w x.target).active (common_at k w x.target).notification unready has idle
 
-  awaits-of : (w : World R) → IsSettled k w → ((n : ℕ) → IsFree k lawful n w) → NoneReady k w → HoldersAwait k w
+  pub awaits-of : (w : World R) → IsSettled k w → ((n : ℕ) → IsFree k lawful n w) → NoneReady k w → HoldersAwait k w
   awaits-of w settled told none = record {
     records = λ n has some. (settled.quiet.quiet n has).0 (true_from _ (λ idle. some-not_none some (told n idle)));
     waiting = λ x h has. (settled.quiet.quiet x.target has).0 (true_from _ (λ idle. some-not_none (ready-of w x (none.none x h) has idle) (told x.target idle)));
@@ -156,12 +145,6 @@ module _ {R : Type 0} (k : RecordRules R) (lawful : IsLawful k) where
   step-awaits answers {w} {w'} step settled await =
       awaits-of w' (step-settled k lawful answers step settled) (λ n. step-told k lawful n answers step (all-told w settled await n)) (step-none k lawful answers step (none-ready w settled await))
 
-  begun-awaits : (moment : ℕ) (w : World R) → HoldersAwait k w → HoldersAwait k (begun_at moment w)
+  pub begun-awaits : (moment : ℕ) (w : World R) → HoldersAwait k w → HoldersAwait k (begun_at moment w)
   unfolding at begun begun_at
   begun-awaits moment w await = record { records = λ n has some. await.records n has some; waiting = λ x h has. await.waiting x h has }
-
-  pub replay-awaits : {w w' : World R} {entries : List Entry} → Replay k w entries w' → IsSettled k w → HoldersAwait k w → HoldersAwait k w'
-  replay-awaits at_the_end settled await = await
-  replay-awaits (and_then {w} {w'} {w''} {entry} {entries} step _ rest) settled await =
-      let first = begun-settled k lawful entry.moment w settled in
-      replay-awaits rest (step-settled k lawful (listed entry.answers) step first) (step-awaits (listed entry.answers) step first (begun-awaits entry.moment w await))

@@ -1,5 +1,5 @@
 -- A request leaves the waiting list unchanged.
-use Rattle.std.proofs.Common.{◌≡◌, nat_eq, ℕ, zero, suc, Bool, true, false, cond, List, [], ◌∷◌, ◌++◌, length, Option, Some, None as Nothing_, is_some, refl, ap, subst, ◌∙◌, inl, inr, arith}
+use Rattle.std.proofs.Common.{◌≡◌, nat_eq, ℕ, zero, suc, true, false, cond, List, [], ◌∷◌, ◌++◌, length, Option, Some, None as Nothing_, refl, ap, subst, ◌∙◌, inl, inr, arith}
 use Rattle.std.specs.Prelude.{nat_lt, not, Contains, Result, Ok, Err}
 use Rattle.ioc_ledger.specs.Requests.{None, more}
 use Rattle.ioc_notify.specs.declared.waiting_lists.Waiting.{Waiting}
@@ -13,24 +13,21 @@ use Rattle.ioc_store.specs.World.{World, at, common_at, put, changed, called, se
 use Rattle.ioc_notify.specs.Waits.{without}
 use Rattle.ioc_notify.specs.Living.{is_live}
 use Rattle.ioc_store.specs.Given.{Answers}
-use Rattle.ioc_store.specs.Scanning.{device_of, rescanned, rewired}
+use Rattle.ioc_store.specs.Scanning.{rescanned, rewired}
 use Rattle.ioc_store.specs.Notifying.{notified}
 use Rattle.ioc_process.specs.Processing.{request}
 use Rattle.ioc_events.specs.declared.event.Event.{Event}
-use Rattle.ioc_events.specs.declared.event.Event.TheVariants.{Get, Process, Put, Complete, Link, Notify, Cancel, IsLive}
-use Rattle.ioc_events.specs.declared.reply.Reply.TheVariants.{Plain, Outcome as Outcome-reply, Shown, Notify as Notify-reply}
+use Rattle.ioc_events.specs.declared.event.Event.TheVariants.{Process, Put, Complete, Notify, Cancel}
+use Rattle.ioc_events.specs.declared.reply.Reply.TheVariants.{Plain, Outcome as Outcome-reply, Notify as Notify-reply}
 use Rattle.ioc_events.specs.Local.{number_of}
-use Rattle.ioc_events.specs.Step.{Stepped, is_there, all_there, refused, told, after_put, after_completion, awaits, put_with, relinked, begun_or_queued, notify_with, done_there, done_alone}
+use Rattle.ioc_events.specs.Step.{Stepped, is_there, refused, told, after_put, after_completion, awaits, put_with, begun_or_queued, notify_with, done_there, done_alone}
 use Rattle.ioc_values.specs.declared.error.IocError.{IocError}
-use Rattle.ioc_values.specs.declared.error.IocError.TheVariants.{NoRecord, NoField, PutDisabled, Stale, QueueFull}
+use Rattle.ioc_values.specs.declared.error.IocError.TheVariants.{NoRecord, Stale, QueueFull}
 use Rattle.ioc_values.specs.declared.value.Value.{Value}
 use Rattle.ioc_values.specs.declared.value.Finished.{Finished}
-use Rattle.ioc_fields.specs.Table.{row_of}
 use Rattle.ioc_ledger.specs.Requests.{Request}
 use Rattle.ioc_ledger.specs.declared.outcome.Outcome.TheVariants.{Reprocess}
-use Rattle.ioc_dbcommon.specs.declared.link_field.LinkField.{LinkField}
-use Rattle.ioc_dbcommon.specs.Links.{use_of, named_by}
-use Rattle.ioc_record.specs.Values.{text_of, put_field, stops_put}
+use Rattle.ioc_record.specs.Values.{put_field}
 use Rattle.std.proofs.lemmas.List.Elements.{Contains-append_cases}
 use Rattle.ioc_events.specs.Starting.{value_to_put, must_wait}
 use Rattle.ioc_events.specs.Starting.{processes, taken_and_stored, started}
@@ -170,22 +167,6 @@ module _ {R : Type 0} (k : RecordRules R) (lawful : IsLawful k) where
   rewired-waiting before w n =
       rewired-either k (λ v. v.waiting ≡ w.waiting) before w n refl (moved-either k (λ v. v.waiting ≡ w.waiting) w n (λ item. sent-waiting item _ ∙ marked-waiting w n _) (lost-waiting w))
 
-  linked-waiting : (answers : Answers) (w : World R) (s : ℕ) (field : FieldNo) (link : LinkField) → (relinked k answers w s field link).world.waiting ≡ w.waiting
-  unfolding relinked
-  linked-waiting answers w s field link =
-      let done : Stepped R = record { world = rewired k (device_of k (at k w s)) (put w s (k.with_link (at k w s) field link)) s; reply = Plain; requests = None } in
-      let last : Bool → Stepped R = λ b. cond {A = Stepped R} b (refused w PutDisabled) done in
-      elim (not (all_there w (named_by (use_of link)))) as (λ a. (cond {A = Stepped R} a (refused w NoRecord) (cond {A = Stepped R} (not (is_some (k.link (at k w s) field))) (refused w NoField) (last (stops_put (common_at k w s) field)))).world.waiting ≡ w.waiting) [
-        | true ↦ refl
-        | false ↦ elim (not (is_some (k.link (at k w s) field))) as (λ a. (cond {A = Stepped R} a (refused w NoField) (last (stops_put (common_at k w s) field))).world.waiting ≡ w.waiting) [
-          | true ↦ refl
-          | false ↦ elim (stops_put (common_at k w s) field) as (λ a. (cond {A = Stepped R} a (refused w PutDisabled) done).world.waiting ≡ w.waiting) [
-            | true ↦ refl
-            | false ↦ rewired-waiting _ _ s ∙ put-waiting w s _
-          ]
-        ]
-      ]
-
   -- One that waits afterwards waited before, or is that of the event.
   Within : (Waiting → Type 0) → World R → Type 0
   Within P w = (x : Waiting) → Contains w.waiting x → P x
@@ -230,11 +211,6 @@ module _ {R : Type 0} (k : RecordRules R) (lawful : IsLawful k) where
 
   there-within : (answers : Answers) (P : Waiting → Type 0) (w : World R) (event : Event) → ((x : Waiting) → number_of w event ≡ Some x.number → P x) → Within P w → Within P (done_there k answers w event).world
   unfolding done_there
-  there-within answers P w (Get s field) own within =
-      within-same P w _ (elim (is_some (row_of (k.record_type (at k w s)) field)) as (λ b. (cond {A = Stepped R} b (record { world = w; reply = Shown (text_of k (at k w s) field); requests = None }) (refused w NoField)).world.waiting ≡ w.waiting) [
-        | true ↦ refl
-        | false ↦ refl
-      ]) within
   there-within answers P w (Process s) own within = within-same P w _ (told-waiting answers w s) within
   there-within answers P w (Put s field given) own within = within-same P w _ (put_with-waiting answers w s field (put_field k (at k w s) field given)) within
   there-within answers P w (Complete s number x) own within =
@@ -242,10 +218,8 @@ module _ {R : Type 0} (k : RecordRules R) (lawful : IsLawful k) where
         | true ↦ completion-waiting answers w s x
         | false ↦ refl
       ]) within
-  there-within answers P w (Link s field link) own within = within-same P w _ (linked-waiting answers w s field link) within
   there-within answers P w (Notify s number field given) own within = notify-within answers P w s number field (value_to_put k (at k w s) field given) own within
   there-within answers P w (Cancel number) own within = cancel-within P w number within
-  there-within answers P w (IsLive number) own within = within
 
   pub alone-within : (answers : Answers) (P : Waiting → Type 0) (w : World R) (event : Event) → ((x : Waiting) → number_of w event ≡ Some x.number → P x)
       → ((x : Waiting) → Contains w.waiting x → P x) → (x : Waiting) → Contains (done_alone k answers w event).world.waiting x → P x

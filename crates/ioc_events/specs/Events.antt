@@ -1,7 +1,6 @@
 -- The effect of the code of an event in terms of the effect of the event.
 use Rattle.std.specs.Prelude.{◌≡◌, ℕ, Bool, drop, if◌then◌else◌, Option, Some, None as Nothing_, Result, Ok, Err}
-use Rattle.ioc_record.specs.declared.put_fault.PutFault.{PutFault}
-use Rattle.ioc_record.specs.PutFaults.{error_of}
+use Rattle.ioc_values.specs.declared.error.IocError.{IocError}
 use Rattle.ioc_ledger.specs.declared.outcome.Outcome.{Outcome}
 use Rattle.ioc_ledger.specs.declared.tally.Tally.{Tally}
 use Rattle.ioc_ledger.specs.Requests.{None, counted, counted_started}
@@ -16,12 +15,11 @@ use Rattle.ioc_process.specs.Runs.{ForAnswers}
 use Rattle.ioc_events.specs.Starting.{all_started}
 use Rattle.ioc_events.specs.Step.{Stepped, is_refusal, done_alone, stepped, tallied}
 
--- The reply for the effect of a request or a put: the outcome of the request, if there was one, or
--- a refusal.
-abbrev pub reply_of : Result (Option Outcome) PutFault → Reply
+-- The reply of a request or a put: the outcome of the request, if there was one, or a refusal.
+abbrev pub reply_of : Result (Option Outcome) IocError → Reply
 reply_of (Ok (Some outcome)) = Outcome-reply outcome
 reply_of (Ok Nothing_) = Plain
-reply_of (Err e) = Refused (error_of e)
+reply_of (Err e) = Refused e
 
 -- The database, the reply and the tally after this event.
 pub record Tells {R : Type 0} (w after : World R) (result : Reply) (before counts : Tally) (event : Event) (done : Stepped R) : Type 0 where

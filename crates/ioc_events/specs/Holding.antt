@@ -3,22 +3,31 @@
 --
 -- Application Developer's Guide, "Put with Notification" (dbPutNotify, dbNotifyCompletion): it is
 -- complete when all that it has reached is done.
-use Rattle.std.specs.Prelude.{◌≡◌, ◌≢◌, ◌⊎◌, ◌↔◌, ℕ, ◌+◌, ◌≤◌, ◌<◌, ◌^◌, ◌==◌, if◌then◌else◌, nat_lt, Some, IsSome, List, [], ◌∷◌, Contains}
+use Rattle.std.specs.Prelude.{◌≡◌, ◌⊎◌, ◌↔◌, ℕ, ◌+◌, ◌≤◌, ◌<◌, ◌^◌, ◌==◌, if◌then◌else◌, nat_lt, Some, IsSome, List, [], ◌∷◌, Contains}
 use Rattle.std.specs.FinMap.{entries, len}
 use Rattle.ioc_notify.specs.Living.{holders_of}
 use Rattle.ioc_notify.specs.declared.waiting_lists.Waiting.{Waiting}
 use Rattle.ioc_record.specs.RecordRules.{RecordRules}
 use Rattle.ioc_store.specs.World.{World, Has, IsClosed, common_at, total, is_notification}
-use Rattle.ioc_events.specs.declared.event.Event.{Event}
 use Rattle.ioc_events.specs.declared.event.Event.TheVariants.{Cancel}
 use Rattle.ioc_events.specs.declared.event.Entry.{Entry}
-use Rattle.ioc_events.specs.declared.reply.Reply.{Reply}
+use Rattle.ioc_events.specs.declared.event.Call.{Call}
+use Rattle.ioc_events.specs.declared.event.Call.TheVariants as call
 use Rattle.ioc_events.specs.declared.reply.Reply.TheVariants.{Notify as Notify-reply}
 
 -- The number of items of a list with this number.
 abbrev pub how_many : {A : Type 0} → (A → ℕ) → ℕ → List A → ℕ
 how_many number n [] = 0
 how_many number n (x ∷ xs) = if number x == n then 1 + how_many number n xs else how_many number n xs
+
+-- Holds of the call that begins this put with notification, and of one that cancels it.
+abbrev pub Begins : Call → ℕ → Type 0
+Begins (call.Event event reply) n = reply ≡ Notify-reply n
+Begins _ n = ⊥
+
+abbrev pub Cancels : Call → ℕ → Type 0
+Cancels (call.Event event reply) n = event ≡ Cancel n
+Cancels _ n = ⊥
 
 module _ {R : Type 0} (k : RecordRules R) where
   abbrev pub one_if_has : ℕ → R → ℕ
@@ -52,11 +61,11 @@ module _ {R : Type 0} (k : RecordRules R) where
         → Contains w.waiting x
         → IsHeld w x.number
 
-  -- An event ends a put with notification if and only if something was part of it before, or it
-  -- began by this event, and nothing is part of it afterwards, unless it was cancelled. The event
-  -- ends it once.
-  pub record EndsExactly (before : World R) (event : Event) (reply : Reply) (after : World R) : Type 0 where
-    pub ended : (n : ℕ) → Contains after.ended n ↔ ((IsHeld before n ⊎ (reply ≡ Notify-reply n)) × (IsHeld after n → ⊥) × (event ≢ Cancel n))
+  -- A call ends a put with notification if and only if something was part of it before, or it began
+  -- by this call, and nothing is part of it afterwards, unless it was cancelled. The call ends it
+  -- once.
+  pub record EndsExactly (before : World R) (c : Call) (after : World R) : Type 0 where
+    pub ended : (n : ℕ) → Contains after.ended n ↔ ((IsHeld before n ⊎ Begins c n) × (IsHeld after n → ⊥) × (Cancels c n → ⊥))
     pub once : (n : ℕ) → how_many (λ m. m) n after.ended ≤ 1
 
   -- Between events, a record that is part of a put with notification awaits a completion, and so
@@ -70,6 +79,6 @@ module _ {R : Type 0} (k : RecordRules R) where
     pub not_held : IsHeld w n → ⊥
     pub not_ended : Contains w.ended n → ⊥
 
--- No event of these begins this put with notification.
+-- No call of these begins this put with notification.
 abbrev pub NoneBegins : List Entry → ℕ → Type 0
-NoneBegins entries n = (entry : Entry) → Contains entries entry → entry.reply ≢ Notify-reply n
+NoneBegins entries n = (entry : Entry) → Contains entries entry → Begins entry.call n → ⊥

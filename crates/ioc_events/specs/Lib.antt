@@ -2,7 +2,8 @@ pub mod Beside
 pub mod Local
 pub mod Starting
 pub mod Step
-pub mod SetReply
+pub mod Calls
 pub mod Events
 pub mod StepRules
 pub mod Holding
+pub mod EventReplay

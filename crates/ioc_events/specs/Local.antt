@@ -12,10 +12,13 @@ use Rattle.ioc_store.specs.Given.{Answers}
 use Rattle.ioc_notify.specs.Living.{is_live}
 use Rattle.ioc_notify.specs.declared.waiting_lists.Waiting.{Waiting}
 use Rattle.ioc_events.specs.declared.event.Event.{Event}
-use Rattle.ioc_events.specs.declared.event.Event.TheVariants.{Notify, Cancel, IsLive}
+use Rattle.ioc_events.specs.declared.event.Event.TheVariants.{Notify, Cancel}
 use Rattle.ioc_events.specs.Beside.{Shut, Same, Spares}
 use Rattle.ioc_events.specs.Starting.{is_ready}
 use Rattle.ioc_events.specs.Step.{Stepped, names, stepped}
+use Rattle.ioc_events.specs.declared.event.Call.{Call}
+use Rattle.ioc_events.specs.declared.event.Call.TheVariants as call
+use Rattle.ioc_events.specs.Calls.{Called, named, called}
 
 -- The number of the put with notification that an event cancels, or that it begins if one more may
 -- begin.
@@ -29,8 +32,13 @@ number_of w _ = Nothing_
 abbrev pub AskAlike : {R : Type 0} → World R → World R → Event → Type 0
 AskAlike w v (Notify s number field given) = has_place w number ≡ has_place v number
 AskAlike w v (Cancel number) = is_live number w.live ≡ is_live number v.live
-AskAlike w v (IsLive number) = is_live number w.live ≡ is_live number v.live
 AskAlike w v _ = Unit {0}
+
+-- The same of a call.
+abbrev pub AskAlikeCall : {R : Type 0} → World R → World R → Call → Type 0
+AskAlikeCall w v (call.Event event reply) = AskAlike w v event
+AskAlikeCall w v (call.IsLive number live) = is_live number w.live ≡ is_live number v.live
+AskAlikeCall w v _ = Unit {0}
 
 -- `mine` holds of the numbers of these records; `U` are the records with these numbers.
 module _ {R : Type 0} (k : RecordRules R) (mine : ℕ → Bool) where
@@ -53,6 +61,11 @@ module _ {R : Type 0} (k : RecordRules R) (mine : ℕ → Bool) where
     pub waiting : (x : Waiting) → Contains w.waiting x → mine x.target ≡ false → number_of w event ≢ Some x.number
     pub holders : (number n : ℕ) → event ≡ Cancel number → Has w n → (common_at k w n).notification ≡ Some number → mine n ≡ true
 
+  -- A call is done within `U`: so is its event, if it has one, and it names only records in `U`.
+  abbrev pub IsCallWithin : World R → Call → Type 0
+  IsCallWithin w (call.Event event reply) = IsWithin w event
+  IsCallWithin w c = (n : ℕ) → Contains (named c) n → mine n ≡ true
+
   -- The two have equal results in `U`, make the same requests, have the same reply, and change
   -- nothing outside `U`; every link of a record in `U` still names a record in `U`.
   pub record AgreeEvent (w v : World R) (event other : Stepped R) : Type 0 where
@@ -61,6 +74,15 @@ module _ {R : Type 0} (k : RecordRules R) (mine : ℕ → Bool) where
     pub requests : event.requests ≡ other.requests
     pub shut : Shut k mine event.world
     pub spares : Spares k mine w event.world
+    pub other_spares : Spares k mine v other.world
+
+  -- The same of two calls.
+  pub record AgreeCall (w v : World R) (one other : Called R) : Type 0 where
+    pub alike : Alike one.world other.world
+    pub call : one.call ≡ other.call
+    pub requests : one.requests ≡ other.requests
+    pub shut : Shut k mine one.world
+    pub spares : Spares k mine w one.world
     pub other_spares : Spares k mine v other.world
 
 module _ {R : Type 0} (k : RecordRules R) (mine : ℕ → Bool) (answers : Answers) where
@@ -72,3 +94,9 @@ module _ {R : Type 0} (k : RecordRules R) (mine : ℕ → Bool) (answers : Answe
       (w v : World R) (event : Event) → Shut k mine w → Alike k mine w v → KeepsApart k mine w → KeepsApart k mine v
       → IsWithin k mine w event → IsWithin k mine v event → AskAlike w v event
       → AgreeEvent k mine w v (stepped k answers w event) (stepped k answers v event)
+
+  abbrev pub CallIsLocal : Type 0
+  CallIsLocal =
+      (w v : World R) (c : Call) → Shut k mine w → Alike k mine w v → KeepsApart k mine w → KeepsApart k mine v
+      → IsCallWithin k mine w c → IsCallWithin k mine v c → AskAlikeCall w v c
+      → AgreeCall k mine w v (called k answers w c) (called k answers v c)

@@ -23,43 +23,32 @@ use Rattle.ioc_dbcommon.specs.declared.link_field.LinkField.{LinkField}
 use Rattle.ioc_dbcommon.specs.Links.{use_of, named_by}
 use Rattle.ioc_record.specs.Values.{text_of, put_field, stops_put}
 use Rattle.ioc_events.specs.declared.event.Event.{Event}
-use Rattle.ioc_events.specs.declared.event.Event.TheVariants.{Get, Process, Put, Complete, Link, Notify, Cancel, IsLive}
+use Rattle.ioc_events.specs.declared.event.Event.TheVariants.{Process, Put, Complete, Notify, Cancel}
 use Rattle.ioc_events.specs.declared.reply.Reply.{Reply}
-use Rattle.ioc_events.specs.declared.reply.Reply.TheVariants.{Plain, Outcome as Outcome-reply, Shown, Notify as Notify-reply, Live as Live-reply, Refused}
+use Rattle.ioc_events.specs.declared.reply.Reply.TheVariants.{Plain, Outcome as Outcome-reply, Notify as Notify-reply, Refused}
 use Rattle.ioc_store.specs.World.{World, at, common_at, put, changed, has_place, admitted, queued, cancelled}
-use Rattle.ioc_store.specs.declared.call.Call.{Call}
+use Rattle.ioc_store.specs.declared.call.Call.{Call as DeviceCall}
 use Rattle.ioc_store.specs.Given.{Answers, later_among}
 use Rattle.ioc_store.specs.Scanning.{device_of, rescanned, rewired}
 use Rattle.ioc_process.specs.Processing.{ran, resumed_with}
 use Rattle.ioc_events.specs.Starting.{value_to_put, must_wait, started, all_started}
 pub use Rattle.ioc_events.specs.Starting.{processes}
 
--- Holds if the record of the event exists. A cancel and the question whether one is live name none.
+-- Holds if the record of the event exists. A cancel names none.
 abbrev pub is_there : {R : Type 0} → World R → Event → Bool
-is_there w (Get s field) = contains_key w.records s
 is_there w (Process s) = contains_key w.records s
 is_there w (Put s field given) = contains_key w.records s
 is_there w (Complete s number finished) = contains_key w.records s
-is_there w (Link s field link) = contains_key w.records s
 is_there w (Notify s number field given) = contains_key w.records s
 is_there w (Cancel number) = true
-is_there w (IsLive number) = true
-
--- Holds of a link change.
-abbrev pub is_link_change : Event → Bool
-is_link_change (Link s field link) = true
-is_link_change _ = false
 
 -- The records that an event names.
 abbrev pub names : Event → List ℕ
-names (Get s field) = s ∷ []
 names (Process s) = s ∷ []
 names (Put s field given) = s ∷ []
 names (Complete s number finished) = s ∷ []
-names (Link s field link) = s ∷ named_by (use_of link)
 names (Notify s number field given) = s ∷ []
 names (Cancel number) = []
-names (IsLive number) = []
 
 -- Holds if all these records exist.
 abbrev pub all_there : {R : Type 0} → World R → List ℕ → Bool
@@ -89,14 +78,29 @@ abbrev pub is_refusal : Reply → Bool
 is_refusal (Refused e) = true
 is_refusal _ = false
 
--- Holds if waiting puts with notification start after this event, if they can. They don't after a
--- refusal, a get, the question whether one is live, or a link change: these leave every record as
--- active as it was, and part of the same put with notification.
-abbrev pub lets_start : Event → Reply → Bool
-lets_start (Get s field) reply = false
-lets_start (Link s field link) reply = false
-lets_start (IsLive number) reply = false
-lets_start event reply = not (is_refusal reply)
+-- Waiting puts with notification start after an event, if they can, unless it was refused.
+abbrev pub lets_start : Reply → Bool
+lets_start reply = not (is_refusal reply)
+
+module _ {R : Type 0} (k : RecordRules R) where
+  -- The text of a field, or why there is none.
+  unfoldable pub shown : World R → ℕ → FieldNo → Result (List ℕ) IocError
+  shown w s field =
+      if not (contains_key w.records s) then Err NoRecord
+      else if is_some (row_of (k.record_type (at k w s)) field) then Ok (text_of k (at k w s) field)
+      else Err NoField
+
+  -- Why a link field keeps its link, if it does.
+  unfoldable pub link_refusal : World R → ℕ → FieldNo → LinkField → Option IocError
+  link_refusal w s field link =
+      if not (contains_key w.records s && all_there w (named_by (use_of link))) then Some NoRecord
+      else if not (is_some (k.link (at k w s) field)) then Some NoField
+      else if stops_put (common_at k w s) field then Some PutDisabled
+      else Nothing_
+
+  -- The database in which a link field has another link; nothing is processed.
+  abbrev pub relinked : World R → ℕ → FieldNo → LinkField → World R
+  relinked w s field link = rewired k (device_of k (at k w s)) (put w s (k.with_link (at k w s) field link)) s
 
 module _ {R : Type 0} (k : RecordRules R) (answers : Answers) where
   -- A request whose outcome is the reply.
@@ -116,14 +120,6 @@ module _ {R : Type 0} (k : RecordRules R) (answers : Answers) where
   -- The device of the record has answered later.
   unfoldable pub after_completion : World R → ℕ → Finished → Stepped R
   after_completion w s x = let done = resumed_with k answers w s x in record { world = done.world; reply = Plain; requests = done.requests }
-
-  -- A link field has another link, and nothing is processed.
-  unfoldable pub relinked : World R → ℕ → FieldNo → LinkField → Stepped R
-  relinked w s field link =
-      if not (all_there w (named_by (use_of link))) then refused w NoRecord
-      else if not (is_some (k.link (at k w s) field)) then refused w NoField
-      else if stops_put (common_at k w s) field then refused w PutDisabled
-      else record { world = rewired k (device_of k (at k w s)) (put w s (k.with_link (at k w s) field link)) s; reply = Plain; requests = None }
 
   abbrev pub put_with : World R → ℕ → FieldNo → Result R IocError → Stepped R
   put_with w s field (Ok r) = after_put (rescanned k (put w s r) s field) s field
@@ -146,15 +142,11 @@ module _ {R : Type 0} (k : RecordRules R) (answers : Answers) where
 
   -- An event by itself, of a record that exists.
   unfoldable pub done_there : World R → Event → Stepped R
-  done_there w (Get s field) =
-      if is_some (row_of (k.record_type (at k w s)) field) then record { world = w; reply = Shown (text_of k (at k w s) field); requests = None } else refused w NoField
   done_there w (Process s) = told w s
   done_there w (Put s field given) = put_with w s field (put_field k (at k w s) field given)
   done_there w (Complete s number x) = if awaits (common_at k w s) number then after_completion w s x else refused w Stale
-  done_there w (Link s field link) = relinked w s field link
   done_there w (Notify s number field given) = notify_with w s number field (value_to_put k (at k w s) field given)
   done_there w (Cancel number) = if is_live number w.live then record { world = cancelled k number w; reply = Plain; requests = None } else refused w Stale
-  done_there w (IsLive number) = record { world = w; reply = Live-reply (is_live number w.live); requests = None }
 
   -- An event by itself.
   unfoldable pub done_alone : World R → Event → Stepped R
@@ -164,9 +156,9 @@ module _ {R : Type 0} (k : RecordRules R) (answers : Answers) where
   abbrev pub with_starts : Stepped R → Stepped R
   with_starts first = let rest = all_started k answers first.world in record { world = rest.world; reply = first.reply; requests = followed_by first.requests rest.requests }
 
-  -- An event, after which waiting puts with notification start if they can.
+  -- An event, after which waiting puts with notification start if they can, unless it was refused.
   unfoldable pub stepped : World R → Event → Stepped R
-  stepped w event = let first = done_alone w event in if lets_start event first.reply then with_starts first else first
+  stepped w event = let first = done_alone w event in if lets_start first.reply then with_starts first else first
 
 -- Holds of a completion that isn't refused.
 abbrev pub completes : Event → Reply → Bool
@@ -174,7 +166,7 @@ completes (Complete s number x) Plain = true
 completes _ _ = false
 
 -- The device calls that were made in an event.
-abbrev pub calls_since : {R : Type 0} → World R → World R → List Call
+abbrev pub calls_since : {R : Type 0} → World R → World R → List DeviceCall
 calls_since before after = drop (length before.calls) after.calls
 
 -- The tally with what an event adds: each request, each call that is answered later, and a

@@ -3,36 +3,36 @@
 --
 -- Application Developer's Guide, "Runtime Database Access": dbGetField, dbPutField, dbProcess,
 -- dbPutNotify, dbNotifyCancel.
-use Rattle.std.specs.Prelude.{◌≡◌, ℕ, true, false, List, [], ◌∷◌, Some, Ok, Err, is_some}
+use Rattle.std.specs.Prelude.{◌≡◌, ℕ, Bool, true, false, List, [], ◌∷◌, Some, None as Nothing_, Result, Ok, Err}
 use Rattle.std.specs.FinMap.{contains_key, len}
 use Rattle.ioc_values.specs.declared.error.IocError.{IocError}
-use Rattle.ioc_values.specs.declared.error.IocError.TheVariants.{NoRecord, NoField, PutDisabled, Stale, QueueFull}
+use Rattle.ioc_values.specs.declared.error.IocError.TheVariants.{NoRecord, Stale, QueueFull}
 use Rattle.ioc_values.specs.declared.input.Input.{Input}
 use Rattle.ioc_values.specs.declared.value.Value.{Value}
 use Rattle.ioc_values.specs.declared.value.Finished.{Finished}
 use Rattle.ioc_fields.specs.declared.field_no.FieldNo.{FieldNo}
-use Rattle.ioc_fields.specs.Table.{row_of}
 use Rattle.ioc_ledger.specs.declared.outcome.Outcome.{Outcome}
 use Rattle.ioc_ledger.specs.declared.outcome.Outcome.TheVariants.{Reprocess}
 use Rattle.ioc_ledger.specs.Requests.{Requests, None, Request, first_outcome, followed_by}
 use Rattle.ioc_record.specs.RecordRules.{RecordRules}
 use Rattle.ioc_dbcommon.specs.Steps.{with_put_mark, with_reprocess_mark}
 use Rattle.ioc_dbcommon.specs.declared.link_field.LinkField.{LinkField}
-use Rattle.ioc_dbcommon.specs.Links.{use_of, named_by}
-use Rattle.ioc_record.specs.Values.{text_of, put_field, stops_put}
+use Rattle.ioc_record.specs.Values.{put_field}
 use Rattle.ioc_events.specs.declared.event.Entry.{Entry}
+use Rattle.ioc_events.specs.declared.event.Call.{Call}
+use Rattle.ioc_events.specs.declared.event.Call.TheVariants as call
 use Rattle.ioc_events.specs.declared.reply.Reply.{Reply}
-use Rattle.ioc_events.specs.declared.reply.Reply.TheVariants.{Plain, Outcome as Outcome-reply, Shown, Notify as Notify-reply, Live as Live-reply, Refused}
+use Rattle.ioc_events.specs.declared.reply.Reply.TheVariants.{Plain, Outcome as Outcome-reply, Notify as Notify-reply, Refused}
 use Rattle.ioc_notify.specs.declared.waiting_lists.Waiting.{Waiting}
 use Rattle.ioc_notify.specs.Living.{is_live}
 use Rattle.ioc_store.specs.World.{World, Has, at, common_at, put, changed, begun_at, has_place, admitted, queued, unqueued, cancelled}
 use Rattle.ioc_store.specs.Notifying.{notified}
 use Rattle.ioc_events.specs.Starting.{value_to_put, must_wait, taken_and_stored, IsNext, NoneReady}
-use Rattle.ioc_store.specs.Scanning.{device_of, rescanned, rewired}
+use Rattle.ioc_store.specs.Scanning.{rescanned}
 use Rattle.ioc_process.specs.Rules.{Requested, Resumes}
 use Rattle.ioc_events.specs.declared.event.Event.{Event}
-use Rattle.ioc_events.specs.declared.event.Event.TheVariants.{Get, Process, Put, Complete, Link, Notify, Cancel, IsLive}
-use Rattle.ioc_events.specs.Step.{is_there, all_there, processes, awaits, lets_start}
+use Rattle.ioc_events.specs.declared.event.Event.TheVariants.{Process, Put, Complete, Notify, Cancel}
+use Rattle.ioc_events.specs.Step.{is_there, processes, awaits, lets_start, shown, link_refusal, relinked}
 use Rattle.ioc_store.specs.Given.{Answers, answers_of, listed}
 
 module _ {R : Type 0} (k : RecordRules R) (answers : Answers) where
@@ -65,14 +65,6 @@ module _ {R : Type 0} (k : RecordRules R) (answers : Answers) where
     no_such_record : {w : World R} {event : Event}
         → is_there w event ≡ false
         → Does w event w (Refused NoRecord) None
-    no_such_field : {w : World R} {s : ℕ} {field : FieldNo}
-        → contains_key w.records s ≡ true
-        → is_some (row_of (k.record_type (at k w s)) field) ≡ false
-        → Does w (Get s field) w (Refused NoField) None
-    shows_field : {w : World R} {s : ℕ} {field : FieldNo}
-        → contains_key w.records s ≡ true
-        → is_some (row_of (k.record_type (at k w s)) field) ≡ true
-        → Does w (Get s field) w (Shown (text_of k (at k w s) field)) None
     processes_record : {w w' : World R} {s : ℕ} {outcome : Outcome} {requests : Requests}
         → contains_key w.records s ≡ true
         → Requested k answers w s w' requests
@@ -113,27 +105,6 @@ module _ {R : Type 0} (k : RecordRules R) (answers : Answers) where
         → awaits (common_at k w s) number ≡ true
         → Resumes k answers w s x w' requests
         → Does w (Complete s number x) w' Plain requests
-    leads_to_no_record : {w : World R} {s : ℕ} {field : FieldNo} {link : LinkField}
-        → contains_key w.records s ≡ true
-        → all_there w (named_by (use_of link)) ≡ false
-        → Does w (Link s field link) w (Refused NoRecord) None
-    no_link_field : {w : World R} {s : ℕ} {field : FieldNo} {link : LinkField}
-        → contains_key w.records s ≡ true
-        → all_there w (named_by (use_of link)) ≡ true
-        → is_some (k.link (at k w s) field) ≡ false
-        → Does w (Link s field link) w (Refused NoField) None
-    keeps_its_link : {w : World R} {s : ℕ} {field : FieldNo} {link : LinkField}
-        → contains_key w.records s ≡ true
-        → all_there w (named_by (use_of link)) ≡ true
-        → is_some (k.link (at k w s) field) ≡ true
-        → stops_put (common_at k w s) field ≡ true
-        → Does w (Link s field link) w (Refused PutDisabled) None
-    takes_link : {w : World R} {s : ℕ} {field : FieldNo} {link : LinkField}
-        → contains_key w.records s ≡ true
-        → all_there w (named_by (use_of link)) ≡ true
-        → is_some (k.link (at k w s) field) ≡ true
-        → stops_put (common_at k w s) field ≡ false
-        → Does w (Link s field link) (rewired k (device_of k (at k w s)) (put w s (k.with_link (at k w s) field link)) s) Plain None
     refuses_notified_value : {w : World R} {s number : ℕ} {field : FieldNo} {given : Input} {e : IocError}
         → contains_key w.records s ≡ true
         → value_to_put k (at k w s) field given ≡ Err e
@@ -162,21 +133,37 @@ module _ {R : Type 0} (k : RecordRules R) (answers : Answers) where
     cancels : {w : World R} {number : ℕ}
         → is_live number w.live ≡ true
         → Does w (Cancel number) (cancelled k number w) Plain None
-    tells_if_live : {w : World R} {number : ℕ}
-        → Does w (IsLive number) w (Live-reply (is_live number w.live)) None
 
   -- An event, after which waiting puts with notification start if they can, leads from one database
   -- to another.
   pub data Step : World R → Event → World R → Reply → Requests → Type 0 where
     by_itself : {w w' : World R} {event : Event} {reply : Reply} {requests : Requests}
         → Does w event w' reply requests
-        → lets_start event reply ≡ false
+        → lets_start reply ≡ false
         → Step w event w' reply requests
     then_others : {w w' w'' : World R} {event : Event} {reply : Reply} {first rest : Requests}
         → Does w event w' reply first
-        → lets_start event reply ≡ true
+        → lets_start reply ≡ true
         → StartsAll w' w'' rest
         → Step w event w'' reply (followed_by first rest)
+
+  -- A call leads from one database to another, with the reply that it has.
+  pub data Calls : World R → Call → World R → Requests → Type 0 where
+    does_event : {w w' : World R} {event : Event} {reply : Reply} {requests : Requests}
+        → Step w event w' reply requests
+        → Calls w (call.Event event reply) w' requests
+    shows_field : {w : World R} {s : ℕ} {field : FieldNo} {text : Result (List ℕ) IocError}
+        → shown k w s field ≡ text
+        → Calls w (call.Get s field text) w None
+    tells_if_live : {w : World R} {number : ℕ} {live : Bool}
+        → is_live number w.live ≡ live
+        → Calls w (call.IsLive number live) w None
+    keeps_its_link : {w : World R} {s : ℕ} {field : FieldNo} {link : LinkField} {e : IocError}
+        → link_refusal k w s field link ≡ Some e
+        → Calls w (call.Link s field link (Err e)) w None
+    takes_link : {w : World R} {s : ℕ} {field : FieldNo} {link : LinkField}
+        → link_refusal k w s field link ≡ Nothing_
+        → Calls w (call.Link s field link (Ok tt)) (relinked k w s field link) None
 
 module _ {R : Type 0} (k : RecordRules R) where
   -- The events of a list, one after another, lead from one database to another, each at its time
@@ -184,7 +171,7 @@ module _ {R : Type 0} (k : RecordRules R) where
   pub data Replay : World R → List Entry → World R → Type 0 where
     at_the_end : {w : World R} → Replay w [] w
     and_then : {w w' w'' : World R} {entry : Entry} {entries : List Entry} {requests : Requests}
-        → Step k (listed entry.answers) (begun_at entry.moment w) entry.event w' entry.reply requests
+        → Calls k (listed entry.answers) (begun_at entry.moment w) entry.call w' requests
         → answers_of w'.calls ≡ entry.answers
         → Replay w' entries w''
         → Replay w (entry ∷ entries) w''

@@ -4,7 +4,6 @@ ghost use Rattle.ioc_fields.specs.Table.{is_process_passive};
 ghost use Rattle.ioc_fields.specs.declared.field_no.FieldNo.TheVariants.{Own};
 ghost use Rattle.ioc_fields.specs.declared.field_no.OwnField.TheVariants.{Val};
 ghost use Rattle.ioc_values.specs.Conversion.{input_of};
-ghost use Rattle.ioc_record.specs.PutFaults.{error_of};
 ghost use Rattle.ioc_record.specs.Values.{put_field};
 ghost use Rattle.ioc_store.specs.World.{Has, at, put, common_at};
 ghost use Rattle.ioc_process.specs.Running.{CanProcess, CanRun, HasRun};
@@ -12,10 +11,8 @@ ghost use Rattle.ioc_process.specs.Runs.{ForAnswers};
 ghost use Rattle.ioc_events.specs.declared.event.Event.TheVariants.{Process, Put, Complete};
 ghost use Rattle.ioc_events.specs.Step.{processes, awaits, told, after_put};
 ghost use Rattle.ioc_events.specs.Events.{Makes, HasDone, reply_of};
-ghost use Rattle.ioc_events.specs.SetReply.{told_by};
 
-use crate::reply::Effect;
-use crate::set_reply::SetReply;
+use crate::reply::Reply;
 use ioc_dbcommon::Common;
 use ioc_fields::{FieldNo, OwnField, RecordType, is_process_passive};
 use ioc_ledger::{Outcome, Tally};
@@ -24,7 +21,7 @@ use ioc_process::outputs::is_proc;
 use ioc_process::process::{complete_record, request_record};
 use ioc_process::scanning::rescan;
 use ioc_process::steps::{mark_put, mark_reprocess};
-use ioc_record::{PutFault, RecordKind, put_field, put_spelled};
+use ioc_record::{RecordKind, put_field, put_spelled};
 use ioc_store::frames::Frame;
 use ioc_store::store::Store;
 use ioc_values::{Finished, Input, IocError};
@@ -90,18 +87,18 @@ pub fn request<S: Store>(
     frames: &mut Vec<Frame>,
     number: RecordNo,
     tally: &mut Tally,
-) -> Effect
+) -> Reply
     requires { CanRun S.Record.rules (S.world store.old) frames.old }
-    ensures done { HasDone S.Record.rules (S.given store.new) (S.world store.old) (S.world store.new) (reply_of result)
+    ensures done { HasDone S.Record.rules (S.given store.new) (S.world store.old) (S.world store.new) result
         tally.old tally.new (Process number) }
     ensures run { HasRun S.Record.rules S.Device.gives (S.world store.old) (S.world store.new) (S.given store.old) (S.given store.new)
         frames.old frames.new }
 {
     if !store.has(number) {
-        return Err(PutFault::NoRecord);
+        return Reply::Refused(IocError::NoRecord);
     }
     let outcome = request_present(store, frames, number, tally);
-    Ok(Some(outcome))
+    Reply::Outcome(outcome)
 }
 
 // Puts a value into a field of a record that exists.
@@ -129,14 +126,14 @@ fn put_text_into<S: Store>(
     number: RecordNo,
     field: FieldNo,
     text: &[u8],
-) -> Result<(), PutFault>
+) -> Result<(), IocError>
     requires { Has (S.world store.old) number }
     ensures ok { OnOk result (put_field S.Record.rules (at S.Record.rules (S.world store.old) number) field (input_of text.now)
         ≡ Ok (at S.Record.rules (S.world store.new) number)) }
     ensures stored { OnOk result (S.world store.new ≡ put (S.world store.old) number (at S.Record.rules (S.world store.new) number)) }
     ensures err { IfErr result (λ e. put_field S.Record.rules (at S.Record.rules (S.world store.old) number) field
         (input_of text.now)
-        ≡ Err (error_of e)) }
+        ≡ Err e) }
     ensures same { OnErr result (S.world store.new ≡ S.world store.old) }
     ensures given { S.given store.new ≡ S.given store.old }
 {
@@ -181,22 +178,22 @@ pub fn put<S: Store>(
     field: FieldNo,
     given: Input,
     tally: &mut Tally,
-) -> SetReply
+) -> Reply
     requires { CanRun S.Record.rules (S.world store.old) frames.old }
-    ensures done { HasDone S.Record.rules (S.given store.new) (S.world store.old) (S.world store.new) (told_by result)
+    ensures done { HasDone S.Record.rules (S.given store.new) (S.world store.old) (S.world store.new) result
         tally.old tally.new (Put number field given) }
     ensures run { HasRun S.Record.rules S.Device.gives (S.world store.old) (S.world store.new) (S.given store.old) (S.given store.new)
         frames.old frames.new }
 {
     if !store.has(number) {
-        return SetReply::Refused(IocError::NoRecord);
+        return Reply::Refused(IocError::NoRecord);
     }
     match put_into(store, number, field, given) {
         Ok(()) => {
             rescan(store, number, field);
-            SetReply::of(Ok(process_after_put(store, frames, number, field, tally)))
+            Reply::of(Ok(process_after_put(store, frames, number, field, tally)))
         }
-        Err(refused) => SetReply::Refused(refused),
+        Err(refused) => Reply::Refused(refused),
     }
 }
 
@@ -208,22 +205,22 @@ pub fn put_text<S: Store>(
     field: FieldNo,
     text: &[u8],
     tally: &mut Tally,
-) -> Effect
+) -> Reply
     requires { CanRun S.Record.rules (S.world store.old) frames.old }
-    ensures done { HasDone S.Record.rules (S.given store.new) (S.world store.old) (S.world store.new) (reply_of result)
+    ensures done { HasDone S.Record.rules (S.given store.new) (S.world store.old) (S.world store.new) result
         tally.old tally.new (Put number field (input_of text.now)) }
     ensures run { HasRun S.Record.rules S.Device.gives (S.world store.old) (S.world store.new) (S.given store.old) (S.given store.new)
         frames.old frames.new }
 {
     if !store.has(number) {
-        return Err(PutFault::NoRecord);
+        return Reply::Refused(IocError::NoRecord);
     }
     match put_text_into(store, number, field, text) {
         Ok(()) => {
             rescan(store, number, field);
-            Ok(process_after_put(store, frames, number, field, tally))
+            Reply::of(Ok(process_after_put(store, frames, number, field, tally)))
         }
-        Err(refused) => Err(refused),
+        Err(refused) => Reply::Refused(refused),
     }
 }
 
@@ -245,19 +242,19 @@ pub fn complete<S: Store>(
     wait: u64,
     finished: Finished,
     tally: &mut Tally,
-) -> SetReply
+) -> Reply
     requires { CanRun S.Record.rules (S.world store.old) frames.old }
-    ensures done { HasDone S.Record.rules (S.given store.new) (S.world store.old) (S.world store.new) (told_by result)
+    ensures done { HasDone S.Record.rules (S.given store.new) (S.world store.old) (S.world store.new) result
         tally.old tally.new (Complete number wait finished) }
     ensures run { HasRun S.Record.rules S.Device.gives (S.world store.old) (S.world store.new) (S.given store.old) (S.given store.new)
         frames.old frames.new }
 {
     if !store.has(number) {
-        return SetReply::Refused(IocError::NoRecord);
+        return Reply::Refused(IocError::NoRecord);
     }
     if !awaits(store.record(number).common(), wait) {
-        return SetReply::Refused(IocError::Stale);
+        return Reply::Refused(IocError::Stale);
     }
     complete_record(store, frames, number, finished, tally);
-    SetReply::Plain
+    Reply::Plain
 }

@@ -1,4 +1,4 @@
-//! Events of a database, and their history entries.
+//! Events of a database, calls, and history entries.
 ghost use Rattle.std.specs.Prelude.{◌≡◌};
 
 use crate::reply::Reply;
@@ -7,57 +7,65 @@ use ioc_device::Answer;
 use ioc_fields::FieldNo;
 use ioc_names::RecordNo;
 use ioc_notify::NotifyId;
-use ioc_values::{Finished, Input};
+use ioc_record::FieldText;
+use ioc_values::{Finished, Input, IocError};
 use std::marker::Model;
 
-/// An event of a database, with the arguments of its caller.
+/// What is done to the records of a database, with the arguments of its caller.
 #[derive(Clone, Copy, PartialEq, Eq)]
 pub enum Event {
-    /// Gets the text of a field.
-    Get(RecordNo, FieldNo),
-    /// Requests a record.
-    Process(RecordNo),
-    /// Puts a value into a field.
-    Put(RecordNo, FieldNo, Input),
-    /// Completes the wait with this number of a record, with what its device returned later.
-    Complete(RecordNo, u64, Finished),
-    /// Changes the link of a link field.
-    Link(RecordNo, FieldNo, LinkField),
-    /// Puts a value into a field, with a notification when the records that the put processes are
-    /// done.
-    Notify(RecordNo, NotifyId, FieldNo, Input),
-    /// Cancels a put with notification.
-    Cancel(NotifyId),
-    /// Asks whether a put with notification is live.
-    IsLive(NotifyId),
-}
-
-/// An event on a lock set, as in [`Event`], but without the room that the link of a link change
-/// needs.
-#[derive(Clone, Copy)]
-pub enum SetEvent {
     /// Requests a record. The reply is a refusal, `NoRecord`, if there is no such record.
-    Process(RecordNo),
+    Process {
+        record: RecordNo,
+    },
     /// Puts a value into a field. The record is processed if the field is PROC, or if the field is
     /// process-passive and the record is passive; an active record is marked for reprocessing
     /// instead. The reply is a refusal, `NoRecord`, `NoField`, `NoMod`, `PutDisabled` or `BadValue`
     /// in this order, if there is no such record or field, the field can't be put, DISP forbids it,
     /// or the value doesn't convert.
-    Put(RecordNo, FieldNo, Input),
+    Put {
+        record: RecordNo,
+        field: FieldNo,
+        value: Input,
+    },
     /// Completes the wait with this number of a record whose device has answered later: the record
     /// resumes with what the device returned. Of what the device of an output returns, only a fault
     /// matters. The reply is a refusal, `NoRecord` or `Stale` in this order, if there is no such
     /// record, or if it doesn't await the completion with this number.
-    Complete(RecordNo, u64, Finished),
+    Complete {
+        record: RecordNo,
+        wait: u64,
+        finished: Finished,
+    },
     /// Puts a value into a field as `Put` does, with a notification: it passes to the records that
     /// are processed for the put, and ends with the last of them. If the record is active, is part
     /// of a put with notification or has one waiting, the put waits; it is tested and its value
     /// converted immediately. The caller assigns each number to one put. The reply is a refusal:
     /// those of `Put`, and then `QueueFull`, if 256 are live or one with this number is live.
-    Notify(RecordNo, NotifyId, FieldNo, Input),
+    Notify {
+        record: RecordNo,
+        notification: NotifyId,
+        field: FieldNo,
+        value: Input,
+    },
     /// Cancels a put with notification: no record is part of it any more, it no longer waits, and it
     /// doesn't end. The reply is a refusal, `Stale`, if it isn't live.
-    Cancel(NotifyId),
+    Cancel {
+        notification: NotifyId,
+    },
+}
+
+/// A call, as a journal keeps it: each kind with the reply that it can have.
+#[derive(Clone, Copy)]
+pub enum Call {
+    /// An event and its reply.
+    Event(Event, Reply),
+    /// A get of the text of a field.
+    Get(RecordNo, FieldNo, Result<FieldText, IocError>),
+    /// The question whether a put with notification is live.
+    IsLive(NotifyId, bool),
+    /// A change of the link of a link field.
+    Link(RecordNo, FieldNo, LinkField, Result<(), IocError>),
 }
 
 /// The answers of devices in an event, in order. Contracts see it as their list.
@@ -84,9 +92,18 @@ impl KeptAnswers {
     }
 }
 
-/// The history entry of an event: its time stamp, the answers of devices in it, and the reply.
+/// An entry of a history: a call, its time stamp, and the answers of devices in it.
 #[derive(Drop)]
 pub struct Entry {
+    /// The time stamp, in nanoseconds since 1970-01-01 00:00 UTC.
+    pub moment: u64,
+    pub call: Call,
+    pub answers: KeptAnswers,
+}
+
+/// An event with its time stamp, the answers of devices in it, and its reply.
+#[derive(Drop)]
+pub struct EventEntry {
     /// The time stamp, in nanoseconds since 1970-01-01 00:00 UTC.
     pub moment: u64,
     pub event: Event,

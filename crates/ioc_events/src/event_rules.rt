@@ -1,5 +1,5 @@
 //! Laws of the rules of events. The contract of each function is a law; its body is empty.
-ghost use Rattle.std.specs.Prelude.{◌≡◌, List, false};
+ghost use Rattle.std.specs.Prelude.{◌≡◌, List};
 ghost use Rattle.ioc_ledger.specs.Requests.{Requests};
 ghost use Rattle.ioc_store.specs.World.{World, IsClosed, Keeps};
 ghost use Rattle.ioc_store.specs.Given.{Answers};
@@ -7,7 +7,7 @@ ghost use Rattle.ioc_process.specs.Rules.{IsSettled};
 ghost use Rattle.ioc_events.specs.declared.reply.Reply.{Reply};
 ghost use Rattle.ioc_events.specs.declared.event.Event.{Event};
 ghost use Rattle.ioc_events.specs.declared.event.Entry.{Entry};
-ghost use Rattle.ioc_events.specs.Step.{stepped, is_link_change};
+ghost use Rattle.ioc_events.specs.Step.{stepped};
 ghost use Rattle.ioc_events.specs.StepRules.{Step, Replay, KeepsRecords};
 
 use ioc_record::RecordKind;
@@ -21,13 +21,13 @@ pub fn events_leave_settled<K: RecordKind>()
         → IsSettled K.rules after }
 {}
 
-/// No event except a link change adds or removes a record, or changes a link or where it leads.
+/// No event adds or removes a record, or changes a link or where it leads.
 pub fn events_keep_links<K: RecordKind>()
     ensures { (answers : Answers) (w after : World K) (event : Event) (reply : Reply) (requests : Requests) →
-        Step K.rules answers w event after reply requests → is_link_change event ≡ false → IsClosed K.rules w → Keeps K.rules w after }
+        Step K.rules answers w event after reply requests → IsClosed K.rules w → Keeps K.rules w after }
 {}
 
-/// No event adds or removes a record, not even a link change.
+/// No event adds or removes a record.
 pub fn events_keep_records<K: RecordKind>()
     ensures { (answers : Answers) (w after : World K) (event : Event) (reply : Reply) (requests : Requests) →
         Step K.rules answers w event after reply requests → IsClosed K.rules w → KeepsRecords w after }

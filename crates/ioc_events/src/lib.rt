@@ -3,6 +3,7 @@
 #![tactic(auto)]
 
 pub mod alone;
+pub mod call_rules;
 pub mod event;
 pub mod event_rules;
 pub mod events;
@@ -11,11 +12,9 @@ pub mod local;
 pub mod notification_rules;
 pub mod notify;
 pub mod reply;
-pub mod set_reply;
 pub mod starting;
 
-pub use event::{Entry, Event, KeptAnswers, SetEvent};
-pub use events::{make_request, make_spelled_put, run_event, run_get, run_live};
+pub use event::{Call, Entry, Event, EventEntry, KeptAnswers};
+pub use events::{make_spelled_put, run_event, run_get};
 pub use link_change::run_link;
-pub use reply::{Effect, Reply};
-pub use set_reply::SetReply;
+pub use reply::Reply;

@@ -1,14 +1,10 @@
 //! Link changes.
-ghost use Rattle.std.specs.Prelude.{◌≡◌, ◌&&◌, true, is_some};
+ghost use Rattle.std.specs.Prelude.{◌≡◌, ◌&&◌, true, is_some, OnOk, OnErr, IfErr, Some, None};
 ghost use Rattle.ioc_dbcommon.specs.Links.{named_by};
-ghost use Rattle.ioc_ledger.specs.Requests.{None};
 ghost use Rattle.ioc_record.specs.Values.{stops_put};
-ghost use Rattle.ioc_events.specs.declared.event.Event.TheVariants.{Link};
-ghost use Rattle.ioc_store.specs.Given.{Answers};
-ghost use Rattle.ioc_events.specs.Step.{all_there, stepped};
+ghost use Rattle.ioc_events.specs.Step.{all_there, link_refusal, relinked};
 ghost use Rattle.ioc_store.specs.World.{Has, at, common_at, put};
 
-use crate::reply::Reply;
 use ioc_dbcommon::{LinkBox, LinkUse};
 use ioc_fields::FieldNo;
 use ioc_names::RecordNo;
@@ -43,28 +39,34 @@ fn set_link<S: Store>(store: &mut S, number: RecordNo, field: FieldNo, link: Lin
 ///
 /// # Errors
 ///
-/// The reply is a refusal, [`IocError::NoRecord`], [`IocError::NoField`] or
-/// [`IocError::PutDisabled`] in this order, if there is no such record or the link leads to none
-/// that exists, the field is no link field, or DISP forbids it. Nothing has changed then.
-#[tactic(auto, unfolding(crate::specs::Step::stepped, crate::specs::Step::done_alone, crate::specs::Step::done_there, crate::specs::Step::relinked))]
-pub fn run_link<S: Store>(store: &mut S, number: RecordNo, field: FieldNo, link: LinkBox) -> Reply
-    ensures step { (answers : Answers) →
-        stepped S.Record.rules answers (S.world store.old) (Link number field link)
-        ≡ record { world = S.world store.new; reply = result; requests = None } }
+/// [`IocError::NoRecord`], [`IocError::NoField`] or [`IocError::PutDisabled`] in this order, if
+/// there is no such record or the link leads to none that exists, the field is no link field, or
+/// DISP forbids it. Nothing has changed then.
+#[tactic(auto, unfolding(crate::specs::Step::link_refusal))]
+pub fn run_link<S: Store>(
+    store: &mut S,
+    number: RecordNo,
+    field: FieldNo,
+    link: LinkBox,
+) -> Result<(), IocError>
+    ensures done { OnOk result (link_refusal S.Record.rules (S.world store.old) number field link ≡ None) }
+    ensures world { OnOk result (S.world store.new ≡ relinked S.Record.rules (S.world store.old) number field link) }
+    ensures refused { IfErr result (λ e. link_refusal S.Record.rules (S.world store.old) number field link ≡ Some e) }
+    ensures same { OnErr result (S.world store.new ≡ S.world store.old) }
     ensures given { S.given store.new ≡ S.given store.old }
 {
     if !store.has(number) || !leads_within(store, link.in_use()) {
-        return Reply::Refused(IocError::NoRecord);
+        return Err(IocError::NoRecord);
     }
     let this = store.record(number);
     if this.link(field).is_none() {
-        return Reply::Refused(IocError::NoField);
+        return Err(IocError::NoField);
     }
     if stops_put(this.common(), field) {
-        return Reply::Refused(IocError::PutDisabled);
+        return Err(IocError::PutDisabled);
     }
     let before = device_of(this);
     set_link(store, number, field, link);
     rewire(store, number, before);
-    Reply::Plain
+    Ok(())
 }

@@ -12,6 +12,7 @@ ghost use Rattle.ioc_events.specs.StepRules.{Does, Step, Replay};
 ghost use Rattle.ioc_events.specs.declared.event.Entry.{Entry};
 ghost use Rattle.ioc_events.specs.declared.event.Event.{Event};
 ghost use Rattle.ioc_events.specs.declared.event.Event.TheVariants.{Cancel};
+ghost use Rattle.ioc_events.specs.declared.event.Call.TheVariants as call;
 ghost use Rattle.ioc_events.specs.declared.reply.Reply.{Reply};
 
 use ioc_record::RecordKind;
@@ -48,7 +49,8 @@ pub fn events_count_holders<K: RecordKind>()
 /// once.
 pub fn events_end_what_nobody_has<K: RecordKind>()
     ensures { (answers : Answers) (w after : World K) (event : Event) (reply : Reply) (requests : Requests) →
-        Step K.rules answers w event after reply requests → IsCounted K.rules w → w.ended ≡ [] → EndsExactly K.rules w event reply after }
+        Step K.rules answers w event after reply requests → IsCounted K.rules w → w.ended ≡ []
+        → EndsExactly K.rules w (call.Event event reply) after }
 {}
 
 /// A put with notification that was cancelled, or that nothing is part of, ends by no later event,

@@ -8,11 +8,11 @@ ghost use Rattle.ioc_process.specs.Running.{CanProcess, CanRun, HasRun};
 ghost use Rattle.ioc_process.specs.Runs.{ForAnswers};
 ghost use Rattle.ioc_events.specs.Starting.{value_to_put, must_wait};
 ghost use Rattle.ioc_events.specs.declared.event.Event.TheVariants.{Notify, Cancel};
+ghost use Rattle.ioc_events.specs.declared.reply.Reply.TheVariants.{Notify as Reply-notify};
 ghost use Rattle.ioc_events.specs.Step.{begun_or_queued, done_alone};
 ghost use Rattle.ioc_events.specs.Events.{Makes, HasDone};
-ghost use Rattle.ioc_events.specs.SetReply.{told_by};
 
-use crate::set_reply::SetReply;
+use crate::reply::Reply;
 use crate::starting::start;
 use ioc_fields::FieldNo;
 use ioc_ledger::Tally;
@@ -63,7 +63,7 @@ fn begin_or_queue<S: Store>(
     requires place { length (S.world store.old).live + length (S.world store.old).ended < 256 }
     requires waits { length (S.world store.old).waiting < 256 }
     ensures done { ForAnswers (S.given store.new) (λ answers.
-        Makes (S.world store.new) (told_by (SetReply.Notify waiting.now.number)) tally.old tally.new
+        Makes (S.world store.new) (Reply-notify waiting.now.number) tally.old tally.new
         (begun_or_queued S.Record.rules answers (S.world store.old) waiting.now)) }
     ensures run { HasRun S.Record.rules S.Device.gives (S.world store.old) (S.world store.new) (S.given store.old) (S.given store.new)
         frames.old frames.new }
@@ -86,22 +86,22 @@ pub fn notify<S: Store>(
     field: FieldNo,
     given: Input,
     tally: &mut Tally,
-) -> SetReply
+) -> Reply
     requires { CanRun S.Record.rules (S.world store.old) frames.old }
-    ensures done { HasDone S.Record.rules (S.given store.new) (S.world store.old) (S.world store.new) (told_by result)
+    ensures done { HasDone S.Record.rules (S.given store.new) (S.world store.old) (S.world store.new) result
         tally.old tally.new (Notify target number field given) }
     ensures run { HasRun S.Record.rules S.Device.gives (S.world store.old) (S.world store.new) (S.given store.old) (S.given store.new)
         frames.old frames.new }
 {
     if !store.has(target) {
-        return SetReply::Refused(IocError::NoRecord);
+        return Reply::Refused(IocError::NoRecord);
     }
     let value = match value_to_put(store.record(target), field, given) {
         Ok(value) => value,
-        Err(refused) => return SetReply::Refused(refused),
+        Err(refused) => return Reply::Refused(refused),
     };
     if !store.has_place(number) {
-        return SetReply::Refused(IocError::QueueFull);
+        return Reply::Refused(IocError::QueueFull);
     }
     let waiting = Waiting {
         number,
@@ -110,21 +110,21 @@ pub fn notify<S: Store>(
         value,
     };
     begin_or_queue(store, frames, &waiting, tally);
-    SetReply::Notify(number)
+    Reply::Notify(number)
 }
 
 /// Cancels a put with notification: it is removed from all records and from the waiting list, and
 /// doesn't end.
-pub fn cancel<S: Store>(store: &mut S, number: NotifyId) -> SetReply
+pub fn cancel<S: Store>(store: &mut S, number: NotifyId) -> Reply
     ensures done { (answers : Answers) →
         done_alone S.Record.rules answers (S.world store.old) (Cancel number)
-        ≡ record { world = S.world store.new; reply = told_by result; requests = None } }
+        ≡ record { world = S.world store.new; reply = result; requests = None } }
     ensures keeps { Keeps S.Record.rules (S.world store.old) (S.world store.new) }
     ensures given { S.given store.new ≡ S.given store.old }
 {
     if !store.is_live(number) {
-        return SetReply::Refused(IocError::Stale);
+        return Reply::Refused(IocError::Stale);
     }
     store.cancel(number);
-    SetReply::Plain
+    Reply::Plain
 }

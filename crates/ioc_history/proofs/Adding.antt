@@ -8,7 +8,7 @@ use Rattle.ioc_history.specs.Key.{Key, Has}
 use Rattle.ioc_history.specs.Line.{Continues, noted}
 use Rattle.ioc_history.specs.KeyLaws.{has_right}
 use Rattle.ioc_history.specs.Legal.{IsLegal}
-use Rattle.ioc_history.specs.Account.{desk_view, journalled, calls, calls_by, Below, Rising, desk_key, MayBegin, IsAccount, Call}
+use Rattle.ioc_history.specs.Account.{desk_view, journalled, calls, calls_by, Below, Rising, desk_key, MayBegin, IsAccount, HasCalled}
 use Rattle.ioc_history.proofs.Calls.{calls-append, keyed_append, below_append, below_more, by-append, own_one, rising_snoc, below_on, calls_on}
 use Rattle.ioc_history.proofs.Numbers.{numbers_differ, puts_stay_keyed}
 
@@ -16,7 +16,7 @@ use Rattle.ioc_history.proofs.Numbers.{numbers_differ, puts_stay_keyed}
 
 module _ {R : Type 0} (k : RecordRules R) (base : World R) (log seen : List Note) (d c : ℕ) (done : Entry) (owns own : List Key) (is : own ≡ desk_key d ∷ [])
     (account : IsAccount k base log) (go : Continues seen own log) (below : Below d c (calls seen)) (legal : IsLegal k base (log ++ noted (journalled d c done) (owns ++ own) ∷ []))
-    (known : List Note) (owned : List Key) (on : Continues known owned log) (within : (key : Key) → Has key owned → Has key (owns ++ own)) (begins : MayBegin known owned done.event) where
+    (known : List Note) (owned : List Key) (on : Continues known owned log) (within : (key : Key) → Has key owned → Has key (owns ++ own)) (begins : MayBegin known owned done.call) where
   abbrev made : Note
   made = noted (journalled d c done) (owns ++ own)
 
@@ -39,7 +39,7 @@ module _ {R : Type 0} (k : RecordRules R) (base : World R) (log seen : List Note
   below_then =
       subst (Below d (c + 1)) (sym (calls-append log (made ∷ []))) (below_append d (c + 1) (calls log) (journalled d c done ∷ []) (below_more d c (c + 1) (calls log) (omega arith) was_below) ((λ _. omega arith), tt))
 
-  pub called : Call k base (desk_view d c seen) done (desk_view d (c + 1) (log ++ made ∷ []))
+  pub called : HasCalled k base (desk_view d c seen) done (desk_view d (c + 1) (log ++ made ∷ []))
   called = record {
     keys = owns ++ own;
     between = go.0;

@@ -14,16 +14,14 @@ use Rattle.ioc_history.specs.Key.{Key, Has}
 use Rattle.ioc_history.specs.KeyLaws.{has_left, has_right}
 use Rattle.ioc_history.specs.Line.{Continues, keeper, holder, noted}
 use Rattle.ioc_history.specs.Legal.{IsLegal, map_of}
-use Rattle.ioc_history.specs.Account.{DeskView, desk_view, desk_key, journalled, calls, Below, MayBegin, IsAccount, Call}
+use Rattle.ioc_history.specs.Account.{DeskView, desk_view, desk_key, journalled, calls, Below, MayBegin, IsAccount, HasCalled}
 use Rattle.ioc_history.specs.Counting.{one_if_request, once_by, counts_of, AreTickets, AreTicketsOf, DoesCount, IsFew, IsRecorded, MayAppend, BothMayAppend}
 use Rattle.ioc_history.specs.Desks.{LeadsFrom, IsKept, IsDesk, IsReceipt}
-use Rattle.ioc_history.specs.Stored.{IsStored}
 use Rattle.ioc_history.specs.Ticketed.{TicketsView}
 use Rattle.ioc_history.proofs.Adding.{account_then, below_then, called}
 use Rattle.ioc_history.proofs.Bases.{still_leads}
 use Rattle.ioc_history.proofs.Calls.{below_other, counted}
 use Rattle.ioc_history.proofs.CountsThen.{counts-then}
-use Rattle.ioc_history.proofs.Fitting.{last_fits}
 use Rattle.ioc_history.proofs.TicketsThen.{tickets-then, begun-then}
 use Rattle.ioc_history.proofs.Written.{one_more_entry}
 
@@ -34,14 +32,14 @@ pub record IsOneMore {R : Type 0} (k : RecordRules R) (base : World R) (log : Li
   pub account : IsAccount k base (log ++ noted made keys ∷ [])
   pub below : Below n (next + 1) (calls (log ++ noted made keys ∷ []))
   pub count : next + 1 ≤ length (log ++ noted made keys ∷ [])
-  pub call : Call k base (desk_view n next seen) done (desk_view n (next + 1) (log ++ noted made keys ∷ []))
+  pub call : HasCalled k base (desk_view n next seen) done (desk_view n (next + 1) (log ++ noted made keys ∷ []))
   pub sends : sent ≡ once_by k (map_of k base log) (noted made keys)
   pub counts : DoesCount k (map_of k base log) (noted made keys) share before after
 
 module _ {R : Type 0} {k : RecordRules R} {base : World R} {table id desk_id : TableId} {v u : View} {items : List JournalEntry} {dropped : ℕ} {from : Option (JournalBase R)} {desks : ℕ} {tickets : TicketsView} {book : Tally} {n next : ℕ}
     (kept : IsKept k base table id v items dropped from desks tickets book) (desk : IsDesk k base table desk_id u n next) {d : DeskView} (view_is : desk_view n next u.seen ≡ d)
-    {done : Entry} (made : JournalEntry) (stored : IsStored (journalled d.number d.next done) made) {sent : ℕ} {share : Option ShareView} {before after : Tally} where
-  one-more : (owns : List Key) → Continues u.seen u.owns v.seen → (known : List Note) (owned : List Key) → Continues known owned v.seen → ((key : Key) → Has key owned → Has key owns) → MayBegin known owned done.event
+    {done : Entry} (made : JournalEntry) (stored : made ≡ journalled d.number d.next done) {sent : ℕ} {share : Option ShareView} {before after : Tally} where
+  one-more : (owns : List Key) → Continues u.seen u.owns v.seen → (known : List Note) (owned : List Key) → Continues known owned v.seen → ((key : Key) → Has key owned → Has key owns) → MayBegin known owned done.call
       → IsLegal k base (v.seen ++ noted (journalled n next done) (owns ++ u.owns) ∷ [])
       → sent ≡ once_by k (map_of k base v.seen) (noted (journalled n next done) (owns ++ u.owns))
       → DoesCount k (map_of k base v.seen) (noted (journalled n next done) (owns ++ u.owns)) share before after
@@ -49,7 +47,7 @@ module _ {R : Type 0} {k : RecordRules R} {base : World R} {table id desk_id : T
   one-more owns goes_on known owned on within begins legal sends counts =
       let own = ap (λ (x : View). x.owns) desk.holds in
       let stays = λ (key : Key) (has : Has key owned). has_left key owns u.owns (within key has) in
-      let is = subst (λ (x : DeskView). IsStored (journalled x.number x.next done) made) (sym view_is) stored (last_fits k base v.seen (noted (journalled n next done) (owns ++ u.owns)) legal) in
+      let is = subst (λ (x : DeskView). made ≡ journalled x.number x.next done) (sym view_is) stored in
       subst (λ (m : JournalEntry). IsOneMore k base v.seen n next u.seen done (owns ++ u.owns) m sent share before after) (sym is) (record {
         made_is = refl;
         account = account_then k base v.seen u.seen n next done owns u.owns own kept.account goes_on desk.below legal known owned on stays begins;
@@ -91,10 +89,10 @@ module _ {R : Type 0} {k : RecordRules R} {base : World R} {log : List Note} {n 
         account = subst (IsAccount k base) told more.account;
       }
 
-  pub call-then : {d : DeskView} (w : View) (own : List Key) → desk_view n next seen ≡ d → w ≡ holder (log ++ noted made keys ∷ []) own → Call k base d done (desk_view n (next + 1) w.seen)
+  pub call-then : {d : DeskView} (w : View) (own : List Key) → desk_view n next seen ≡ d → w ≡ holder (log ++ noted made keys ∷ []) own → HasCalled k base d done (desk_view n (next + 1) w.seen)
   call-then w own view_is holds =
-      subst (λ (x : DeskView). Call k base x done (desk_view n (next + 1) w.seen)) view_is
-      (subst (λ (l : List Note). Call k base (desk_view n next seen) done (desk_view n (next + 1) l)) (sym (ap (λ (x : View). x.seen) holds)) more.call)
+      subst (λ (x : DeskView). HasCalled k base x done (desk_view n (next + 1) w.seen)) view_is
+      (subst (λ (l : List Note). HasCalled k base (desk_view n next seen) done (desk_view n (next + 1) l)) (sym (ap (λ (x : View). x.seen) holds)) more.call)
 
 module _ {R : Type 0} {k : RecordRules R} {base : World R} {v : View} {n next : ℕ} {seen : List Note} {done : Entry} {keys : List Key} {made : JournalEntry} {sent : ℕ} {share : Option ShareView} {before after : Tally}
     (more : IsOneMore k base v.seen n next seen done keys made sent share before after)
@@ -110,7 +108,7 @@ module _ {R : Type 0} {k : RecordRules R} {base : World R} {v : View} {n next : 
       }
 
   -- As many tickets begin as once requests are sent.
-  pub begun-so : (batch r : ℕ) → r ≡ one_if_request made.entry.event
+  pub begun-so : (batch r : ℕ) → r ≡ one_if_request made.entry.call
       → ((requests once : ℕ) → AreTickets tickets.counts tickets.sent requests once → (r + requests) + (sent + once) < 2 ^ 64 → batch ≡ sent)
       → (log : List Note) → log ≡ v.seen ++ noted made keys ∷ [] → IsFew k base log → batch ≡ sent
   begun-so batch r request_is begun log is few =
@@ -119,7 +117,7 @@ module _ {R : Type 0} {k : RecordRules R} {base : World R} {v : View} {n next : 
   -- The journal with the call, its tickets, and what it counts.
   pub kept-then : {items_then : List JournalEntry} {tickets_then : TicketsView} {book_then : Tally} (id_then : TableId) (w : View) (r : ℕ)
       → (Has (desk_key n) (desk_key n ∷ []) → Has (desk_key n) v.born) → id_then ≡ id → w ≡ keeper (v.seen ++ noted made keys ∷ []) v.born
-      → items_then ≡ items ++ made ∷ [] → r ≡ one_if_request made.entry.event
+      → items_then ≡ items ++ made ∷ [] → r ≡ one_if_request made.entry.call
       → ((requests once : ℕ) → AreTickets tickets.counts tickets.sent requests once → AreTickets tickets_then.counts tickets_then.sent (r + requests) (sent + once))
       → IsRecorded share before after book book_then → IsKept k base table id_then w items_then dropped from desks tickets_then book_then
   kept-then {items_then} {tickets_then} {book_then} id_then w r born same keeps filled request_is ticketed recorded =

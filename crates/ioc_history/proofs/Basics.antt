@@ -51,6 +51,6 @@ module _ {R : Type 0} (k : RecordRules R) (lawful : IsLawful k) where
   missing-option None target isnt named = let none = subst (λ (l : List ℕ). Contains l target) lawful.missing_targets named in absurd (omega (arith, none.1))
   missing-option (Some x) target isnt named = cc
 
-  pub missing-names : (w : World R) (r target : ℕ) → contains_key w.records r ≡ false → Contains (targets k (at k w r)) target → ⊥
+  pub missing-named : (w : World R) (r target : ℕ) → contains_key w.records r ≡ false → Contains (targets k (at k w r)) target → ⊥
   unfolding at
-  missing-names w r target isnt named = missing-option (get w.records r) target isnt named
+  missing-named w r target isnt named = missing-option (get w.records r) target isnt named

@@ -6,10 +6,9 @@ use Rattle.ioc_ledger.specs.Shared.{ShareView}
 use Rattle.ioc_record.specs.RecordRules.{RecordRules}
 use Rattle.ioc_store.specs.World.{World}
 use Rattle.ioc_store.specs.Given.{later_among}
-use Rattle.ioc_events.specs.Step.{completes}
 use Rattle.ioc_history.specs.declared.entry.Note.{Note}
-use Rattle.ioc_history.specs.Legal.{entry_of, done, map_of}
-use Rattle.ioc_history.specs.Counting.{tallied_by, counts_on, counts_of, DoesCount, IsCountedOn, IsRecorded}
+use Rattle.ioc_history.specs.Legal.{done, map_of}
+use Rattle.ioc_history.specs.Counting.{is_completion, tallied_by, counts_on, counts_of, DoesCount, IsCountedOn, IsRecorded}
 use Rattle.ioc_history.proofs.Counting.{tallied-is}
 
 module _ {R : Type 0} (k : RecordRules R) where
@@ -20,7 +19,7 @@ module _ {R : Type 0} (k : RecordRules R) where
   -- What an event counts are its requests, calls that are answered later, and a completion.
   pub adds : (m : World R) (n : Note) (share : Option ShareView) (before after : Tally) → DoesCount k m n share before after → IfSome share (λ _. IsCountedOn before after)
   adds m n None before after does = tt
-  adds m n (Some s) before after does = ((done k m n).requests, later_among (done k m n).world.calls, completes (entry_of n).event (done k m n).reply, does ∙ tallied-is k before m n)
+  adds m n (Some s) before after does = ((done k m n).requests, later_among (done k m n).world.calls, is_completion (done k m n).call, does ∙ tallied-is k before m n)
 
   -- The book counts the list with one more call.
   pub counts-then : (base : World R) (log : List Note) (n : Note) (share : Option ShareView) (before after book then : Tally)
@@ -28,5 +27,5 @@ module _ {R : Type 0} (k : RecordRules R) where
   counts-then base log n None before after book then does is recorded = recorded ∙ is ∙ sym (does (counts_of k base log)) ∙ sym (counts-end _ base log n)
   counts-then base log n (Some s) before after book then does is recorded =
       let m = map_of k base log in
-      recorded (done k m n).requests (later_among (done k m n).world.calls) (completes (entry_of n).event (done k m n).reply) (does ∙ tallied-is k before m n)
+      recorded (done k m n).requests (later_among (done k m n).world.calls) (is_completion (done k m n).call) (does ∙ tallied-is k before m n)
       ∙ sym (tallied-is k book m n) ∙ ap (λ t. tallied_by k t m n) is ∙ sym (counts-end _ base log n)

@@ -1,5 +1,5 @@
 -- An event of held records is the same event of all.
-use Rattle.std.proofs.Common.{◌≡◌, ◌≢◌, ℕ, ◌+◌, Bool, true, false, length, List, [], ◌∷◌, Option, Some, refl, sym, ap, subst, ◌∙◌, arith}
+use Rattle.std.proofs.Common.{◌≡◌, ℕ, ◌+◌, Bool, true, false, length, List, [], ◌∷◌, Option, Some, refl, sym, ap, subst, ◌∙◌, arith}
 use Rattle.std.specs.Prelude.{is_some, unwrap_or, Contains}
 use Rattle.std.specs.FinMap.{get, contains_key}
 use Rattle.ioc_notify.specs.declared.live_numbers.Live.{Live}
@@ -9,20 +9,22 @@ use Rattle.ioc_record.specs.RecordRules.{RecordRules, targets}
 use Rattle.ioc_record.specs.Laws.{IsLawful}
 use Rattle.ioc_store.specs.World.{World, Has, IsClosed, at, begun, begun_at}
 use Rattle.ioc_store.specs.Given.{listed, answers_of}
-use Rattle.ioc_events.specs.declared.event.Event.{Event}
-use Rattle.ioc_events.specs.declared.event.Event.TheVariants.{Get, Process, Put, Complete, Link, Notify, Cancel, IsLive}
+use Rattle.ioc_events.specs.declared.event.Call.{Call}
+use Rattle.ioc_events.specs.declared.event.Call.TheVariants as call
+use Rattle.ioc_events.specs.declared.event.Event.TheVariants.{Process, Put, Complete, Notify, Cancel}
 use Rattle.ioc_events.specs.Beside.{Shut}
-use Rattle.ioc_events.specs.Holding.{IsCounted, holders}
-use Rattle.ioc_events.specs.Local.{Alike, KeepsApart, IsWithin, AgreeEvent}
+use Rattle.ioc_events.specs.declared.reply.Reply.{Reply}
+use Rattle.ioc_events.specs.Holding.{IsCounted, Cancels, holders}
+use Rattle.ioc_events.specs.Local.{Alike, KeepsApart, IsWithin, IsCallWithin, AgreeCall}
 use Rattle.ioc_events.specs.Starting.{NoneReady, is_ready}
-use Rattle.ioc_events.specs.Step.{stepped, names}
+use Rattle.ioc_events.specs.Calls.{called, named as named_by_call}
 use Rattle.ioc_events.specs.StepRules.{KeepsRecords}
 use Rattle.ioc_history.specs.declared.entry.Note.{Note}
 use Rattle.ioc_history.specs.Legal.{entry_of, done, map_of, Fits, IsLegal, IsSound}
 use Rattle.ioc_history.specs.Covering.{Holds, IsDone, IsOf, CancelsWithin}
 use Rattle.ioc_history.specs.EventLaws.{EventLaws}
 use Rattle.ioc_history.specs.Laws.{OneMore, HoldersMove, MovesAlike, BeginsSound, StaysSound}
-use Rattle.ioc_history.proofs.Basics.{not_both, not_true, same_option, is-none, waits-too, missing-names}
+use Rattle.ioc_history.proofs.Basics.{not_both, not_true, same_option, is-none, waits-too, missing-named}
 use Rattle.ioc_history.proofs.Lists.{goes-on, map-join}
 use Rattle.ioc_history.proofs.LiveFew.{done-few}
 use Rattle.ioc_history.proofs.Summing.{point, same-point, holders-moved}
@@ -54,18 +56,18 @@ module _ {R : Type 0} (k : RecordRules R) where
     done-counted m n counted =
         let answers = listed (entry_of n).answers in
         let w = begun_at (entry_of n).moment m in
-        let event = (entry_of n).event in
-        let d = stepped k answers w event in
-        laws.counted answers w d.world event d.reply d.requests (laws.allowed answers w event) (begun-counted (entry_of n).moment m counted)
+        let event = (entry_of n).call in
+        let d = called k answers w event in
+        laws.counted answers w d.world d.call d.requests (laws.allowed answers w event) (begun-counted (entry_of n).moment m counted)
 
     done-none : (m : World R) (n : Note) → NoneReady k m → NoneReady k (done k m n).world
     unfolding done
     done-none m n none =
         let answers = listed (entry_of n).answers in
         let w = begun_at (entry_of n).moment m in
-        let event = (entry_of n).event in
-        let d = stepped k answers w event in
-        laws.none_ready answers w d.world event d.reply d.requests (laws.allowed answers w event) (begun-none (entry_of n).moment m none)
+        let event = (entry_of n).call in
+        let d = called k answers w event in
+        laws.none_ready answers w d.world d.call d.requests (laws.allowed answers w event) (begun-none (entry_of n).moment m none)
 
     done-sound : (m : World R) (n : Note) → IsSound k m → Fits k m n → IsSound k (done k m n).world
     done-sound m n sound fits = record {
@@ -83,9 +85,9 @@ module _ {R : Type 0} (k : RecordRules R) where
     done-kept v n closed =
         let answers = listed (entry_of n).answers in
         let w = begun_at (entry_of n).moment v in
-        let event = (entry_of n).event in
-        let d = stepped k answers w event in
-        let kept = laws.kept answers w d.world event d.reply d.requests (laws.allowed answers w event) (begun-closed (entry_of n).moment v closed) in
+        let event = (entry_of n).call in
+        let d = called k answers w event in
+        let kept = laws.kept answers w d.world d.call d.requests (laws.allowed answers w event) (begun-closed (entry_of n).moment v closed) in
         record { has = kept.has; only = kept.only; count = kept.count }
 
   -- A held part `v` of all records `m`.
@@ -125,17 +127,20 @@ module _ {R : Type 0} (k : RecordRules R) where
       numbers = λ x y waits other_waits may out. absurd (not_both (holds.within y other_waits) out);
     }
 
-    own-within : IsWithin k mine first (entry_of n).event
+    own-within : (made : Call) → ((r : ℕ) → Contains (named_by_call made) r → Has v r) → IsCallWithin k mine first made
     unfolding at begun begun_at
-    own-within = record {
-      named = of.named;
+    own-within (call.Event event reply) named = record {
+      named = named;
       waiting = λ x waits out. absurd (not_both (holds.within x waits) out);
       holders = λ number r is there has. there;
     }
+    own-within (call.Get s field text) named = named
+    own-within (call.IsLive number live) named = named
+    own-within (call.Link s field link reply) named = named
 
-    cancel-within : (number : ℕ) → CancelsWithin k m v (Cancel number) → IsWithin k mine second (Cancel number)
+    cancel-within : (number : ℕ) (reply : Reply) → CancelsWithin k m v (call.Event (Cancel number) reply) → IsWithin k mine second (Cancel number)
     unfolding at begun begun_at
-    cancel-within number within = record {
+    cancel-within number reply within = record {
       named = λ r c. absurd (omega (arith, c.1));
       waiting = λ x waits out is. not_both (within.1 x waits (same_number is)) out;
       holders = λ other r is there has. within.0 r there (has ∙ ap Some (sym (same_cancel is)));
@@ -147,25 +152,25 @@ module _ {R : Type 0} (k : RecordRules R) where
         same_cancel : {a b : ℕ} → Cancel a ≡ Cancel b → a ≡ b
         same_cancel is = cc
 
-    other-within : (event : Event) → ((r : ℕ) → Contains (names event) r → Has v r) → ((number : ℕ) → event ≢ Cancel number) → IsWithin k mine second event
-    other-within event named not_cancel = laws.within mine second event (begun-counted (entry_of n).moment m sound.counted) named not_cancel
+    other-within : (made : Call) → ((r : ℕ) → Contains (named_by_call made) r → Has v r) → ((number : ℕ) → Cancels made number → ⊥) → IsCallWithin k mine second made
+    other-within made named not_cancel = laws.within mine second made (begun-counted (entry_of n).moment m sound.counted) named not_cancel
 
-    all-within : (event : Event) → ((r : ℕ) → Contains (names event) r → Has v r) → CancelsWithin k m v event → IsWithin k mine second event
-    all-within (Cancel number) named cancels = cancel-within number cancels
-    all-within (Get s field) named cancels = other-within (Get s field) named (λ number is. cc)
-    all-within (Process s) named cancels = other-within (Process s) named (λ number is. cc)
-    all-within (Put s field given) named cancels = other-within (Put s field given) named (λ number is. cc)
-    all-within (Complete s number x) named cancels = other-within (Complete s number x) named (λ number is. cc)
-    all-within (Link s field link) named cancels = other-within (Link s field link) named (λ number is. cc)
-    all-within (Notify s number field given) named cancels = other-within (Notify s number field given) named (λ number is. cc)
-    all-within (IsLive number) named cancels = other-within (IsLive number) named (λ number is. cc)
+    all-within : (made : Call) → ((r : ℕ) → Contains (named_by_call made) r → Has v r) → CancelsWithin k m v made → IsCallWithin k mine second made
+    all-within (call.Event (Cancel number) reply) named cancels = cancel-within number reply cancels
+    all-within (call.Event (Process s) reply) named cancels = other-within (call.Event (Process s) reply) named (λ number is. cc)
+    all-within (call.Event (Put s field given) reply) named cancels = other-within (call.Event (Put s field given) reply) named (λ number is. cc)
+    all-within (call.Event (Complete s number x) reply) named cancels = other-within (call.Event (Complete s number x) reply) named (λ number is. cc)
+    all-within (call.Event (Notify s number field given) reply) named cancels = other-within (call.Event (Notify s number field given) reply) named (λ number is. cc)
+    all-within (call.Get s field text) named cancels = other-within (call.Get s field text) named (λ number is. is)
+    all-within (call.Link s field link reply) named cancels = other-within (call.Link s field link reply) named (λ number is. is)
+    all-within (call.IsLive number live) named cancels = other-within (call.IsLive number live) named (λ number is. is)
 
-    pub agree : AgreeEvent k mine first second (done k v n) (done k m n)
+    pub agree : AgreeCall k mine first second (done k v n) (done k m n)
     unfolding done
     agree =
-        laws.local mine (listed (entry_of n).answers) first second (entry_of n).event shut alike own-apart
+        laws.local mine (listed (entry_of n).answers) first second (entry_of n).call shut alike own-apart
         (laws.apart mine second (begun-counted (entry_of n).moment m sound.counted) (begun-none (entry_of n).moment m sound.none_ready))
-        own-within (all-within (entry_of n).event of.named of.cancels) of.asks
+        (own-within (entry_of n).call of.named) (all-within (entry_of n).call of.named of.cancels) of.asks
 
     outside : (r : ℕ) → (Has v r → ⊥) → contains_key v.records r ≡ false
     outside r out = not_true (contains_key v.records r) out
@@ -247,7 +252,7 @@ module _ {R : Type 0} (k : RecordRules R) where
 
     pub event-fits : (w : World R) → IsDone k v n w → Fits k m n
     event-fits w is = record {
-      reply = sym is.reply ∙ agree.reply;
+      reply = sym is.reply ∙ agree.call;
       used = sym (ap answers_of agree.alike.same.calls) ∙ is.used;
       untouched = λ r out. record {
         same = same-outside r (λ there. out (of.covers r there));
@@ -273,7 +278,7 @@ module _ {R : Type 0} (k : RecordRules R) where
     done-shut r target named =
         elim (contains_key (done k v n).world.records r) as (λ b. contains_key (done k v n).world.records r ≡ b → Has (done k v n).world target) [
           | true ↦ λ there. kept.has target (agree.shut.shut r target (kept.only r there) named)
-          | false ↦ λ isnt. absurd (missing-names k lawful (done k v n).world r target isnt named)
+          | false ↦ λ isnt. absurd (missing-named k lawful (done k v n).world r target isnt named)
         ] refl
 
     pub done-held : Holds k (done k m n).world (done k v n).world

@@ -10,8 +10,9 @@ use Rattle.ioc_record.specs.RecordRules.{RecordRules}
 use Rattle.ioc_record.specs.Laws.{IsLawful}
 use Rattle.ioc_store.specs.World.{World, Has, at, begun, begun_at}
 use Rattle.ioc_store.specs.Given.{listed}
-use Rattle.ioc_events.specs.Holding.{IsCounted, IsHeld, by_a_record, in_a_waiting_list, EndsExactly}
-use Rattle.ioc_events.specs.Step.{stepped}
+use Rattle.ioc_events.specs.declared.event.Call.{Call}
+use Rattle.ioc_events.specs.Holding.{IsCounted, IsHeld, by_a_record, in_a_waiting_list, Begins, Cancels, EndsExactly}
+use Rattle.ioc_events.specs.Calls.{called}
 use Rattle.ioc_history.specs.declared.entry.Note.{Note}
 use Rattle.ioc_history.specs.Legal.{entry_of, done, map_of, IsSound}
 use Rattle.ioc_history.specs.Covering.{Holds, IsOf}
@@ -71,21 +72,21 @@ module _ {R : Type 0} (k : RecordRules R) where
       ] refl
 
 module _ {R : Type 0} (k : RecordRules R) (lawful : IsLawful k) (laws : EventLaws k) where
-  done-ends : (m : World R) (n : Note) → IsCounted k m → EndsExactly k (begun_at (entry_of n).moment m) (entry_of n).event (done k m n).reply (done k m n).world
+  done-ends : (m : World R) (n : Note) → IsCounted k m → EndsExactly k (begun_at (entry_of n).moment m) (done k m n).call (done k m n).world
   unfolding begun begun_at done
   done-ends m n counted =
       let answers = listed (entry_of n).answers in
       let w = begun_at (entry_of n).moment m in
-      let event = (entry_of n).event in
-      let d = stepped k answers w event in
-      laws.ends answers w d.world event d.reply d.requests (laws.allowed answers w event) (begun-counted k (entry_of n).moment m counted) refl
+      let event = (entry_of n).call in
+      let d = called k answers w event in
+      laws.ends answers w d.world d.call d.requests (laws.allowed answers w event) (begun-counted k (entry_of n).moment m counted) refl
 
   module _ (m v : World R) (n : Note) (sound : IsSound k m) (holds : Holds k m v) (of : IsOf k m v n) (counted : IsCounted k v) (number : ℕ) where
     abbrev moment : ℕ
     moment = (entry_of n).moment
 
-    same-reply : (done k v n).reply ≡ (done k m n).reply
-    same-reply = (agree k lawful laws m v n sound holds of).reply
+    same-reply : (done k v n).call ≡ (done k m n).call
+    same-reply = (agree k lawful laws m v n sound holds of).call
 
     held-after : Holds k (done k m n).world (done k v n).world
     held-after = done-held k lawful laws m v n sound holds of
@@ -94,9 +95,9 @@ module _ {R : Type 0} (k : RecordRules R) (lawful : IsLawful k) (laws : EventLaw
     ends-in-all over nobody =
         let one = ((done-ends v n counted).ended number).0 over in
         ((done-ends m n sound.counted).ended number).1 (
-          ⊎_elim (λ held. inl (begun-has k moment m number (has-in-all k (has-begun k moment v number held) m holds))) (λ is. inr (sym same-reply ∙ is)) one.0,
+          ⊎_elim (λ held. inl (begun-has k moment m number (has-in-all k (has-begun k moment v number held) m holds))) (λ is. inr (subst (λ (made : Call). Begins made number) same-reply is)) one.0,
           nobody,
-          one.2,
+          (λ is. one.2 (subst (λ (made : Call). Cancels made number) (sym same-reply) is)),
         )
 
     ends-in-part : Contains (done k m n).world.ended number → Contains (done k v n).world.ended number × (IsHeld k (done k m n).world number → ⊥)
@@ -106,9 +107,9 @@ module _ {R : Type 0} (k : RecordRules R) (lawful : IsLawful k) (laws : EventLaw
             ⊎_elim
                 (λ held. inl (begun-has k moment v number (has-inside k (has-begun k moment m number held) v (done k m n).world holds
                 (λ s out. same-outside k lawful laws m v n sound holds of s out) (λ s out. waiting-outside k lawful laws m v n sound holds of s out) all.1)))
-                (λ is. inr (same-reply ∙ is)) all.0,
+                (λ is. inr (subst (λ (made : Call). Begins made number) (sym same-reply) is)) all.0,
             (λ held. all.1 (has-in-all k held (done k m n).world held-after)),
-            all.2,
+            (λ is. all.2 (subst (λ (made : Call). Cancels made number) same-reply is)),
           ),
           all.1,
         )

@@ -38,17 +38,17 @@ module _ {R : Type 0} (k : RecordRules R) where
     was-there : (w : World R) (q : ℕ) → Has (cancelled k number w) q → Has w q
     was-there w q has = sym (has-cancelled k number w q) ∙ has
 
-    names-as : (w : World R) (q : ℕ) → targets k (at k (cancelled k number w) q) ≡ targets k (at k w q)
-    names-as w q = at_cancelled-either k number (λ r s. targets k s ≡ targets k r) (λ r. refl) (λ r. targets-set k lawful r (with_notification None (k.common r)) (refl, refl)) w q
+    named-as : (w : World R) (q : ℕ) → targets k (at k (cancelled k number w) q) ≡ targets k (at k w q)
+    named-as w q = at_cancelled-either k number (λ r s. targets k s ≡ targets k r) (λ r. refl) (λ r. targets-set k lawful r (with_notification None (k.common r)) (refl, refl)) w q
 
     pub cancel-held : (m v : World R) → Holds k m v → Holds k (cancelled k number m) (cancelled k number v)
     cancel-held m v holds = record {
       records = λ q has. get-same m v q (holds.records q (was-there v q has));
       waiting = λ q has. waiting-of m q ∙ ap (without number) (holds.waiting q (was-there v q has)) ∙ sym (waiting-of v q);
       within = λ x c. there v x.target (holds.within x (waits-before v x c));
-      shut = record { closed = λ q target c. there v target (holds.shut.closed q target (subst (λ (l : List ℕ). Contains l target) (names-as v q) c)) };
+      shut = record { closed = λ q target c. there v target (holds.shut.closed q target (subst (λ (l : List ℕ). Contains l target) (named-as v q) c)) };
       apart = λ a q out has named.
-          holds.apart a q (λ in_v. out (there v a in_v)) (was-there v q has) (subst (λ (l : List ℕ). Contains l q) (names-as m a) named);
+          holds.apart a q (λ in_v. out (there v a in_v)) (was-there v q has) (subst (λ (l : List ℕ). Contains l q) (named-as m a) named);
     }
 
   pub cancels-held : (lawful : IsLawful k) → CancelIsHeld k

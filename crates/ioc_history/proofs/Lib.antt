@@ -10,7 +10,6 @@ mod Doing
 mod Endings
 mod Ends
 mod Few
-mod Fitting
 mod Giving
 mod Lasting
 mod Learning

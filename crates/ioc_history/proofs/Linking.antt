@@ -1,5 +1,5 @@
 -- A link change of held records is the same link change of all.
-use Rattle.std.proofs.Common.{◌≡◌, ◌⊎◌, ℕ, Bool, true, false, cond, eqb, List, [], ◌∷◌, ◌++◌, Option, Some, None as Nothing_, refl, sym, ap, subst, ◌∙◌, inl, inr, ⊎_elim, arith}
+use Rattle.std.proofs.Common.{◌≡◌, ◌⊎◌, ℕ, Bool, true, false, cond, eqb, List, [], ◌∷◌, ◌++◌, Option, Some, None as Nothing_, Ok, refl, sym, ap, subst, ◌∙◌, inl, inr, ⊎_elim, arith}
 use Rattle.std.specs.Prelude.{is_some, unwrap_or, Contains}
 use Rattle.std.specs.FinMap.{get}
 use Rattle.std.proofs.lemmas.List.Elements.{Contains-append_cases, Contains-append_right}
@@ -17,11 +17,11 @@ use Rattle.ioc_store.specs.Given.{listed, answers_of}
 use Rattle.ioc_store.specs.Weights.{weight_of}
 use Rattle.ioc_store.specs.Worlds.{at-put_same, has-put}
 use Rattle.ioc_store.specs.Scanning.{with_link_changed}
-use Rattle.ioc_events.specs.declared.event.Event.TheVariants.{Link}
-use Rattle.ioc_events.specs.declared.reply.Reply.TheVariants.{Plain}
+use Rattle.ioc_events.specs.declared.event.Call.TheVariants as calling
 use Rattle.ioc_events.specs.Holding.{one_if_has}
-use Rattle.ioc_events.specs.Step.{Stepped, all_there}
-use Rattle.ioc_events.specs.StepRules.{by_itself, takes_link}
+use Rattle.ioc_events.specs.Calls.{Called}
+use Rattle.ioc_events.specs.Step.{all_there, link_refusal}
+use Rattle.ioc_events.specs.StepRules.{takes_link}
 use Rattle.ioc_history.specs.declared.entry.Note.{Note}
 use Rattle.ioc_history.specs.Key.{Key}
 use Rattle.ioc_history.specs.Legal.{done, map_of}
@@ -64,30 +64,32 @@ module _ {R : Type 0} (k : RecordRules R) (lawful : IsLawful k) (laws : EventLaw
     abbrev note : Note
     note = link_note desk call moment s field link keys
 
-    changes : done k a note ≡ record { world = with_link_changed k (begun_at moment a) s field link; reply = Plain; requests = None }
-    unfolding done at begun begun_at
-    changes =
-        laws.alone (listed []) (begun_at moment a) (with_link_changed k (begun_at moment a) s field link) (Link s field link) Plain None
-        (by_itself (takes_link takes.there (all-there a (named_by (use_of link)) within) takes.has_link takes.allowed) refl)
+    taken : link_refusal k (begun_at moment a) s field link ≡ Nothing_
+    unfolding at begun begun_at link_refusal
+    taken = rw (takes.there, all-there a (named_by (use_of link)) within, takes.has_link, takes.allowed) refl
+
+    changes : done k a note ≡ record { world = with_link_changed k (begun_at moment a) s field link; call = calling.Link s field link (Ok tt); requests = None }
+    unfolding done
+    changes = laws.alone (listed []) (begun_at moment a) (with_link_changed k (begun_at moment a) s field link) (calling.Link s field link (Ok tt)) None (takes_link taken)
 
     is-done : IsDone k a note (done k a note).world
     unfolding begun begun_at
     is-done = record {
       world = refl;
-      reply = ap (λ (d : Stepped R). d.reply) changes;
-      used = ap (λ (d : Stepped R). answers_of d.world.calls) changes ∙ ap answers_of (changed-calls k (begun_at moment a) s field link);
+      reply = ap (λ (d : Called R). d.call) changes;
+      used = ap (λ (d : Called R). answers_of d.world.calls) changes ∙ ap answers_of (changed-calls k (begun_at moment a) s field link);
     }
 
     pub done-get : (q : ℕ) → get (done k a note).world.records q ≡ set-at s (changed-record k field link (at k a s)) (get a.records) q
     unfolding at begun begun_at
-    done-get q = ap (λ (d : Stepped R). get d.world.records q) changes ∙ changed-get k (begun_at moment a) s field link q
+    done-get q = ap (λ (d : Called R). get d.world.records q) changes ∙ changed-get k (begun_at moment a) s field link q
 
     pub done-waiting : (done k a note).world.waiting ≡ a.waiting
     unfolding begun begun_at
-    done-waiting = ap (λ (d : Stepped R). d.world.waiting) changes ∙ changed-waiting k (begun_at moment a) s field link
+    done-waiting = ap (λ (d : Called R). d.world.waiting) changes ∙ changed-waiting k (begun_at moment a) s field link
 
-    names-within : (r : ℕ) → Contains (s ∷ named_by (use_of link)) r → Has a r
-    names-within r c = elim (Contains-append_cases (s ∷ []) (named_by (use_of link)) r c) [
+    named-within : (r : ℕ) → Contains (s ∷ named_by (use_of link)) r → Has a r
+    named-within r c = elim (Contains-append_cases (s ∷ []) (named_by (use_of link)) r c) [
       | inl here ↦ let e : s ≡ r = one-there s r here in subst (λ (q : ℕ). Has a q) e takes.there
       | inr later ↦ within r later
     ]
@@ -101,7 +103,7 @@ module _ {R : Type 0} (k : RecordRules R) (lawful : IsLawful k) (laws : EventLaw
 
     is-of : (m : World R) → Cover keys a → IsOf k m a note
     is-of m covers = record {
-      named = names-within;
+      named = named-within;
       cancels = tt;
       asks = tt;
       covers = covers;

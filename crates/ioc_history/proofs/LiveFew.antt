@@ -1,19 +1,22 @@
 -- At most 256 puts with notification are live.
-use Rattle.std.proofs.Common.{◌≡◌, ◌≢◌, ℕ, ◌+◌, ◌<◌, ◌≤◌, true, false, eqb, ◌||◌, length, List, [], ◌∷◌, refl, sym, subst, ◌∙◌, arith}
+use Rattle.std.proofs.Common.{◌≡◌, ◌≢◌, ℕ, ◌+◌, ◌<◌, ◌≤◌, true, false, eqb, ◌||◌, length, List, [], ◌∷◌, refl, sym, subst, arith}
 use Rattle.std.specs.Prelude.{map, Contains}
 use Rattle.std.proofs.lemmas.Bool.{eq-eqb, eqb-true, ltb-true, and_parts}
 use Rattle.std.proofs.lemmas.List.{length-map}
 use Rattle.ioc_notify.specs.declared.live_numbers.Live.{Live}
 use Rattle.ioc_notify.specs.Living.{is_live}
 use Rattle.ioc_record.specs.RecordRules.{RecordRules}
-use Rattle.ioc_store.specs.World.{World, begun, begun_at}
-use Rattle.ioc_store.specs.Given.{listed}
+use Rattle.ioc_ledger.specs.Requests.{Requests}
+use Rattle.ioc_store.specs.World.{World, has_place, begun, begun_at}
+use Rattle.ioc_store.specs.Given.{Answers, listed}
 use Rattle.ioc_events.specs.declared.event.Entry.{Entry}
 use Rattle.ioc_events.specs.declared.reply.Reply.{Reply}
-use Rattle.ioc_events.specs.declared.reply.Reply.TheVariants.{Plain, Outcome as Outcome-reply, Shown, Notify as Notify-reply, Live as Live-reply, Refused}
-use Rattle.ioc_events.specs.Holding.{IsCounted}
-use Rattle.ioc_events.specs.Step.{stepped}
-use Rattle.ioc_events.specs.StepRules.{Replay, at_the_end, and_then, Step}
+use Rattle.ioc_events.specs.declared.reply.Reply.TheVariants.{Plain, Outcome as Outcome-reply, Notify as Notify-reply, Refused}
+use Rattle.ioc_events.specs.declared.event.Call.{Call}
+use Rattle.ioc_events.specs.declared.event.Call.TheVariants as call
+use Rattle.ioc_events.specs.Holding.{IsCounted, Begins}
+use Rattle.ioc_events.specs.Calls.{called}
+use Rattle.ioc_events.specs.StepRules.{Replay, at_the_end, and_then, Calls, does_event, shows_field, tells_if_live, keeps_its_link, takes_link}
 use Rattle.ioc_events.proofs.Beginning.{step-begins}
 use Rattle.ioc_history.specs.declared.entry.Note.{Note}
 use Rattle.ioc_history.specs.Legal.{entry_of, done, Fits}
@@ -81,9 +84,21 @@ module _ {R : Type 0} (k : RecordRules R) where
     by-reply (Notify-reply b) place fresh = one-begun b (place b refl) fresh
     by-reply Plain place fresh = none-begun (λ n isnt. fresh n isnt (λ is. cc))
     by-reply (Outcome-reply outcome) place fresh = none-begun (λ n isnt. fresh n isnt (λ is. cc))
-    by-reply (Shown text) place fresh = none-begun (λ n isnt. fresh n isnt (λ is. cc))
-    by-reply (Live-reply b) place fresh = none-begun (λ n isnt. fresh n isnt (λ is. cc))
     by-reply (Refused e) place fresh = none-begun (λ n isnt. fresh n isnt (λ is. cc))
+
+    by-call : (made : Call) → ((n : ℕ) → Begins made n → length before.live < 256) → ((n : ℕ) → is_live n before.live ≡ false → (Begins made n → ⊥) → is_live n after.live ≡ false) → length after.live ≤ 256
+    by-call (call.Event event reply) place fresh = by-reply reply place fresh
+    by-call (call.Get s field text) place fresh = none-begun (λ n isnt. fresh n isnt (λ is. is))
+    by-call (call.IsLive number live) place fresh = none-begun (λ n isnt. fresh n isnt (λ is. is))
+    by-call (call.Link s field link reply) place fresh = none-begun (λ n isnt. fresh n isnt (λ is. is))
+
+  -- A call begins a put with notification only if there is a place for it.
+  begins-place : (answers : Answers) {w after : World R} {made : Call} {requests : Requests} → Calls k answers w made after requests → (number : ℕ) → Begins made number → has_place w number ≡ true
+  begins-place answers (does_event step) number is = (step-begins k answers number step is).place
+  begins-place answers (shows_field _) number is = absurd is
+  begins-place answers (tells_if_live _) number is = absurd is
+  begins-place answers (keeps_its_link _) number is = absurd is
+  begins-place answers (takes_link _) number is = absurd is
 
   -- The event of a note.
 
@@ -96,24 +111,24 @@ module _ {R : Type 0} (k : RecordRules R) where
     done-replay =
         let answers = listed (entry_of n).answers in
         let w = begun_at (entry_of n).moment m in
-        let d = stepped k answers w (entry_of n).event in
-        and_then (subst (λ (r : Reply). Step k answers w (entry_of n).event d.world r d.requests) (sym fits.reply) (laws.allowed answers w (entry_of n).event)) fits.used at_the_end
+        let d = called k answers w (entry_of n).call in
+        and_then (subst (λ (made : Call). Calls k answers w made d.world d.requests) (sym fits.reply) (laws.allowed answers w (entry_of n).call)) fits.used at_the_end
 
     -- A put with notification begins only if there is a place for it.
-    place-before : (number : ℕ) → (entry_of n).reply ≡ Notify-reply number → length m.live < 256
+    place-before : (number : ℕ) → Begins (entry_of n).call number → length m.live < 256
     unfolding begun begun_at done
     place-before number is =
         let answers = listed (entry_of n).answers in
         let w = begun_at (entry_of n).moment m in
-        let place = (step-begins k answers number (laws.allowed answers w (entry_of n).event) (sym fits.reply ∙ is)).place in
+        let place = begins-place answers (laws.allowed answers w (entry_of n).call) number (subst (λ (made : Call). Begins made number) fits.reply is) in
         let room = ltb-true (length m.live + 0) 256 (and_parts _ _ place).0 in
         omega (arith, room)
 
-    pub gone : (number : ℕ) → IsCounted k m → IsCounted k next → is_live number m.live ≡ false → (entry_of n).reply ≢ Notify-reply number → is_live number next.live ≡ false
+    pub gone : (number : ℕ) → IsCounted k m → IsCounted k next → is_live number m.live ≡ false → (Begins (entry_of n).call number → ⊥) → is_live number next.live ≡ false
     gone number counted then isnt other =
         let over = laws.free m next number (entry_of n) [] done-replay counted (λ held. not_both ((laws.live m number counted).1 held) isnt)
-        (λ e c. subst (λ (x : Entry). x.reply ≢ Notify-reply number) (one-there (entry_of n) e c) other) in
+        (λ e c. subst (λ (x : Entry). Begins x.call number → ⊥) (one-there (entry_of n) e c) other) in
         not_true (is_live number next.live) (λ is. over.not_held ((laws.live next number then).0 is))
 
     pub done-few : IsCounted k m → IsCounted k next → length m.live ≤ 256 → length next.live ≤ 256
-    done-few counted then few = by-reply m next then few (entry_of n).reply (λ number is. place-before number is) (λ number isnt other. gone number counted then isnt other)
+    done-few counted then few = by-call m next then few (entry_of n).call (λ number is. place-before number is) (λ number isnt other. gone number counted then isnt other)

@@ -5,7 +5,7 @@ use Rattle.std.proofs.lemmas.List.Elements.{All-append}
 use Rattle.std.proofs.lemmas.List.Quantifiers.{all_pairs_push}
 use Rattle.std.specs.List.{All, AllPairs, Contains, cons_option}
 use Rattle.std.specs.Option.{IfSome}
-use Rattle.ioc_events.specs.declared.event.Event.{Event}
+use Rattle.ioc_events.specs.declared.event.Call.{Call}
 use Rattle.ioc_history.specs.declared.entry.JournalEntry.{JournalEntry}
 use Rattle.ioc_history.specs.declared.entry.Note.{Note}
 use Rattle.ioc_history.specs.Key.{Key, Has}
@@ -21,7 +21,7 @@ given-append (Some n) xs ys = refl
 
 pub numbers-append : (xs ys : List JournalEntry) → numbers_given (xs ++ ys) ≡ numbers_given xs ++ numbers_given ys
 numbers-append [] ys = refl
-numbers-append (x ∷ xs) ys = ap (λ l. cons_option (number_given x.entry.event) l) (numbers-append xs ys) ∙ given-append (number_given x.entry.event) (numbers_given xs) (numbers_given ys)
+numbers-append (x ∷ xs) ys = ap (λ l. cons_option (number_given x.entry.call) l) (numbers-append xs ys) ∙ given-append (number_given x.entry.call) (numbers_given xs) (numbers_given ys)
 
 puts_append : (xs ys : List Note) → PutsAreKeyed xs → PutsAreKeyed ys → PutsAreKeyed (xs ++ ys)
 puts_append [] ys h g = g
@@ -42,7 +42,7 @@ none_without (Some n) keys h spares xs = absurd (spares h)
 
 spared_numbers : (xs : List Note) → PutsAreKeyed xs → Spares notifications_key xs → numbers_given (calls xs) ≡ []
 spared_numbers [] h s = refl
-spared_numbers (x ∷ xs) h s = none_without (number_given x.entry.entry.event) x.keys h.0 s.0 (numbers_given (calls xs)) ∙ spared_numbers xs h.1 s.1
+spared_numbers (x ∷ xs) h s = none_without (number_given x.entry.entry.call) x.keys h.0 s.0 (numbers_given (calls xs)) ∙ spared_numbers xs h.1 s.1
 
 -- The owner of that key has seen all numbers of the list.
 pub numbers_on : (seen log : List Note) (owned : List Key) → Continues seen owned log → Has notifications_key owned → PutsAreKeyed log → numbers_given (calls log) ≡ numbers_given (calls seen)
@@ -55,11 +55,11 @@ numbers_on seen log owned go has keyed =
 -- The numbers of a list with one more call are those that the owner has seen, followed by the
 -- number of the call, if it has one.
 pub numbers_then : (seen log longer : List Note) (owned : List Key) (n : Note) → Continues seen owned log → longer ≡ log ++ n ∷ [] → Has notifications_key owned → PutsAreKeyed longer
-    → numbers_given (calls longer) ≡ numbers_given (calls seen) ++ cons_option (number_given n.entry.entry.event) []
+    → numbers_given (calls longer) ≡ numbers_given (calls seen) ++ cons_option (number_given n.entry.entry.call) []
 numbers_then seen log longer owned n go is has keyed =
     ap (λ l. numbers_given (calls l)) is
     ∙ (ap numbers_given (calls-append log (n ∷ []))
-    ∙ (numbers-append (calls log) (n.entry ∷ []) ∙ ap (λ l. l ++ cons_option (number_given n.entry.entry.event) []) (numbers_on seen log owned go has (puts_left log (n ∷ []) (subst PutsAreKeyed is keyed)))))
+    ∙ (numbers-append (calls log) (n.entry ∷ []) ∙ ap (λ l. l ++ cons_option (number_given n.entry.entry.call) []) (numbers_on seen log owned go has (puts_left log (n ∷ []) (subst PutsAreKeyed is keyed)))))
 
 -- Lists with one more call.
 
@@ -82,20 +82,20 @@ keyed_by : (o : Option ℕ) (seen : List Note) (owned keys : List Key) → ((key
 keyed_by None seen owned keys within h = tt
 keyed_by (Some n) seen owned keys within h = within notifications_key h.0
 
-pub numbers_differ : (seen log : List Note) (owned : List Key) (n : Note) → Continues seen owned log → PutsAreKeyed log → Differ (numbers_given (calls log)) → MayBegin seen owned n.entry.entry.event → Differ (numbers_given (calls (log ++ n ∷ [])))
+pub numbers_differ : (seen log : List Note) (owned : List Key) (n : Note) → Continues seen owned log → PutsAreKeyed log → Differ (numbers_given (calls log)) → MayBegin seen owned n.entry.entry.call → Differ (numbers_given (calls (log ++ n ∷ [])))
 numbers_differ seen log owned n go keyed differ begins =
     subst Differ (sym (ap numbers_given (calls-append log (n ∷ [])) ∙ numbers-append (calls log) (n.entry ∷ [])))
-    (differ_more (number_given n.entry.entry.event) (numbers_given (calls log)) differ (number_is_unused (number_given n.entry.entry.event) seen log owned go keyed begins))
+    (differ_more (number_given n.entry.entry.call) (numbers_given (calls log)) differ (number_is_unused (number_given n.entry.entry.call) seen log owned go keyed begins))
 
-pub puts_stay_keyed : (seen log : List Note) (owned : List Key) (n : Note) → ((key : Key) → Has key owned → Has key n.keys) → PutsAreKeyed log → MayBegin seen owned n.entry.entry.event → PutsAreKeyed (log ++ n ∷ [])
-puts_stay_keyed seen log owned n within keyed begins = puts_append log (n ∷ []) keyed (keyed_by (number_given n.entry.entry.event) seen owned n.keys within begins, tt)
+pub puts_stay_keyed : (seen log : List Note) (owned : List Key) (n : Note) → ((key : Key) → Has key owned → Has key n.keys) → PutsAreKeyed log → MayBegin seen owned n.entry.entry.call → PutsAreKeyed (log ++ n ∷ [])
+puts_stay_keyed seen log owned n within keyed begins = puts_append log (n ∷ []) keyed (keyed_by (number_given n.entry.entry.call) seen owned n.keys within begins, tt)
 
 -- Events that begin no put with notification, and what is known of the last number.
 
-pub begins_none : (seen : List Note) (owned : List Key) (event : Event) → number_given event ≡ None → MayBegin seen owned event
+pub begins_none : (seen : List Note) (owned : List Key) (event : Call) → number_given event ≡ None → MayBegin seen owned event
 begins_none seen owned event none = subst (λ (o : Option ℕ). IfSome o (λ number. Has notifications_key owned × (Contains (numbers_given (calls seen)) number → ⊥))) (sym none) tt
 
-pub numbers_same : (seen log longer : List Note) (owned : List Key) (n : Note) → Continues seen owned log → longer ≡ log ++ n ∷ [] → Has notifications_key owned → PutsAreKeyed longer → number_given n.entry.entry.event ≡ None
+pub numbers_same : (seen log longer : List Note) (owned : List Key) (n : Note) → Continues seen owned log → longer ≡ log ++ n ∷ [] → Has notifications_key owned → PutsAreKeyed longer → number_given n.entry.entry.call ≡ None
     → numbers_given (calls longer) ≡ numbers_given (calls seen)
 numbers_same seen log longer owned n go is has keyed none =
     numbers_then seen log longer owned n go is has keyed ∙ (ap (λ (o : Option ℕ). numbers_given (calls seen) ++ cons_option o []) none ∙ append-nil (numbers_given (calls seen)))
@@ -106,10 +106,10 @@ all_of (Some n) last h zero d lt = h
 all_of (Some n) last h (suc k) d lt = absurd (let none : suc k < 1 = lt in let z : ⊥ = omega (arith, none) in z)
 
 pub numbers_below : (seen log longer : List Note) (owned : List Key) (n : Note) (last : ℕ) → Continues seen owned log → longer ≡ log ++ n ∷ [] → Has notifications_key owned → PutsAreKeyed longer
-    → All (λ number. number ≤ last) (numbers_given (calls seen)) → IfSome (number_given n.entry.entry.event) (λ number. number ≤ last) → All (λ number. number ≤ last) (numbers_given (calls longer))
+    → All (λ number. number ≤ last) (numbers_given (calls seen)) → IfSome (number_given n.entry.entry.call) (λ number. number ≤ last) → All (λ number. number ≤ last) (numbers_given (calls longer))
 numbers_below seen log longer owned n last go is has keyed below given =
     subst (λ l. All (λ number. number ≤ last) l) (sym (numbers_then seen log longer owned n go is has keyed))
-    (All-append (λ number. number ≤ last) (numbers_given (calls seen)) (cons_option (number_given n.entry.entry.event) []) below (all_of (number_given n.entry.entry.event) last given))
+    (All-append (λ number. number ≤ last) (numbers_given (calls seen)) (cons_option (number_given n.entry.entry.call) []) below (all_of (number_given n.entry.entry.call) last given))
 
 pub still_below : (xs : List ℕ) (last later : ℕ) → last ≤ later → All (λ number. number ≤ last) xs → All (λ number. number ≤ later) xs
 still_below xs last later le h k d lt = let was = h k d lt in omega (arith, was, le)

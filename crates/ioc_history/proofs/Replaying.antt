@@ -4,9 +4,9 @@ use Rattle.ioc_record.specs.RecordRules.{RecordRules}
 use Rattle.ioc_record.specs.Laws.{IsLawful}
 use Rattle.ioc_store.specs.World.{World, begun_at}
 use Rattle.ioc_store.specs.Given.{listed}
-use Rattle.ioc_events.specs.declared.reply.Reply.{Reply}
-use Rattle.ioc_events.specs.Step.{stepped}
-use Rattle.ioc_events.specs.StepRules.{Step, Replay, at_the_end, and_then}
+use Rattle.ioc_events.specs.declared.event.Call.{Call}
+use Rattle.ioc_events.specs.Calls.{called}
+use Rattle.ioc_events.specs.StepRules.{Calls, Replay, at_the_end, and_then}
 use Rattle.ioc_history.specs.declared.entry.Note.{Note}
 use Rattle.ioc_history.specs.Legal.{entry_of, entries_of, done, map_of, Fits, IsLegal}
 use Rattle.ioc_history.specs.Laws.{Parts, Joins, Replays}
@@ -25,17 +25,17 @@ module _ {R : Type 0} (k : RecordRules R) (lawful : IsLawful k) (laws : EventLaw
       one-more k lawful laws base both w log n sound legal (gathers k lawful (map_of k base log) both v o holds other_holds halves within) of is
 
 module _ {R : Type 0} (k : RecordRules R) (laws : EventLaws k) where
-  steps : (m : World R) (n : Note) → Fits k m n → Step k (listed (entry_of n).answers) (begun_at (entry_of n).moment m) (entry_of n).event (done k m n).world (entry_of n).reply (done k m n).requests
+  calls : (m : World R) (n : Note) → Fits k m n → Calls k (listed (entry_of n).answers) (begun_at (entry_of n).moment m) (entry_of n).call (done k m n).world (done k m n).requests
   unfolding done
-  steps m n fits =
+  calls m n fits =
       let answers = listed (entry_of n).answers in
       let w = begun_at (entry_of n).moment m in
-      let d = stepped k answers w (entry_of n).event in
-      subst (λ (r : Reply). Step k answers w (entry_of n).event d.world r d.requests) (sym fits.reply) (laws.allowed answers w (entry_of n).event)
+      let d = called k answers w (entry_of n).call in
+      subst (λ (made : Call). Calls k answers w made d.world d.requests) (sym fits.reply) (laws.allowed answers w (entry_of n).call)
 
   replay : (notes : List Note) (m : World R) → IsLegal k m notes → Replay k m (entries_of notes) (map_of k m notes)
   replay [] m legal = at_the_end
-  replay (n ∷ notes) m legal = and_then (steps m n legal.0) legal.0.used (replay notes (done k m n).world legal.1)
+  replay (n ∷ notes) m legal = and_then (calls m n legal.0) legal.0.used (replay notes (done k m n).world legal.1)
 
   pub replays : Replays k
   replays base log legal = replay log base legal

@@ -9,7 +9,7 @@ use Rattle.ioc_record.specs.Laws.{IsLawful}
 use Rattle.ioc_store.specs.World.{World, Has, IsClosed, at}
 use Rattle.ioc_history.specs.Covering.{Holds, AreHalves}
 use Rattle.ioc_history.specs.Laws.{Falls, Opens, Gathers, HoldsAll}
-use Rattle.ioc_history.proofs.Basics.{not_both, is-none, missing-names}
+use Rattle.ioc_history.proofs.Basics.{not_both, is-none, missing-named}
 
 pub none-there : {X : Type 0} (o : Option X) → o ≡ None → is_some o ≡ true → ⊥
 none-there o none there = not_both there (ap (λ (p : Option _). is_some p) none)
@@ -86,7 +86,7 @@ module _ {R : Type 0} (k : RecordRules R) where
             (λ there. half-shut all one other halves closed a q there named)
             (λ there. half-shut all other one (turned all one other halves) other_closed a q there named)
             (either all one other halves a has)
-        | false ↦ λ isnt. absurd (missing-names k lawful all a q isnt named)
+        | false ↦ λ isnt. absurd (missing-named k lawful all a q isnt named)
       ] refl;
     }
 
@@ -95,7 +95,7 @@ module _ {R : Type 0} (k : RecordRules R) where
         falls-as k m v others halves m (λ q has. refl) (λ q has. refl)
         (λ a q out there named. elim (contains_key m.records a) as (λ b. contains_key m.records a ≡ b → ⊥) [
           | true ↦ λ has. out has
-          | false ↦ λ isnt. missing-names k lawful m a q isnt named
+          | false ↦ λ isnt. missing-named k lawful m a q isnt named
         ] refl) closed other_closed
 
     -- The records of one half, and their waiting lists, are the same in the world.

@@ -8,7 +8,7 @@ use Rattle.ioc_history.specs.Legal.{entry_of, done, map_of}
 use Rattle.ioc_history.specs.Ticketed.{TicketsView, tickets_view}
 use Rattle.ioc_history.specs.Counting.{one_if_request, requests_in, AreTickets, once_by, once_sent, IsFew, AreTicketsOf}
 
-requests-end : (log : List Note) (n : Note) → requests_in (log ++ n ∷ []) ≡ one_if_request (entry_of n).event + requests_in log
+requests-end : (log : List Note) (n : Note) → requests_in (log ++ n ∷ []) ≡ one_if_request (entry_of n).call + requests_in log
 requests-end [] n = refl
 requests-end (m ∷ log) n = let rest = requests-end log n in omega (arith, rest)
 
@@ -25,7 +25,7 @@ module _ {R : Type 0} (k : RecordRules R) where
   once-end m [] n = refl
   once-end m (l ∷ log) n = let rest = once-end (done k m l).world log n in omega (arith, rest)
 
-  module _ (base : World R) (log : List Note) (n : Note) (sent r : ℕ) (once_is : sent ≡ once_by k (map_of k base log) n) (request_is : r ≡ one_if_request (entry_of n).event) where
+  module _ (base : World R) (log : List Note) (n : Note) (sent r : ℕ) (once_is : sent ≡ once_by k (map_of k base log) n) (request_is : r ≡ one_if_request (entry_of n).call) where
     -- The tickets of the list with one more call.
     pub tickets-then : (old new : TicketsView) → AreTicketsOf k base log old.counts old.sent
         → ((requests once : ℕ) → AreTickets old.counts old.sent requests once → AreTickets new.counts new.sent (r + requests) (sent + once))

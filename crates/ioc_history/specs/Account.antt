@@ -8,6 +8,8 @@ use Rattle.ioc_record.specs.RecordRules.{RecordRules}
 use Rattle.ioc_store.specs.World.{World}
 use Rattle.ioc_events.specs.declared.event.Entry.{Entry}
 use Rattle.ioc_events.specs.declared.event.Event.{Event}
+use Rattle.ioc_events.specs.declared.event.Call.{Call}
+use Rattle.ioc_events.specs.declared.event.Call.TheVariants as call
 use Rattle.ioc_events.specs.declared.event.Event.TheVariants.{Notify}
 use Rattle.ioc_history.specs.declared.entry.JournalEntry.{JournalEntry}
 use Rattle.ioc_history.specs.declared.entry.Note.{Note}
@@ -70,27 +72,31 @@ abbrev pub Keyed : List Note → Type 0
 Keyed [] = Unit {0}
 Keyed (n ∷ ns) = Has (desk_key n.entry.desk) n.keys × Keyed ns
 
--- The number under which an event begins a put with notification.
-abbrev pub number_given : Event → Option ℕ
-number_given (Notify target number field given) = Some number
+-- The number under which an event begins a put with notification, and a call.
+abbrev pub number_begun : Event → Option ℕ
+number_begun (Notify target number field given) = Some number
+number_begun _ = None
+
+abbrev pub number_given : Call → Option ℕ
+number_given (call.Event event reply) = number_begun event
 number_given _ = None
 
 -- The numbers under which these calls begin puts with notification, in order.
 abbrev pub numbers_given : List JournalEntry → List ℕ
 numbers_given [] = []
-numbers_given (e ∷ es) = cons_option (number_given e.entry.event) (numbers_given es)
+numbers_given (e ∷ es) = cons_option (number_given e.entry.call) (numbers_given es)
 
 -- Holds if each note of a call that begins a put with notification has the key of the puts with
 -- notification.
 abbrev pub PutsAreKeyed : List Note → Type 0
 PutsAreKeyed [] = Unit {0}
-PutsAreKeyed (n ∷ ns) = IfSome (number_given n.entry.entry.event) (λ _. Has notifications_key n.keys) × PutsAreKeyed ns
+PutsAreKeyed (n ∷ ns) = IfSome (number_given n.entry.entry.call) (λ _. Has notifications_key n.keys) × PutsAreKeyed ns
 
--- Holds if a caller that has seen a list and owns keys may make this event: it begins no put with
+-- Holds if a caller that has seen a list and owns keys may make this call: it begins no put with
 -- notification, or the caller owns the key of these and no put with notification of that list began
 -- under the number.
-abbrev pub MayBegin : List Note → List Key → Event → Type 0
-MayBegin seen owned event = IfSome (number_given event) (λ number. Has notifications_key owned × (Contains (numbers_given (calls seen)) number → ⊥))
+abbrev pub MayBegin : List Note → List Key → Call → Type 0
+MayBegin seen owned made = IfSome (number_given made) (λ number. Has notifications_key owned × (Contains (numbers_given (calls seen)) number → ⊥))
 
 -- Holds if these are keys of records.
 abbrev pub AreRecords : List Key → Type 0
@@ -126,7 +132,7 @@ module _ {R : Type 0} (k : RecordRules R) (base : World R) where
 
   -- A call of a desk: its list continues with calls of others and ends with this one, the only one
   -- that it has made since; and its whole list is legal.
-  pub record Call (before : DeskView) (done : Entry) (after : DeskView) : Type 0 where
+  pub record HasCalled (before : DeskView) (done : Entry) (after : DeskView) : Type 0 where
     pub keys : List Key
     pub between : List Note
     pub number : after.number ≡ before.number

@@ -3,20 +3,18 @@ use Rattle.std.specs.Prelude.{◌≡◌, Bool, true, false, List}
 use Rattle.ioc_ledger.specs.declared.tally.Tally.{Tally}
 use Rattle.ioc_record.specs.RecordRules.{RecordRules}
 use Rattle.ioc_store.specs.World.{World}
-use Rattle.ioc_events.specs.declared.event.Event.{Event}
-use Rattle.ioc_events.specs.declared.event.Event.TheVariants.{Get, Link, IsLive}
+use Rattle.ioc_events.specs.declared.event.Call.{Call}
+use Rattle.ioc_events.specs.declared.event.Call.TheVariants as call
 use Rattle.ioc_history.specs.declared.entry.Note.{Note}
 use Rattle.ioc_history.specs.Legal.{IsLegal, IsSound, entry_of, map_of}
 use Rattle.ioc_history.specs.Covering.{Holds, IsOf}
 use Rattle.ioc_history.specs.Counting.{tallied_by, once_by, CountAlike}
 
--- Holds of an event that makes no request: a get, the question whether a put with notification is
--- live, and a link change.
-abbrev pub counts_nothing : Event → Bool
-counts_nothing (Get s field) = true
-counts_nothing (Link s field link) = true
-counts_nothing (IsLive number) = true
-counts_nothing _ = false
+-- Holds of a call that makes no request since it is no event: a get, the question whether a put with
+-- notification is live, and a link change.
+abbrev pub counts_nothing : Call → Bool
+counts_nothing (call.Event event reply) = false
+counts_nothing _ = true
 
 module _ {R : Type 0} (k : RecordRules R) where
   -- Holds if the event of a note counts nothing and sends no once request.
@@ -32,4 +30,4 @@ module _ {R : Type 0} (k : RecordRules R) where
   -- Neither a get, the question whether a put with notification is live, nor a link change counts
   -- anything.
   abbrev pub QuestionsCountNothing : Type 0
-  QuestionsCountNothing = (m : World R) (n : Note) → counts_nothing (entry_of n).event ≡ true → CountsNothing m n
+  QuestionsCountNothing = (m : World R) (n : Note) → counts_nothing (entry_of n).call ≡ true → CountsNothing m n

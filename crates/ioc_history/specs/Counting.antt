@@ -1,6 +1,6 @@
 -- The counts of calls, the requests among them, and the once requests that they send. Application
 -- Developer's Guide, "Scanning": scanOnce. The counts are this project's own.
-use Rattle.std.specs.Prelude.{◌≡◌, ℕ, ◌+◌, ◌<◌, ◌≤◌, ◌^◌, Bool, List, [], ◌∷◌, length, Option, Some, None, MatchOption}
+use Rattle.std.specs.Prelude.{◌≡◌, ℕ, ◌+◌, ◌<◌, ◌≤◌, ◌^◌, Bool, false, List, [], ◌∷◌, length, Option, Some, None, MatchOption}
 use Rattle.std.specs.Option.{IfSome}
 use Rattle.ioc_ledger.specs.Requests.{Requests, counted_all, no_counts}
 use Rattle.ioc_ledger.specs.Shared.{ShareView, share_view}
@@ -8,12 +8,14 @@ use Rattle.ioc_ledger.specs.declared.tally.Tally.{Tally}
 use Rattle.ioc_ledger.specs.Counts.{Counts}
 use Rattle.ioc_record.specs.RecordRules.{RecordRules}
 use Rattle.ioc_store.specs.World.{World, begun_at}
+use Rattle.ioc_store.specs.Given.{later_among}
 use Rattle.ioc_store.specs.declared.outbox.OutboxItem.{OutboxItem}
 use Rattle.ioc_store.specs.declared.outbox.OutboxItem.TheVariants.{Once, Post, Change}
 use Rattle.ioc_events.specs.declared.event.Entry.{Entry}
-use Rattle.ioc_events.specs.declared.event.Event.{Event}
+use Rattle.ioc_events.specs.declared.event.Call.{Call}
+use Rattle.ioc_events.specs.declared.event.Call.TheVariants as call
 use Rattle.ioc_events.specs.declared.event.Event.TheVariants.{Process}
-use Rattle.ioc_events.specs.Step.{tallied}
+use Rattle.ioc_events.specs.Step.{completes, calls_since}
 use Rattle.ioc_history.specs.declared.entry.Note.{Note}
 use Rattle.ioc_history.specs.declared.cell.View.{View}
 use Rattle.ioc_history.specs.Key.{Key}
@@ -28,14 +30,19 @@ once_in (Post _ ∷ items) = once_in items
 once_in (Change _ ∷ items) = once_in items
 
 -- 1 for a request, else 0.
-abbrev pub one_if_request : Event → ℕ
-one_if_request (Process s) = 1
+abbrev pub one_if_request : Call → ℕ
+one_if_request (call.Event (Process s) reply) = 1
 one_if_request _ = 0
+
+-- Holds of a completion that isn't refused.
+abbrev pub is_completion : Call → Bool
+is_completion (call.Event event reply) = completes event reply
+is_completion _ = false
 
 -- The number of requests among these calls.
 abbrev pub requests_in : List Note → ℕ
 requests_in [] = 0
-requests_in (n ∷ notes) = one_if_request (entry_of n).event + requests_in notes
+requests_in (n ∷ notes) = one_if_request (entry_of n).call + requests_in notes
 
 -- Holds if each request has spent a ticket, and each once request that was sent had one begun for
 -- it; only these two begin tickets. Nothing is said if they are 2^64 or more.
@@ -65,9 +72,12 @@ IsRecorded share before after book book_then =
     (λ _. (requests : Requests) (later : ℕ) (completes : Bool) → after ≡ counted_all before requests later completes → book_then ≡ counted_all book requests later completes)
 
 module _ {R : Type 0} (k : RecordRules R) where
-  -- The tally with what the event of a note counts on a world.
+  -- The tally with what the call of a note counts on a world: each request, each call of a device
+  -- that is answered later, and a completion.
   abbrev pub tallied_by : Tally → World R → Note → Tally
-  tallied_by t m n = tallied t (begun_at (entry_of n).moment m) (entry_of n).event (done k m n)
+  tallied_by t m n =
+      let d = done k m n in
+      counted_all t d.requests (later_among (calls_since (begun_at (entry_of n).moment m) d.world)) (is_completion d.call)
 
   -- The number of once requests that the event of a note sends.
   abbrev pub once_by : World R → Note → ℕ
@@ -125,7 +135,7 @@ module _ {R : Type 0} (k : RecordRules R) where
     -- is what it sends and counts.
     pub record MayAppend (pass : View) (made : Entry) (sent : ℕ) (share : Option ShareView) (before after : Tally) : Type 0 where
       pub follows : MayFollow k base pass.seen pass.owns made
-      pub begins : MayBegin pass.seen pass.owns made.event
+      pub begins : MayBegin pass.seen pass.owns made.call
       pub sends : MaySend pass.seen pass.owns made sent
       pub counts : MayCount pass.seen pass.owns made share before after
       pub backed : IsBacked share before
@@ -134,7 +144,7 @@ module _ {R : Type 0} (k : RecordRules R) where
     -- if the event begins one.
     pub record BothMayAppend (one other : View) (made : Entry) (sent : ℕ) (share : Option ShareView) (before after : Tally) : Type 0 where
       pub follows : BothMayFollow k base one.seen one.owns other.seen other.owns made
-      pub begins : MayBegin other.seen other.owns made.event
+      pub begins : MayBegin other.seen other.owns made.call
       pub sends : BothMaySend one.seen one.owns other.seen other.owns made sent
       pub counts : BothMayCount one.seen one.owns other.seen other.owns made share before after
       pub backed : IsBacked share before

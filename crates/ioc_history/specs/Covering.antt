@@ -8,12 +8,12 @@ use Rattle.ioc_notify.specs.declared.waiting_lists.Waiting.{Waiting}
 use Rattle.ioc_record.specs.RecordRules.{RecordRules, targets}
 use Rattle.ioc_store.specs.World.{World, Has, IsClosed, at, common_at, begun_at}
 use Rattle.ioc_store.specs.Given.{answers_of}
-use Rattle.ioc_events.specs.declared.event.Event.{Event}
-use Rattle.ioc_events.specs.declared.event.Event.TheVariants.{Get, Cancel, IsLive}
-use Rattle.ioc_events.specs.declared.reply.Reply.{Reply}
+use Rattle.ioc_events.specs.declared.event.Call.{Call}
+use Rattle.ioc_events.specs.declared.event.Call.TheVariants as call
+use Rattle.ioc_events.specs.declared.event.Event.TheVariants.{Cancel}
 use Rattle.ioc_events.specs.Holding.{holders}
-use Rattle.ioc_events.specs.Local.{AskAlike}
-use Rattle.ioc_events.specs.Step.{names}
+use Rattle.ioc_events.specs.Local.{AskAlikeCall}
+use Rattle.ioc_events.specs.Calls.{named as named_by_call}
 use Rattle.ioc_set_records.specs.Joined.{AreShared}
 use Rattle.ioc_history.specs.declared.entry.Note.{Note}
 use Rattle.ioc_history.specs.Key.{Key, Has as Has_key}
@@ -46,13 +46,13 @@ Cover keys v = (n : ℕ) → Has v n → Has_key (key_of n) keys
 -- leaves `w`.
 pub record IsDone {R : Type 0} (k : RecordRules R) (v : World R) (n : Note) (w : World R) : Type 0 where
   pub world : (done k v n).world ≡ w
-  pub reply : (done k v n).reply ≡ (entry_of n).reply
+  pub reply : (done k v n).call ≡ (entry_of n).call
   pub used : answers_of (done k v n).world.calls ≡ (entry_of n).answers
 
 -- Holds if the records that are part of a canceled put with notification are in `v`, and the
 -- requests that wait under its number wait for records of `v`.
-abbrev pub CancelsWithin : {R : Type 0} → RecordRules R → World R → World R → Event → Type 0
-CancelsWithin k m v (Cancel number) =
+abbrev pub CancelsWithin : {R : Type 0} → RecordRules R → World R → World R → Call → Type 0
+CancelsWithin k m v (call.Event (Cancel number) reply) =
     ((n : ℕ) → Has m n → (common_at k m n).notification ≡ Some number → Has v n)
     × ((x : Waiting) → Contains m.waiting x → x.number ≡ number → Has v x.target)
 CancelsWithin k m v _ = Unit {0}
@@ -68,9 +68,9 @@ AreHeldAlike k w v = (number : ℕ) → holders k w number ≡ holders k v numbe
 -- key of the puts with notification, each of these has as many records in `v` after the event as
 -- before.
 pub record IsOf {R : Type 0} (k : RecordRules R) (m v : World R) (n : Note) : Type 0 where
-  pub named : (r : ℕ) → Contains (names (entry_of n).event) r → Has v r
-  pub cancels : CancelsWithin k m v (entry_of n).event
-  pub asks : AskAlike (begun_at (entry_of n).moment v) (begun_at (entry_of n).moment m) (entry_of n).event
+  pub named : (r : ℕ) → Contains (named_by_call (entry_of n).call) r → Has v r
+  pub cancels : CancelsWithin k m v (entry_of n).call
+  pub asks : AskAlikeCall (begun_at (entry_of n).moment v) (begun_at (entry_of n).moment m) (entry_of n).call
   pub covers : Cover n.keys v
   pub live : (Has_key notifications_key n.keys → ⊥) → AreHeldAlike k v (done k v n).world
 
@@ -88,11 +88,11 @@ pub record AreHalves {R : Type 0} (all one other : World R) : Type 0 where
   pub second : IsPartOf other all
 
 -- Whether an event changes nothing: a get, or the question whether a put with notification is live.
-abbrev pub is_question : Event → Bool
-is_question (Get s field) = true
-is_question (IsLive number) = true
+abbrev pub is_question : Call → Bool
+is_question (call.Get s field text) = true
+is_question (call.IsLive number live) = true
 is_question _ = false
 
 -- The note of such an event, in which no device answers.
-abbrev pub question_note : (desk call moment : ℕ) → Event → Reply → List Key → Note
-question_note desk call moment event reply keys = record { entry = record { desk = desk; call = call; entry = record { moment = moment; event = event; answers = []; reply = reply } }; keys = keys }
+abbrev pub question_note : (desk call moment : ℕ) → Call → List Key → Note
+question_note desk number moment asked keys = record { entry = record { desk = desk; call = number; entry = record { moment = moment; call = asked; answers = [] } }; keys = keys }

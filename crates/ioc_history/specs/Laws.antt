@@ -15,11 +15,11 @@ use Rattle.ioc_history.specs.declared.entry.Note.{Note}
 use Rattle.ioc_history.specs.Key.{Key}
 use Rattle.ioc_history.specs.Line.{Spares}
 use Rattle.ioc_store.specs.Given.{Answers}
-use Rattle.ioc_events.specs.declared.event.Event.{Event}
+use Rattle.ioc_events.specs.declared.event.Call.{Call}
 use Rattle.ioc_events.specs.Holding.{IsCounted, IsHeld, holders}
-use Rattle.ioc_events.specs.Local.{AskAlike}
+use Rattle.ioc_events.specs.Local.{AskAlikeCall}
 use Rattle.ioc_events.specs.Starting.{NoneReady}
-use Rattle.ioc_events.specs.Step.{stepped, names}
+use Rattle.ioc_events.specs.Calls.{called, named as named_by_call}
 use Rattle.ioc_events.specs.StepRules.{Replay, KeepsRecords}
 use Rattle.ioc_history.specs.Legal.{IsLegal, IsSound, AreLiveAlike, notifications_key, entry_of, entries_of, map_of}
 use Rattle.ioc_history.specs.Account.{number_given}
@@ -89,7 +89,7 @@ module _ {R : Type 0} (k : RecordRules R) where
   -- After a legal note, the live puts with notification are among those before it and the one that
   -- its event begins.
   abbrev pub OneMayBegin : Type 0
-  OneMayBegin = (base : World R) (log : List Note) (n : Note) (number : ℕ) → IsSound k base → IsLegal k base (log ++ n ∷ []) → number_given (entry_of n).event ≢ Some number
+  OneMayBegin = (base : World R) (log : List Note) (n : Note) (number : ℕ) → IsSound k base → IsLegal k base (log ++ n ∷ []) → number_given (entry_of n).call ≢ Some number
       → is_live number (map_of k base log).live ≡ false → is_live number (map_of k base (log ++ n ∷ [])).live ≡ false
 
   -- A held part stays held when a put with notification is canceled both in it and in the world of
@@ -101,13 +101,13 @@ module _ {R : Type 0} (k : RecordRules R) where
   abbrev pub BeginningIsHeld : Type 0
   BeginningIsHeld = (m v : World R) (moment : ℕ) → Holds k m v → Holds k (begun_at moment m) (begun_at moment v)
 
-  -- A get, or the question whether a put with notification is live, on a held part is the same
-  -- event of all records, and the part is held as it was.
+  -- A get, or the question whether a put with notification is live, with the reply that it has on a
+  -- held part, is the same call of all records, and the part is held as it was.
   abbrev pub Asks : Type 0
-  Asks = (base v : World R) (log : List Note) (desk call moment : ℕ) (event : Event) (answers : Answers) (keys : List Key)
-      → is_question event ≡ true → IsSound k base → IsLegal k base log → Holds k (map_of k base log) v
-      → ((r : ℕ) → Contains (names event) r → Has v r) → AskAlike (begun_at moment v) (begun_at moment (map_of k base log)) event → Cover keys v
-      → GoesOn base log (question_note desk call moment event (stepped k answers v event).reply keys) (λ m. Holds k m v)
+  Asks = (base v : World R) (log : List Note) (desk number moment : ℕ) (asked : Call) (answers : Answers) (keys : List Key)
+      → is_question asked ≡ true → (called k answers v asked).call ≡ asked → IsSound k base → IsLegal k base log → Holds k (map_of k base log) v
+      → ((r : ℕ) → Contains (named_by_call asked) r → Has v r) → AskAlikeCall (begun_at moment v) (begun_at moment (map_of k base log)) asked → Cover keys v
+      → GoesOn base log (question_note desk number moment asked keys) (λ m. Holds k m v)
 
   -- Whether a part is held depends on its records and its waiting lists alone.
   abbrev pub HeldAlike : Type 0

@@ -11,7 +11,7 @@ use Rattle.ioc_store.specs.Given.{answers_of, listed}
 use Rattle.ioc_events.specs.declared.event.Entry.{Entry}
 use Rattle.ioc_events.specs.Holding.{IsCounted}
 use Rattle.ioc_events.specs.Starting.{NoneReady}
-use Rattle.ioc_events.specs.Step.{Stepped, stepped}
+use Rattle.ioc_events.specs.Calls.{Called, called}
 use Rattle.ioc_history.specs.declared.entry.Note.{Note}
 use Rattle.ioc_history.specs.Key.{Key, Has as Has_key}
 
@@ -37,8 +37,8 @@ AreLiveAlike w v = (number : ℕ) → holders_of number w.live ≡ holders_of nu
 
 module _ {R : Type 0} (k : RecordRules R) where
   -- The effect of the event of a note on a world, with its time stamp and its answers.
-  unfoldable pub done : World R → Note → Stepped R
-  done m n = stepped k (listed (entry_of n).answers) (begun_at (entry_of n).moment m) (entry_of n).event
+  unfoldable pub done : World R → Note → Called R
+  done m n = called k (listed (entry_of n).answers) (begun_at (entry_of n).moment m) (entry_of n).call
 
   -- The world that a list leads to.
   abbrev pub map_of : World R → List Note → World R
@@ -55,7 +55,7 @@ module _ {R : Type 0} (k : RecordRules R) where
   -- key isn't in the note is untouched. If the key of the puts with notification isn't in the note,
   -- their counts are unchanged.
   pub record Fits (m : World R) (n : Note) : Type 0 where
-    pub reply : (entry_of n).reply ≡ (done m n).reply
+    pub reply : (entry_of n).call ≡ (done m n).call
     pub used : answers_of (done m n).world.calls ≡ (entry_of n).answers
     pub untouched : (r : ℕ) → (Has_key (key_of r) n.keys → ⊥) → IsUntouched r m (done m n).world
     pub live : (Has_key notifications_key n.keys → ⊥) → AreLiveAlike m (done m n).world

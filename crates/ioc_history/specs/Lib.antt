@@ -15,6 +15,5 @@ pub mod LinkChange
 pub mod Pieces
 pub mod Places
 pub mod PlacesCode
-pub mod Stored
 pub mod Ticketed
 pub mod Unnamed

@@ -1,4 +1,5 @@
 -- One list of notes, the passes that have each seen a beginning of it, and the keys that these own.
+use Rattle.ioc_events.specs.declared.event.Call.TheVariants as call
 use Rattle.std.specs.Prelude.{◌≡◌, ◌⊎◌, ℕ, List, [], ◌∷◌, ◌++◌, length, true, false, if◌then◌else◌, nat_le}
 use mathlib.Core.Option.{some}
 use lib.ListN.{get_elem?}
@@ -15,7 +16,7 @@ abbrev pub no_table : TableId
 no_table = record { words = 0; slots = 0; views_name = 0; atom = 0; block = 0; offset = 0; slot_names = [] }
 
 abbrev pub no_note : Note
-no_note = record { entry = record { desk = 0; call = 0; entry = record { moment = 0; event = Process 0; answers = []; reply = Plain } }; keys = [] }
+no_note = record { entry = record { desk = 0; call = 0; entry = record { moment = 0; call = call.Event (Process 0) Plain; answers = [] } }; keys = [] }
 
 -- Holds if no note has this key.
 abbrev pub Spares : Key → List Note → Type 0

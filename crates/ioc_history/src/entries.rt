@@ -5,11 +5,11 @@ ghost use Rattle.ioc_history.specs.Places.{AreAllowed, places_of};
 ghost use Rattle.std.specs.Vec.{vec_len, vec_capacity};
 ghost use Rattle.ioc_history.specs.Pieces.{IsSpare, ArePieces, items_in};
 
+use crate::entry::JournalEntry;
 use crate::free_places::{FreePlaces, Place, Places};
 use crate::journal_name::JournalName;
 use crate::limits::Limits;
-use crate::stored_entry::StoredEntry;
-use ioc_events::{Entry, Event, KeptAnswers, Reply};
+use ioc_events::{Call, Entry, KeptAnswers};
 use ioc_notify::NotifyId;
 use std::alloc::{AllocError, Global};
 use std::marker::Model;
@@ -22,7 +22,7 @@ pub const PIECE: usize = 256;
 /// Memory for [`PIECE`] entries.
 #[derive(Drop)]
 pub struct Piece {
-    items: Vec<StoredEntry>,
+    items: Vec<JournalEntry>,
     ghost spare: { IsSpare items },
 }
 
@@ -42,7 +42,7 @@ impl Piece {
 }
 
 // Adds as many entries, at most as many as there is room for.
-fn write_to(alloc: Global, items: &mut Vec<StoredEntry>, count: u64)
+fn write_to(alloc: Global, items: &mut Vec<JournalEntry>, count: u64)
     ensures { vec_capacity items.new ≡ vec_capacity items.old }
 {
     for _ in 0..count {
@@ -51,11 +51,14 @@ fn write_to(alloc: Global, items: &mut Vec<StoredEntry>, count: u64)
         }
         let entry = Entry {
             moment: 0,
-            event: Event::IsLive(NotifyId::new(0)),
+            call: Call::IsLive(NotifyId::new(0), false),
             answers: KeptAnswers::new(Vec::new(alloc)),
-            reply: Reply::Plain,
         };
-        items.push_reserved(StoredEntry::new(0, 0, entry));
+        items.push_reserved(JournalEntry {
+            desk: 0,
+            call: 0,
+            entry,
+        });
     }
 }
 
@@ -65,9 +68,9 @@ fn write_to(alloc: Global, items: &mut Vec<StoredEntry>, count: u64)
 #[derive(Drop)]
 pub struct Entries<K, B: JournalName<K>> {
     // First, so that it lies beside the lock of the journal: each call changes both.
-    current: Vec<StoredEntry>,
-    full: Vec<Vec<StoredEntry>>,
-    spare: Vec<Vec<StoredEntry>>,
+    current: Vec<JournalEntry>,
+    full: Vec<Vec<JournalEntry>>,
+    spare: Vec<Vec<JournalEntry>>,
     given: u64,
     limit: u64,
     book: Book<Places<K, B>>,
@@ -142,7 +145,7 @@ impl<K, B: JournalName<K>> Entries<K, B> {
     }
 
     /// Returns the entry at a place, from 0 on, or `None` past the last.
-    pub fn at(&self, place: u64) -> Option<&StoredEntry>
+    pub fn at(&self, place: u64) -> Option<&JournalEntry>
         ensures { option_map (λ e. e.now) result ≡ slice_get self.now.filled place }
     {
         let piece = place as usize / PIECE;
@@ -188,7 +191,7 @@ impl<K, B: JournalName<K>> Entries<K, B> {
 
     /// Fills a place with a call of a desk. It doesn't allocate.
     #[inline(always)]
-    pub fn fill(&mut self, place: Place<K, B>, made: StoredEntry)
+    pub fn fill(&mut self, place: Place<K, B>, made: JournalEntry)
         ensures { self.new ≡ places_of (self.old.filled ++ made ∷ []) self.old.given self.old.limit }
     {
         let Place { share } = place;
@@ -231,7 +234,7 @@ impl<K, B: JournalName<K>> Entries<K, B> {
 }
 
 // Returns the entry of a piece at an index.
-fn item_at(piece: &[StoredEntry], index: usize) -> Option<&StoredEntry>
+fn item_at(piece: &[JournalEntry], index: usize) -> Option<&JournalEntry>
     ensures { option_map (λ e. e.now) result ≡ slice_get piece.now index }
 {
     piece.get(index)
@@ -253,9 +256,9 @@ fn at_most_a_piece(count: u64) -> u64
 // Puts the current piece behind the full ones if it is full, and takes a spare one in its place.
 #[inline(always)]
 fn make_room(
-    full: &mut Vec<Vec<StoredEntry>>,
-    spare: &mut Vec<Vec<StoredEntry>>,
-    current: &mut Vec<StoredEntry>,
+    full: &mut Vec<Vec<JournalEntry>>,
+    spare: &mut Vec<Vec<JournalEntry>>,
+    current: &mut Vec<JournalEntry>,
     given: u64,
     limit: u64,
 )
@@ -272,9 +275,9 @@ fn make_room(
 
 // Drops the entries of all pieces, and leaves the full ones among the spare ones.
 fn empty_all(
-    full: &mut Vec<Vec<StoredEntry>>,
-    spare: &mut Vec<Vec<StoredEntry>>,
-    current: &mut Vec<StoredEntry>,
+    full: &mut Vec<Vec<JournalEntry>>,
+    spare: &mut Vec<Vec<JournalEntry>>,
+    current: &mut Vec<JournalEntry>,
     given: u64,
     limit: u64,
 )
@@ -291,9 +294,9 @@ fn empty_all(
 
 // Drops the entries of the last full piece, and puts it behind the spare ones.
 fn spare_last(
-    full: &mut Vec<Vec<StoredEntry>>,
-    spare: &mut Vec<Vec<StoredEntry>>,
-    current: &Vec<StoredEntry>,
+    full: &mut Vec<Vec<JournalEntry>>,
+    spare: &mut Vec<Vec<JournalEntry>>,
+    current: &Vec<JournalEntry>,
     given: u64,
     limit: u64,
 )
@@ -311,9 +314,9 @@ fn spare_last(
 
 // Puts the current piece behind the full ones, and takes a spare one in its place.
 fn turn(
-    full: &mut Vec<Vec<StoredEntry>>,
-    spare: &mut Vec<Vec<StoredEntry>>,
-    current: &mut Vec<StoredEntry>,
+    full: &mut Vec<Vec<JournalEntry>>,
+    spare: &mut Vec<Vec<JournalEntry>>,
+    current: &mut Vec<JournalEntry>,
 )
     requires full { vec_len full.old < vec_capacity full.old }
     requires spare { 0 < vec_len spare.old }

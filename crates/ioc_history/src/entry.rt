@@ -1,5 +1,8 @@
 //! The entries of the list.
-use ioc_events::Entry;
+ghost use Rattle.std.specs.Prelude.{◌≡◌, if◌then◌else◌};
+ghost use Rattle.ioc_history.specs.Counting.{one_if_request};
+
+use ioc_events::{Call, Entry, Event};
 use std::collections::LinkedList;
 
 /// A call of a desk and its effect.
@@ -9,8 +12,17 @@ pub struct JournalEntry {
     pub desk: u64,
     /// The number of the call among the calls of this desk, from 0 on.
     pub call: u64,
-    /// The event with its time stamp, the answers of devices in it, and the reply.
+    /// The call with its reply, its time stamp and the answers of devices in it.
     pub entry: Entry,
+}
+
+impl JournalEntry {
+    /// Returns whether the call is a request.
+    pub fn is_request(&self) -> bool
+        ensures { one_if_request self.now.entry.call ≡ (if result then 1 else 0) }
+    {
+        matches!(self.entry.call, Call::Event(Event::Process { .. }, _))
+    }
 }
 
 /// An entry with the keys, each a kind and a number, of all that it may have changed. It exists in

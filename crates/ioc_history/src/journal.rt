@@ -6,8 +6,7 @@ ghost use Rattle.ioc_history.specs.Line.{keeper, holder, Continues};
 ghost use Rattle.ioc_history.specs.Desks.{IsReceipt};
 ghost use Rattle.ioc_history.specs.Legal.{IsLegal, IsSound};
 ghost use Rattle.ioc_values.specs.declared.error.IocError.TheVariants.{JournalFull};
-ghost use Rattle.ioc_history.specs.Account.{AreNoDesks, AreRecords, IsHolder, Call, Added, AddedByBoth, AreMerged, calls, calls_by, journalled};
-ghost use Rattle.ioc_history.specs.Stored.{IsStored};
+ghost use Rattle.ioc_history.specs.Account.{AreNoDesks, AreRecords, IsHolder, HasCalled, Added, AddedByBoth, AreMerged, calls, calls_by, journalled};
 ghost use Rattle.ioc_history.specs.Counting.{MayAppend, BothMayAppend, IsGivenBack, IsFew, counts_of};
 ghost use Rattle.ioc_ledger.specs.Requests.{no_counts};
 ghost use Rattle.ioc_ledger.specs.Shared.{MayDivide, AreDivided};
@@ -19,6 +18,7 @@ use crate::base::JournalBase;
 use crate::cell::SharedCell;
 use crate::desk::DeskAccount;
 use crate::entries::{Entries, Piece};
+use crate::entry::JournalEntry;
 use crate::event_counts::{EngineCounts, EventCounts, record_event};
 use crate::free_places::{FreePlaces, Place};
 use crate::journal_name::JournalName;
@@ -26,7 +26,6 @@ use crate::key_division::{deal, take_over};
 use crate::limits::Limits;
 use crate::receipt::Receipt;
 use crate::request_tickets::{RequestTickets, TicketCounts, TicketTally};
-use crate::stored_entry::StoredEntry;
 use crate::{Cell, EntryName, KeyPass, Keys, pass};
 use ioc_ledger::{TallyBook, TallyShare, Ticket, Tickets};
 use ioc_record::RecordKind;
@@ -240,14 +239,14 @@ impl<K: RecordKind, B: JournalName<K>> Journal<K, B> {
         place: Place<K, B>,
         set: &mut KeyPass,
         desk: &mut DeskAccount<K, B>,
-        made: StoredEntry,
+        made: JournalEntry,
         counts: EventCounts<K, B>,
     ) -> Appended<K, B>
         requires table { (shared.now.cell.now.table.shared.table_id ≡ B.table) × (set.old.table_id ≡ B.table) }
         requires set { IsHolder (cell_view set.old) × AreNoDesks (cell_view set.old).owns }
-        requires stored { IsStored (journalled desk.old.number desk.old.next S.entry) made }
+        requires stored { made ≡ journalled desk.old.number desk.old.next S.entry }
         requires may { MayAppend K.rules B.base (cell_view set.old) S.entry counts.sent counts.share counts.before counts.after }
-        ensures call { Call K.rules B.base desk.old S.entry desk.new }
+        ensures call { HasCalled K.rules B.base desk.old S.entry desk.new }
         ensures receipt { result.receipt ≡ desk.new.seen }
         ensures tickets { IsFew K.rules B.base self.new.filled → result.tickets ≡ counts.sent }
         ensures share { IsGivenBack counts.share counts.after result.share }
@@ -283,7 +282,7 @@ impl<K: RecordKind, B: JournalName<K>> Journal<K, B> {
         one: &mut KeyPass,
         other: &mut KeyPass,
         desk: &mut DeskAccount<K, B>,
-        made: StoredEntry,
+        made: JournalEntry,
         counts: EventCounts<K, B>,
     ) -> Appended<K, B>
         requires table { (shared.now.cell.now.table.shared.table_id ≡ B.table) × (one.old.table_id ≡ B.table)
@@ -292,10 +291,10 @@ impl<K: RecordKind, B: JournalName<K>> Journal<K, B> {
         requires other { IsHolder (cell_view other.old) × AreNoDesks (cell_view other.old).owns }
         requires within { (key : Key) → Has key (P.keys ++ P.rest) → Has key ((cell_view one.old).owns ++ (cell_view other.old).owns) }
         requires apart { (key : Key) → Has key P.keys → Has key P.rest → ⊥ }
-        requires stored { IsStored (journalled desk.old.number desk.old.next S.entry) made }
+        requires stored { made ≡ journalled desk.old.number desk.old.next S.entry }
         requires may { BothMayAppend K.rules B.base (cell_view one.old) (cell_view other.old) S.entry counts.sent counts.share
             counts.before counts.after }
-        ensures call { Call K.rules B.base desk.old S.entry desk.new }
+        ensures call { HasCalled K.rules B.base desk.old S.entry desk.new }
         ensures receipt { result.receipt ≡ desk.new.seen }
         ensures tickets { IsFew K.rules B.base self.new.filled → result.tickets ≡ counts.sent }
         ensures share { IsGivenBack counts.share counts.after result.share }

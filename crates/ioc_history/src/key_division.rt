@@ -5,7 +5,7 @@ ghost use Rattle.ioc_history.specs.Key.{Key, Has};
 ghost use Rattle.ioc_history.specs.Line.{keeper, holder, noted, Continues};
 ghost use Rattle.ioc_history.specs.Account.{IsHolder};
 
-use crate::stored_entry::StoredEntry;
+use crate::entry::JournalEntry;
 use crate::{Cell, KeyPass, Keys, NoteName, pass};
 use std::sync::Wait;
 
@@ -19,7 +19,7 @@ pub(crate) fn deal<K: Keys, L: Keys, S: NoteName, R: Wait>(
     a: &mut KeyPass,
     b: &mut KeyPass,
     desk: &mut KeyPass,
-    entry: &StoredEntry,
+    entry: &JournalEntry,
 ) -> KeyPass
     requires table { (master.old.table_id ≡ cell.now.table.shared.table_id) × (a.old.table_id ≡ master.old.table_id)
         × (b.old.table_id ≡ master.old.table_id) × (desk.old.table_id ≡ master.old.table_id) }

@@ -3,24 +3,26 @@
 ghost use Rattle.ioc_history.specs.EventLaws.{EventLaws};
 ghost use Rattle.ioc_history.specs.Laws.{Lasts, LiveLasts, OneMore, HoldersMove, HoldersAreFew, HeldAreFewer, EndsOver, NobodyHas, PlaceForOneMore, OneMayBegin, CancelIsHeld, BeginningIsHeld, Asks, HeldAlike, Falls, Gathers, Opens, HoldsAll, Parts, Joins, LinkParts, LinkJoins, LinkMoves, RescansApart, BeginsSound, StaysSound, Replays};
 
-use ioc_events::event_rules::{events_keep_records, rules_are_steps};
-use ioc_events::local::{counted_waits_keep_apart, events_are_local};
-use ioc_events::notification_rules::{
-    events_count_holders, events_end_what_nobody_has, events_leave_none_ready, those_over_never_end,
+use ioc_events::call_rules::{
+    calls_are_local, calls_count_holders, calls_end_what_nobody_has, calls_keep_records,
+    calls_leave_none_ready, rules_are_calls,
 };
+use ioc_events::local::counted_waits_keep_apart;
+use ioc_events::notification_rules::{events_count_holders, those_over_never_end};
 use ioc_record::RecordKind;
 
-/// The laws of events that the laws of held records rest on.
+/// The laws of calls that the laws of held records rest on.
 pub fn events_have_laws<K: RecordKind>()
     ensures { EventLaws K.rules }
 {
-    rules_are_steps::<K>();
-    events_keep_records::<K>();
-    events_are_local::<K>();
+    rules_are_calls::<K>();
+    calls_keep_records::<K>();
+    calls_are_local::<K>();
     counted_waits_keep_apart::<K>();
     events_count_holders::<K>();
-    events_end_what_nobody_has::<K>();
-    events_leave_none_ready::<K>();
+    calls_count_holders::<K>();
+    calls_end_what_nobody_has::<K>();
+    calls_leave_none_ready::<K>();
     those_over_never_end::<K>();
 }
 

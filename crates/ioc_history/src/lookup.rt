@@ -4,11 +4,11 @@ ghost use Rattle.crossbeam_utils.specs.Seq.{cell_view};
 ghost use Rattle.ioc_history.specs.Line.{keeper, Begins};
 ghost use Rattle.ioc_history.specs.Account.{IsEntryOf};
 
+use crate::entry::JournalEntry;
 use crate::free_places::FreePlaces;
 use crate::journal::Journal;
 use crate::journal_name::JournalName;
 use crate::receipt::Receipt;
-use crate::stored_entry::StoredEntry;
 use crate::{Cell, KeyPass, pass};
 use ioc_record::RecordKind;
 use std::sync::Wait;
@@ -48,7 +48,7 @@ impl<K: RecordKind, B: JournalName<K>> Journal<K, B> {
     /// Returns the call of a receipt: it is at the receipt's place, and the receipt's list ends
     /// with it. Returns `None` exactly if its entry was dropped. The list of calls has to begin with
     /// the receipt's list.
-    pub fn entry_of(&self, receipt: &Receipt<K, B>) -> Option<&StoredEntry>
+    pub fn entry_of(&self, receipt: &Receipt<K, B>) -> Option<&JournalEntry>
         requires begins { Begins receipt.now self.now.filled }
         ensures entry { IfSome result (λ e. IsEntryOf receipt.now self.now.filled e.now) }
         ensures kept { IfSome result (λ _. self.now.dropped < length receipt.now) }

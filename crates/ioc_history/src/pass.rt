@@ -9,7 +9,7 @@ use crate::cell::{
     Again, Appends, Cell, Claims, KeyPass, Keys, Learns, NoteName, Parts, Rest, Shows, TakesIn,
     View, Whole,
 };
-use crate::stored_entry::StoredEntry;
+use crate::entry::JournalEntry;
 use atomic_table::Split;
 use crossbeam_utils::rule::Outcome;
 use std::marker::Brand;
@@ -156,7 +156,7 @@ pub fn append<K: Keys, S: NoteName, R: Wait>(
     master: &mut KeyPass,
     set: &mut KeyPass,
     desk: &mut KeyPass,
-    entry: &StoredEntry,
+    entry: &JournalEntry,
 ) -> KeyPass
     requires table { (master.old.table_id ≡ cell.now.table.shared.table_id) × (set.old.table_id ≡ master.old.table_id)
         × (desk.old.table_id ≡ master.old.table_id) }

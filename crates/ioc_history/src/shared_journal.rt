@@ -4,7 +4,7 @@ ghost use Rattle.crossbeam_utils.specs.Seq.{cell_view};
 ghost use Rattle.ioc_history.specs.declared.entry.Note.{Note};
 ghost use Rattle.ioc_history.specs.Key.{Key, Has};
 ghost use Rattle.ioc_history.specs.Line.{holder};
-ghost use Rattle.ioc_history.specs.Account.{IsHolder, AreNoDesks, AreRecords, MayFollow, BothMayFollow, MayBegin, Call, Added, AddedByBoth, AreKnown, AreMerged, calls, calls_by};
+ghost use Rattle.ioc_history.specs.Account.{IsHolder, AreNoDesks, AreRecords, MayFollow, BothMayFollow, MayBegin, HasCalled, Added, AddedByBoth, AreKnown, AreMerged, calls, calls_by};
 ghost use Rattle.ioc_history.specs.Places.{IsNoPlace};
 ghost use Rattle.ioc_history.specs.Counting.{MayAppend, BothMayAppend, MaySend, BothMaySend, MayCount, BothMayCount, IsBacked, IsGivenBack, IsFew};
 ghost use Rattle.ioc_ledger.specs.Shared.{MayDivide, AreDivided};
@@ -13,6 +13,7 @@ ghost use Rattle.ioc_values.specs.declared.error.IocError.TheVariants.{JournalFu
 use crate::cell::SharedCell;
 use crate::desk::DeskAccount;
 use crate::entries::Piece;
+use crate::entry::JournalEntry;
 use crate::event_counts::{EngineCounts, EventCounts};
 use crate::free_places::{FreePlaces, Place};
 use crate::gate::Gate;
@@ -21,7 +22,6 @@ use crate::journal_name::JournalName;
 use crate::request_tickets::RequestTickets;
 use crate::shared_places::SharedPlaces;
 use crate::short_lock::lock_soon;
-use crate::stored_entry::StoredEntry;
 use crate::{Cell, EntryName, KeyPass, Keys};
 use crossbeam_utils::CachePadded;
 use ioc_events::Entry;
@@ -226,7 +226,7 @@ impl<K: RecordKind, B: JournalName<K>> SharedJournal<K, B> {
         requires table { set.old.table_id ≡ B.table }
         requires set { IsHolder (cell_view set.old) × AreNoDesks (cell_view set.old).owns }
         requires may { MayAppend K.rules B.base (cell_view set.old) S.entry counts.sent counts.share counts.before counts.after }
-        ensures call { Call K.rules B.base desk.old S.entry desk.new }
+        ensures call { HasCalled K.rules B.base desk.old S.entry desk.new }
         ensures receipt { result.receipt ≡ desk.new.seen }
         ensures tickets { IsFew K.rules B.base desk.new.seen → result.tickets ≡ counts.sent }
         ensures share { IsGivenBack counts.share counts.after result.share }
@@ -234,7 +234,11 @@ impl<K: RecordKind, B: JournalName<K>> SharedJournal<K, B> {
         ensures added { (log : List Note) × Added K.rules B.base (cell_view set.old).seen (cell_view set.old).owns S.entry log
             desk.new.seen }
     {
-        let made = StoredEntry::new(desk.number, desk.next, entry);
+        let made = JournalEntry {
+            desk: desk.number,
+            call: desk.next,
+            entry,
+        };
         let mut guard = lock_soon(rt, &self.journal);
         let journal = &mut *guard;
         let shared = SharedCell {
@@ -259,12 +263,12 @@ impl<K: RecordKind, B: JournalName<K>> SharedJournal<K, B> {
         requires table { set.old.table_id ≡ B.table }
         requires set { IsHolder (cell_view set.old) × AreNoDesks (cell_view set.old).owns }
         requires follows { MayFollow K.rules B.base (cell_view set.old).seen (cell_view set.old).owns entry }
-        requires begins { MayBegin (cell_view set.old).seen (cell_view set.old).owns entry.event }
+        requires begins { MayBegin (cell_view set.old).seen (cell_view set.old).owns entry.call }
         requires sent { MaySend K.rules B.base (cell_view set.old).seen (cell_view set.old).owns entry counts.sent }
         requires counts { MayCount K.rules B.base (cell_view set.old).seen (cell_view set.old).owns entry
             counts.share counts.before counts.after }
         requires backed { IsBacked counts.share counts.before }
-        ensures call { Call K.rules B.base desk.old entry desk.new }
+        ensures call { HasCalled K.rules B.base desk.old entry desk.new }
         ensures receipt { result.receipt ≡ desk.new.seen }
         ensures tickets { IsFew K.rules B.base desk.new.seen → result.tickets ≡ counts.sent }
         ensures share { IsGivenBack counts.share counts.after result.share }
@@ -294,7 +298,7 @@ impl<K: RecordKind, B: JournalName<K>> SharedJournal<K, B> {
         requires apart { (key : Key) → Has key P.keys → Has key P.rest → ⊥ }
         requires may { BothMayAppend K.rules B.base (cell_view one.old) (cell_view other.old) S.entry counts.sent counts.share
             counts.before counts.after }
-        ensures call { Call K.rules B.base desk.old S.entry desk.new }
+        ensures call { HasCalled K.rules B.base desk.old S.entry desk.new }
         ensures receipt { result.receipt ≡ desk.new.seen }
         ensures tickets { IsFew K.rules B.base desk.new.seen → result.tickets ≡ counts.sent }
         ensures share { IsGivenBack counts.share counts.after result.share }
@@ -305,7 +309,11 @@ impl<K: RecordKind, B: JournalName<K>> SharedJournal<K, B> {
             (cell_view other.old).owns S.entry log desk.new.seen }
     {
         let call = desk.next;
-        let made = StoredEntry::new(desk.number, call, entry);
+        let made = JournalEntry {
+            desk: desk.number,
+            call,
+            entry,
+        };
         let mut guard = lock_soon(rt, &self.journal);
         let journal = &mut *guard;
         let shared = SharedCell {
@@ -336,13 +344,13 @@ impl<K: RecordKind, B: JournalName<K>> SharedJournal<K, B> {
         requires apart { (key : Key) → Has key P.keys → Has key P.rest → ⊥ }
         requires follows { BothMayFollow K.rules B.base (cell_view one.old).seen (cell_view one.old).owns (cell_view other.old).seen
             (cell_view other.old).owns entry }
-        requires begins { MayBegin (cell_view other.old).seen (cell_view other.old).owns entry.event }
+        requires begins { MayBegin (cell_view other.old).seen (cell_view other.old).owns entry.call }
         requires sent { BothMaySend K.rules B.base (cell_view one.old).seen (cell_view one.old).owns (cell_view other.old).seen
             (cell_view other.old).owns entry counts.sent }
         requires counts { BothMayCount K.rules B.base (cell_view one.old).seen (cell_view one.old).owns (cell_view other.old).seen
             (cell_view other.old).owns entry counts.share counts.before counts.after }
         requires backed { IsBacked counts.share counts.before }
-        ensures call { Call K.rules B.base desk.old entry desk.new }
+        ensures call { HasCalled K.rules B.base desk.old entry desk.new }
         ensures receipt { result.receipt ≡ desk.new.seen }
         ensures tickets { IsFew K.rules B.base desk.new.seen → result.tickets ≡ counts.sent }
         ensures share { IsGivenBack counts.share counts.after result.share }

@@ -11,6 +11,7 @@ use Rattle.ioc_store.specs.World.{World, Has, begun_at}
 use Rattle.ioc_notify.specs.Counts.{holders_in, lines_of}
 use Rattle.ioc_events.specs.declared.event.Event.{Event}
 use Rattle.ioc_events.specs.declared.event.Entry.{Entry}
+use Rattle.ioc_events.specs.declared.event.Call.TheVariants as calling
 use Rattle.ioc_events.specs.declared.reply.Reply.{Reply}
 use Rattle.ioc_events.specs.Holding.{IsCounted, IsHeld, how_many, holders}
 use Rattle.ioc_events.specs.Local.{AskAlike}
@@ -23,13 +24,13 @@ use Rattle.ioc_history.specs.Legal.{IsLegal, IsSound, key_of, map_of, notificati
 use Rattle.ioc_history.specs.Counting.{once_in, tallied_by, BothMaySend, BothMayCount}
 use Rattle.ioc_ledger.specs.Shared.{ShareView}
 use Rattle.ioc_ledger.specs.declared.tally.Tally.{Tally}
-use Rattle.ioc_history.specs.CountLaws.{PartsCountAlike}
 use Rattle.ioc_history.specs.Covering.{Holds, Cover, CancelsWithin}
-use Rattle.ioc_history.specs.Laws.{Lasts, OneMore, HoldersMove, MovesAlike, HeldAlike, HeldAreFewer, HoldersAreFew, EndsOver, NobodyHas, StaysSound, GoesOn}
+use Rattle.ioc_history.specs.Laws.{MovesAlike, GoesOn}
 use Rattle.ioc_history.specs.Account.{journalled, BothMayFollow, AddedByBoth, puts_key}
 use Rattle.ioc_set.specs.SetState.{SetState, now_of, done_by}
 use Rattle.ioc_set.specs.Doing.{Does}
 use Rattle.ioc_journaled_set.specs.CallLaws.{CallLaws}
+use Rattle.ioc_journaled_set.specs.Holding.{entry_of_event}
 use Rattle.ioc_journaled_set.specs.Puts.{AreMoved}
 use Rattle.ioc_journaled_set.proofs.Serving.{holds_on, live_then, records_then, waiting_then, ended_then, noted_on, moved_on, sent_on, counted_on, counts_with, ended_on}
 
@@ -60,10 +61,10 @@ module _ {R D : Type 0} (k : RecordRules R) (gives : D → Ask → ℕ → Answe
     pub laws : CallLaws k
     pub covers : Cover owned (now_of h)
     pub holds : Holds k (map_of k base seen) (now_of h)
-    pub cancels : (log : List Note) → IsSound k base → Continues also_seen puts_key log → IsLegal k base log → Holds k (map_of k base log) (now_of h) → CancelsWithin k (map_of k base log) (now_of h) event
+    pub cancels : (log : List Note) → IsSound k base → Continues also_seen puts_key log → IsLegal k base log → Holds k (map_of k base log) (now_of h) → (r : Reply) → CancelsWithin k (map_of k base log) (now_of h) (calling.Event event r)
     pub asks : (log : List Note) → IsSound k base → Continues also_seen puts_key log → IsLegal k base log → Holds k (map_of k base log) (now_of h)
         → AskAlike (begun_at moment (now_of h)) (begun_at moment (map_of k base log)) event
-    pub entry_is : does.entry ≡ entry
+    pub entry_is : entry_of_event does.entry ≡ entry
 
 module _ {R D : Type 0} {k : RecordRules R} {gives : D → Ask → ℕ → Answer → D → Type 0} {h h' : SetState R D} {moment : ℕ} {event : Event} {reply : Reply} {come_to base : World R} {seen also_seen : List Note} {owned : List Key} {entry : Entry}
     (d : IsDoneBeside k gives h h' moment event reply come_to base seen also_seen owned entry) where
@@ -71,7 +72,7 @@ module _ {R D : Type 0} {k : RecordRules R} {gives : D → Ask → ℕ → Answe
   after = (done_by k (now_of h) d.does.entry).world
 
   abbrev note : (desk call : ℕ) → List Key → Note
-  note desk call own = noted (journalled desk call d.does.entry) ((owned ++ puts_key) ++ own)
+  note desk call own = noted (journalled desk call (entry_of_event d.does.entry)) ((owned ++ puts_key) ++ own)
 
   has_puts : (own : List Key) → Has_key notifications_key ((owned ++ puts_key) ++ own)
   has_puts own = has_left notifications_key (owned ++ puts_key) own (has_right notifications_key owned puts_key (inl refl))
@@ -119,7 +120,7 @@ module _ {R D : Type 0} {k : RecordRules R} {gives : D → Ask → ℕ → Answe
       ∙ ap (λ (t : Tally). tallied_by k t (map_of k base log) (note desk call own)) (sym was)))
 
   module _ (log longer : List Note) (added : AddedByBoth k base seen owned also_seen puts_key entry log longer) where
-    as_done : AddedByBoth k base seen owned also_seen puts_key d.does.entry log longer
+    as_done : AddedByBoth k base seen owned also_seen puts_key (entry_of_event d.does.entry) log longer
     as_done = subst (λ (x : Entry). AddedByBoth k base seen owned also_seen puts_key x log longer) (sym d.entry_is) added
 
     -- The set is held after the event.

@@ -1,6 +1,6 @@
 -- Keys that are divided among two sets, and what the sets know then.
-use Rattle.std.proofs.Common.{◌≡◌, ℕ, zero, suc, false, true, List, [], ◌∷◌, ◌++◌, Option, None, refl, sym, ap, ◌∙◌, subst, inl, inr, ⊎_elim, arith}
-use Rattle.std.specs.Prelude.{Contains, IsSome, is_some}
+use Rattle.std.proofs.Common.{◌≡◌, ℕ, false, true, List, ◌++◌, Option, None, refl, sym, ap, ◌∙◌, subst, inl, inr, ⊎_elim}
+use Rattle.std.specs.Prelude.{IsSome, is_some}
 use Rattle.std.specs.FinMap.{get, keys}
 use Rattle.atomic_table.specs.Seated.{TableId}
 use Rattle.ioc_fields.specs.declared.field_no.FieldNo.{FieldNo}
@@ -10,7 +10,7 @@ use Rattle.ioc_set_records.specs.Joined.{AreShared}
 use Rattle.ioc_store.specs.World.{World}
 use Rattle.ioc_history.specs.declared.entry.Note.{Note}
 use Rattle.ioc_history.specs.declared.cell.View.{View}
-use Rattle.ioc_history.specs.Key.{Key, Has, record_keys}
+use Rattle.ioc_history.specs.Key.{Key, Has}
 use Rattle.ioc_history.specs.KeyLaws.{has_either, record_kind}
 use Rattle.ioc_history.specs.Line.{Continues, holder}
 use Rattle.ioc_history.specs.Legal.{IsLegal, IsSound, map_of}

@@ -51,7 +51,7 @@ module _ {R : Type 0} (k : RecordRules R) where
   cancel-steps answers w number live none =
       ap (λ (b : Bool).
       let first : Stepped R = cond b (record { world = cancelled k number w; reply = Plain; requests = None }) (refused w Stale) in
-      cond (lets_start (Cancel number) first.reply) (with_starts k answers first) first) live
+      cond (lets_start first.reply) (with_starts k answers first) first) live
       ∙ ap (λ (d : Done R). record { world = d.world; reply = Plain; requests = followed_by None d.requests }) (all-none answers (cancelled k number w) none)
 
   -- If each record of a put with notification is active, no waiting request may start once it is

@@ -8,7 +8,7 @@ use Rattle.std.proofs.lemmas.Bool.{eqb-true, eq-eqb, ne_eqb}
 use Rattle.ioc_device.specs.declared.Ask.{Ask}
 use Rattle.ioc_device.specs.declared.Answer.{Answer}
 use Rattle.ioc_dbcommon.specs.Steps.{with_notification}
-use Rattle.ioc_ledger.specs.Requests.{None as No_requests, followed_by}
+use Rattle.ioc_ledger.specs.Requests.{None as No_requests, followed_by, counted_all}
 use Rattle.ioc_ledger.specs.declared.tally.Tally.{Tally}
 use Rattle.ioc_notify.specs.declared.live_numbers.Live.{Live}
 use Rattle.ioc_notify.specs.declared.waiting_lists.Waiting.{Waiting}
@@ -18,30 +18,32 @@ use Rattle.ioc_record.specs.RecordRules.{RecordRules, targets}
 use Rattle.ioc_record.specs.Laws.{IsLawful}
 use Rattle.ioc_store.specs.World.{World, Has, at, common_at, begun, begun_at, cancelled, freed, is_notification}
 use Rattle.ioc_store.specs.Weights.{weight_of}
-use Rattle.ioc_store.specs.Given.{DevicesWork, no_call, and_then, listed, answers_of}
+use Rattle.ioc_store.specs.Given.{DevicesWork, no_call, and_then, listed, answers_of, later_among}
 use Rattle.ioc_store.specs.declared.call.Call.{Call}
 use Rattle.ioc_store.specs.Freeing.{get-mapped, at_cancelled-either}
 use Rattle.ioc_store.specs.StepFrames.{targets-set}
 use Rattle.ioc_events.specs.declared.event.Event.{Event}
 use Rattle.ioc_events.specs.declared.event.Event.TheVariants.{Cancel}
-use Rattle.ioc_events.specs.declared.event.Entry.{Entry}
+use Rattle.ioc_events.specs.declared.event.EventEntry.{EventEntry}
+use Rattle.ioc_events.specs.declared.event.Call.TheVariants as calling
 use Rattle.ioc_events.specs.declared.reply.Reply.{Reply}
 use Rattle.ioc_events.specs.declared.reply.Reply.TheVariants.{Plain}
 use Rattle.ioc_events.specs.Holding.{how_many, one_if_has, holders}
 use Rattle.ioc_events.specs.Starting.{NoneReady}
-use Rattle.ioc_events.specs.Step.{Stepped, stepped, tallied}
+use Rattle.ioc_events.specs.Calls.{Called, called}
+use Rattle.ioc_events.specs.Step.{Stepped, stepped, tallied, calls_since}
 use Rattle.ioc_events.proofs.RecordLists.{taken-from_each}
 use Rattle.ioc_history.specs.declared.entry.Note.{Note}
 use Rattle.ioc_history.specs.Key.{Key, Has as Has_key}
 use Rattle.ioc_history.specs.Legal.{key_of, notifications_key, done, map_of, Fits, IsLegal, IsUntouched}
-use Rattle.ioc_history.specs.Counting.{once_in, once_by, tallied_by}
+use Rattle.ioc_history.specs.Counting.{is_completion, once_in, once_by, tallied_by}
 use Rattle.ioc_history.specs.Covering.{Holds}
 use Rattle.ioc_history.specs.Laws.{StaysSound, CancelIsHeld, BeginningIsHeld, HeldAlike}
 use Rattle.ioc_history.proofs.Placing.{live-once}
 use Rattle.ioc_set.specs.SetState.{SetState, now_of, folded, done_by, held_after}
 use Rattle.ioc_set.specs.Doing.{with_place}
 use Rattle.ioc_set.specs.Sound.{IsSound}
-use Rattle.ioc_journaled_set.specs.GiveUpLaws.{cancel_entry, cancel_note, ShareNone, holders_in_all, GivesUp, IsHeldSoundly, SetsGiveUp, CancelGivesUp, CameToNothing}
+use Rattle.ioc_journaled_set.specs.GiveUpLaws.{cancel_event, cancel_note, ShareNone, holders_in_all, GivesUp, IsHeldSoundly, SetsGiveUp, CancelGivesUp, CameToNothing}
 use Rattle.ioc_history.proofs.Summing.{point, of-number}
 use Rattle.ioc_journaled_set.proofs.GiveUpAmong.{some-or-none, nobody-outside}
 use Rattle.ioc_journaled_set.proofs.GiveUpEvents.{cancel-steps, AreActive, none-then, begun-none, begun-active}
@@ -132,10 +134,10 @@ module _ {R : Type 0} (k : RecordRules R) where
     given_up m = cancelled k number (begun_at moment m)
 
     note-done : (m : World R) → is_live number m.live ≡ true → NoneReady k m → AreActive k number m
-        → done k m note ≡ record { world = given_up m; reply = Plain; requests = followed_by No_requests No_requests }
-    unfolding begun begun_at done
+        → done k m note ≡ record { world = given_up m; call = note.entry.entry.call; requests = followed_by No_requests No_requests }
+    unfolding begun begun_at done called
     note-done m live none active =
-        cancel-steps k (listed []) (begun_at moment m) number live (none-then k lawful number (begun_at moment m) (begun-none k moment m none) (begun-active k number moment m active))
+        ap (λ (d : Stepped R). record { world = d.world; call = calling.Event (Cancel number) d.reply; requests = d.requests }) (cancel-steps k (listed []) (begun_at moment m) number live (none-then k lawful number (begun_at moment m) (begun-none k moment m none) (begun-active k number moment m active)))
 
     no-calls : (m : World R) → (given_up m).calls ≡ []
     unfolding begun begun_at cancelled
@@ -146,14 +148,19 @@ module _ {R : Type 0} (k : RecordRules R) where
     none-sent m = refl
 
     once-none : (m : World R) → is_live number m.live ≡ true → NoneReady k m → AreActive k number m → once_by k m note ≡ 0
-    once-none m live none active = ap (λ (s : Stepped R). length (once_in s.world.outbox)) (note-done m live none active) ∙ none-sent m
+    once-none m live none active = ap (λ (s : Called R). length (once_in s.world.outbox)) (note-done m live none active) ∙ none-sent m
 
     counts-none : (t : Tally) (m : World R) → tallied t (begun_at moment m) (Cancel number) (record { world = given_up m; reply = Plain; requests = followed_by No_requests No_requests }) ≡ t
     unfolding tallied begun begun_at cancelled
     counts-none t m = refl
 
+    noted-none : (t : Tally) (m : World R) → counted_all t (followed_by No_requests No_requests) (later_among (calls_since (begun_at moment m) (given_up m))) false ≡ t
+    unfolding begun begun_at cancelled
+    noted-none t m = refl
+
     tally-none : (m : World R) → is_live number m.live ≡ true → NoneReady k m → AreActive k number m → (t : Tally) → tallied_by k t m note ≡ t
-    tally-none m live none active t = ap (λ (s : Stepped R). tallied t (begun_at moment m) (Cancel number) s) (note-done m live none active) ∙ counts-none t m
+    tally-none m live none active t =
+        ap (λ (d : Called R). counted_all t d.requests (later_among (calls_since (begun_at moment m) d.world)) (is_completion d.call)) (note-done m live none active) ∙ noted-none t m
 
     untouched : (m : World R) (r : ℕ) → point k number m r ≡ 0 → IsUntouched k r m (given_up m)
     unfolding at begun begun_at
@@ -176,9 +183,9 @@ module _ {R : Type 0} (k : RecordRules R) where
     note-fits m live none active key nobody =
         let is = note-done m live none active in
         record {
-          reply = sym (ap (λ (s : Stepped R). s.reply) is);
-          used = ap (λ (s : Stepped R). answers_of s.world.calls) is ∙ ap answers_of (no-calls m);
-          untouched = λ r out. subst (IsUntouched k r m) (sym (ap (λ (s : Stepped R). s.world) is)) (untouched m r (nobody r out));
+          reply = sym (ap (λ (s : Called R). s.call) is);
+          used = ap (λ (s : Called R). answers_of s.world.calls) is ∙ ap answers_of (no-calls m);
+          untouched = λ r out. subst (IsUntouched k r m) (sym (ap (λ (s : Called R). s.world) is)) (untouched m r (nobody r out));
           live = λ out. absurd (out key);
         }
 
@@ -231,7 +238,7 @@ module _ {R : Type 0} (k : RecordRules R) where
       let active = all-active lawful desk call moment number keys m sets known pairs same in
       let fits = note-fits lawful desk call moment number keys m live is_sound.none_ready active key (unkeyed lawful desk call moment number keys m sets known pairs same) in
       let leads : map_of k base (log ++ n ∷ []) ≡ cancelled k number (begun_at moment m)
-      = map-append log (n ∷ []) base ∙ ap (λ (s : Stepped R). s.world) (note-done lawful desk call moment number keys m live is_sound.none_ready active) in
+      = map-append log (n ∷ []) base ∙ ap (λ (s : Called R). s.world) (note-done lawful desk call moment number keys m live is_sound.none_ready active) in
       let lives = ap (λ (w : World R). w.live) leads ∙ live-then lawful desk call moment number keys m in (
         record {
           legal = legal-more log n base legal fits;
@@ -275,7 +282,7 @@ module _ {R : Type 0} (k : RecordRules R) where
       given = cancelled k number (begun_at moment (now_of h))
 
       gives : after.records ≡ given.records → after.waiting ≡ given.waiting → after.live ≡ given.live → get after.devices ≡ get h.devices → after.tally ≡ h.tally
-          → after ≡ held_after k (with_place h) (cancel_entry moment number) after.devices → GivesUp k moment number h after
+          → after ≡ held_after k (with_place h) (cancel_event moment number) after.devices → GivesUp k moment number h after
       unfolding begun begun_at cancelled
       gives records waiting live devices tally told = record { records = records; waiting = waiting; live = live; devices = devices; tally = tally; told = told }
 
@@ -289,7 +296,7 @@ module _ {R : Type 0} (k : RecordRules R) where
   uncalled no_call none = refl
   uncalled (and_then first rest) none = cc
 
-  entry-is : (e : Entry) (number : ℕ) → e.event ≡ Cancel number → e.answers ≡ [] → e.reply ≡ Plain → e ≡ cancel_entry e.moment number
+  entry-is : (e : EventEntry) (number : ℕ) → e.event ≡ Cancel number → e.answers ≡ [] → e.reply ≡ Plain → e ≡ cancel_event e.moment number
   entry-is e number event answers reply =
       ap (λ (v : Event). record { moment = e.moment; event = v; answers = e.answers; reply = e.reply }) event
       ∙ ap (λ (l : List Answer). record { moment = e.moment; event = Cancel number; answers = l; reply = e.reply }) answers
@@ -319,7 +326,7 @@ module _ {R : Type 0} (k : RecordRules R) where
             (ap (λ (h : SetState R D). h.live) does.after ∙ ap (λ (s : Stepped R). s.world.live) placed)
             (uncalled does.work (ap (λ (s : Stepped R). s.world.calls) is ∙ uncalled-here))
             counts
-            (does.after ∙ ap (λ (entry : Entry). held_after k (with_place before) entry after.devices) (entry-is e number does.event silent plain)));
+            (does.after ∙ ap (λ (entry : EventEntry). held_after k (with_place before) entry after.devices) (entry-is e number does.event silent plain)));
         nothing = nothing lawful number before after e.moment come_to
             (ap (λ (w : World R). w.calls) (does.left ∙ ap (λ (s : Stepped R). s.world) is))
             (ap (λ (w : World R). w.outbox) (does.left ∙ ap (λ (s : Stepped R). s.world) is))

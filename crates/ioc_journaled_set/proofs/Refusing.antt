@@ -1,8 +1,10 @@
 -- What a set knows after a link change that DISP forbids.
-use Rattle.std.proofs.Common.{◌≡◌, ℕ, Bool, true, false, not, cond, zero, suc, List, [], ◌∷◌, ◌++◌, Option, refl, sym, ap, ◌∙◌, subst, arith}
+use Rattle.std.proofs.Common.{◌≡◌, ℕ, Bool, true, false, zero, suc, List, [], ◌∷◌, ◌++◌, Option, refl, sym, ap, ◌∙◌, subst, arith, Some}
 use Rattle.std.specs.Prelude.{◌&&◌, Contains, IsSome, is_some, unwrap_or}
 use Rattle.std.specs.FinMap.{contains_key}
+use Rattle.ioc_values.specs.declared.error.IocError.{IocError}
 use Rattle.ioc_values.specs.declared.error.IocError.TheVariants.{PutDisabled}
+use Rattle.ioc_ledger.specs.Requests.{None}
 use Rattle.ioc_fields.specs.declared.field_no.FieldNo.{FieldNo}
 use Rattle.ioc_dbcommon.specs.declared.link_field.LinkField.{LinkField}
 use Rattle.ioc_dbcommon.specs.Links.{use_of, named_by}
@@ -10,10 +12,10 @@ use Rattle.ioc_record.specs.RecordRules.{RecordRules}
 use Rattle.ioc_record.specs.Values.{stops_put}
 use Rattle.ioc_set_records.specs.Joined.{HasLink}
 use Rattle.ioc_store.specs.World.{World, Has, at, common_at, begun, begun_at}
-use Rattle.ioc_store.specs.Given.{Answers, answers_of, listed}
-use Rattle.ioc_events.specs.declared.event.Event.TheVariants.{Link}
+use Rattle.ioc_store.specs.Given.{answers_of, listed}
 use Rattle.ioc_events.specs.declared.event.Entry.{Entry}
-use Rattle.ioc_events.specs.Step.{Stepped, all_there, refused, stepped, done_alone, done_there, relinked}
+use Rattle.ioc_events.specs.Step.{all_there, link_refusal as why_kept}
+use Rattle.ioc_events.specs.Calls.{Called, called, linked}
 use Rattle.ioc_history.specs.declared.entry.Note.{Note}
 use Rattle.ioc_history.specs.Key.{Key}
 use Rattle.ioc_history.specs.Line.{Continues, noted}
@@ -24,13 +26,6 @@ use Rattle.ioc_history.specs.Account.{journalled, MayFollow, Added}
 use Rattle.ioc_set.specs.SetState.{SetState, now_of}
 use Rattle.ioc_journaled_set.specs.LinkChanges.{IsKnown, link_refusal}
 use Rattle.ioc_journaled_set.proofs.Serving.{holds_on}
-
-fourth : {A : Type 0} (a b c d : Bool) (u x y z v : A) → a ≡ true → b ≡ true → c ≡ true → d ≡ true → cond a (cond (not b) x (cond (not c) y (cond d z v))) u ≡ z
-fourth true true true true u x y z v is_a is_b is_c is_d = refl
-fourth true true true false u x y z v is_a is_b is_c is_d = cc
-fourth true true false d u x y z v is_a is_b is_c is_d = cc
-fourth true false c d u x y z v is_a is_b is_c is_d = cc
-fourth false b c d u x y z v is_a is_b is_c is_d = cc
 
 both : (a b : Bool) → a ≡ true → b ≡ true → (a && b) ≡ true
 both true b is_a is_b = is_b
@@ -52,11 +47,10 @@ module _ {R : Type 0} (k : RecordRules R) where
       (all_known w ns (λ t c. has t (suc c.0, (let lt = c.1 in omega (arith, lt)), c.2)))
 
   -- A link change that DISP forbids is refused if all its records are there.
-  refusal : (answers : Answers) (w : World R) (s : ℕ) (field : FieldNo) (link : LinkField) → Has w s → all_there w (named_by (use_of link)) ≡ true → is_some (k.link (at k w s) field) ≡ true
-      → stops_put (common_at k w s) field ≡ true → stepped k answers w (Link s field link) ≡ refused w PutDisabled
-  unfolding stepped done_alone done_there relinked
-  refusal answers w s field link there all has stops =
-      fourth {A = Stepped R} (contains_key w.records s) (all_there w (named_by (use_of link))) (is_some (k.link (at k w s) field)) (stops_put (common_at k w s) field) _ _ _ _ _ there all has stops
+  refusal : (w : World R) (s : ℕ) (field : FieldNo) (link : LinkField) → Has w s → all_there w (named_by (use_of link)) ≡ true → is_some (k.link (at k w s) field) ≡ true
+      → stops_put (common_at k w s) field ≡ true → why_kept k w s field link ≡ Some PutDisabled
+  unfolding why_kept
+  refusal w s field link there all has stops = rw (there, all, has, stops) refl
 
 -- A link field of a held set: its record is there, and the field is a link.
 module _ {R D : Type 0} (k : RecordRules R) (h : SetState R D) (s : ℕ) (field : FieldNo) (has : HasLink k h.records s field) where
@@ -70,18 +64,22 @@ module _ {R D : Type 0} (k : RecordRules R) (h : SetState R D) (s : ℕ) (field 
 module _ {R : Type 0} (k : RecordRules R) (lasts : Lasts k) (stays : StaysSound k) (base v : World R) (moment s : ℕ) (field : FieldNo) (link : LinkField) (there : Has v s)
     (has_link : is_some (k.link (at k v s) field) ≡ true) (stops : stops_put (common_at k v s) field ≡ true) (known : (t : ℕ) → Contains (named_by (use_of link)) t → IsKnown k base t)
     (seen : List Note) (owned : List Key) (covers : Cover owned v) (holds : Holds k (map_of k base seen) v) where
+  -- The call leaves a world with its new moment.
+  abbrev kept_so : World R → Called R
+  kept_so m = record { world = begun_at moment m; call = (link_refusal moment s field link).call; requests = None }
+
   -- The change is refused in the world of all records, which is unchanged.
   refused_of_all : (log : List Note) (desk call : ℕ) (keys : List Key) → IsSound k base → Holds k (map_of k base log) v
-      → done k (map_of k base log) (noted (journalled desk call (link_refusal moment s field link)) keys) ≡ refused (begun_at moment (map_of k base log)) PutDisabled
-  unfolding done at begun begun_at
+      → done k (map_of k base log) (noted (journalled desk call (link_refusal moment s field link)) keys) ≡ kept_so (map_of k base log)
+  unfolding done called at begun begun_at
   refused_of_all log desk call keys sound h =
       let m = map_of k base log in
       let same = h.records s there in
-      refusal k (listed []) (begun_at moment m) s field link
+      ap (λ (o : Option IocError). linked k (listed []) (begun_at moment m) s field link o) (refusal k (begun_at moment m) s field link
       (subst (λ (o : Option R). IsSome o) (sym same) there)
       (all_known k (begun_at moment m) (named_by (use_of link)) (λ t c. let is = known t c in (stays base log sound).1.has t ((stays base is.0 sound).1.only t is.1)))
       (subst (λ (o : Option R). is_some (k.link (unwrap_or o k.missing) field) ≡ true) (sym same) has_link)
-      (subst (λ (o : Option R). stops_put (k.common (unwrap_or o k.missing)) field ≡ true) (sym same) stops)
+      (subst (λ (o : Option R). stops_put (k.common (unwrap_or o k.missing)) field ≡ true) (sym same) stops))
 
   untouched : (m : World R) (r : ℕ) → IsUntouched k r m (begun_at moment m)
   unfolding at begun begun_at
@@ -91,13 +89,13 @@ module _ {R : Type 0} (k : RecordRules R) (lasts : Lasts k) (stays : StaysSound 
   unfolding at begun begun_at
   still_holds m h = record { records = h.records; waiting = h.waiting; within = h.within; shut = h.shut; apart = h.apart }
 
-  refusal_fits : (m : World R) (n : Note) → n.entry.entry ≡ link_refusal moment s field link → done k m n ≡ refused (begun_at moment m) PutDisabled → Fits k m n
+  refusal_fits : (m : World R) (n : Note) → n.entry.entry ≡ link_refusal moment s field link → done k m n ≡ kept_so m → Fits k m n
   unfolding begun begun_at
   refusal_fits m n is comes = record {
-    reply = ap (λ (e : Entry). e.reply) is ∙ sym (ap (λ (d : Stepped R). d.reply) comes);
-    used = ap (λ (d : Stepped R). answers_of d.world.calls) comes ∙ sym (ap (λ (e : Entry). e.answers) is);
-    untouched = λ r out. subst (λ (d : Stepped R). IsUntouched k r m d.world) (sym comes) (untouched m r);
-    live = λ out. subst (λ (d : Stepped R). AreLiveAlike m d.world) (sym comes) (λ number. refl);
+    reply = ap (λ (e : Entry). e.call) is ∙ sym (ap (λ (d : Called R). d.call) comes);
+    used = ap (λ (d : Called R). answers_of d.world.calls) comes ∙ sym (ap (λ (e : Entry). e.answers) is);
+    untouched = λ r out. subst (λ (d : Called R). IsUntouched k r m d.world) (sym comes) (untouched m r);
+    live = λ out. subst (λ (d : Called R). AreLiveAlike m d.world) (sym comes) (λ number. refl);
   }
 
   refusal_goes_on : (log : List Note) (desk call : ℕ) (own : List Key) → IsSound k base → Continues seen owned log → IsLegal k base log
@@ -109,7 +107,7 @@ module _ {R : Type 0} (k : RecordRules R) (lasts : Lasts k) (stays : StaysSound 
       let comes = refused_of_all log desk call (owned ++ own) sound h in
       record {
         legal = legal_join k log (n ∷ []) base legal (refusal_fits m n refl comes, tt);
-        known = subst (λ (w : World R). Holds k w v) (sym (map_join k log (n ∷ []) base ∙ ap (λ (d : Stepped R). d.world) comes)) (still_holds m h);
+        known = subst (λ (w : World R). Holds k w v) (sym (map_join k log (n ∷ []) base ∙ ap (λ (d : Called R). d.world) comes)) (still_holds m h);
       }
 
   -- The refusal may follow any legal list.

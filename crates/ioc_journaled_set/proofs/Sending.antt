@@ -42,7 +42,7 @@ module _ {R : Type 0} (k : RecordRules R) (base : World R) (seen : List Note) (o
       subst (λ (o : Option ShareView). DoesCount k (map_of k base log) (noted (journalled desk call entry) (owned ++ own)) o before after) (sym is) (nothing log desk call own sound go legal).tally
 
 -- A question or a link change counts nothing.
-module _ {R : Type 0} (k : RecordRules R) (law : QuestionsCountNothing k) (base : World R) (entry : Entry) (nothing : counts_nothing entry.event ≡ true) (seen : List Note) (owned : List Key) where
+module _ {R : Type 0} (k : RecordRules R) (law : QuestionsCountNothing k) (base : World R) (entry : Entry) (nothing : counts_nothing entry.call ≡ true) (seen : List Note) (owned : List Key) where
   pub asks_none : MayCountNothing k base seen owned entry
   asks_none log desk call own sound go legal = law (map_of k base log) (noted (journalled desk call entry) (owned ++ own)) nothing
 

@@ -1,27 +1,30 @@
 -- What a set knows after an event of its own.
 use Rattle.std.proofs.Common.{◌≡◌, ◌↔◌, ℕ, Bool, true, false, cond, List, [], ◌∷◌, ◌++◌, length, Option, Some, None, refl, sym, ap, ◌∙◌, subst, zero, suc, arith}
-use Rattle.std.specs.Prelude.{◌==◌, Contains, is_some}
+use Rattle.std.specs.Prelude.{◌==◌, Contains, is_some, Result, Ok}
+use Rattle.ioc_values.specs.declared.error.IocError.{IocError}
 use Rattle.std.specs.Ordering.{nat_cmp}
 use Rattle.std.specs.FinMap.{FinMap, get, len}
 use Rattle.std.specs.Option.{IfSome}
 use Rattle.atomic_table.specs.Seated.{TableId}
 use Rattle.ioc_device.specs.declared.Ask.{Ask}
 use Rattle.ioc_device.specs.declared.Answer.{Answer}
-use Rattle.ioc_ledger.specs.Requests.{Requests}
 use Rattle.ioc_ledger.specs.Shared.{ShareView}
 use Rattle.ioc_ledger.specs.declared.tally.Tally.{Tally}
 use Rattle.ioc_fields.specs.declared.field_no.FieldNo.{FieldNo}
 use Rattle.ioc_record.specs.RecordRules.{RecordRules}
 use Rattle.ioc_store.specs.World.{World, Has, IsClosed, at, begun, begun_at, has_place}
-use Rattle.ioc_store.specs.Given.{Answers, answers_of, listed}
+use Rattle.ioc_store.specs.Given.{answers_of, listed}
 use Rattle.ioc_events.specs.declared.event.Event.{Event}
-use Rattle.ioc_events.specs.declared.event.Event.TheVariants.{Get, Process, Put, Complete, Link, Notify, Cancel, IsLive}
+use Rattle.ioc_events.specs.declared.event.Event.TheVariants.{Process, Put, Complete, Notify, Cancel}
+use Rattle.ioc_events.specs.declared.event.Call.TheVariants as calling
+use Rattle.ioc_events.specs.declared.event.EventEntry.{EventEntry}
 use Rattle.ioc_events.specs.declared.event.Entry.{Entry}
 use Rattle.ioc_events.specs.declared.reply.Reply.{Reply}
 use Rattle.ioc_events.specs.Holding.{IsCounted, IsHeld, holders}
 use Rattle.ioc_events.specs.Local.{AskAlike}
-use Rattle.ioc_events.specs.Step.{names, stepped, tallied}
-use Rattle.ioc_events.specs.StepRules.{Step, KeepsRecords}
+use Rattle.ioc_events.specs.Calls.{called}
+use Rattle.ioc_events.specs.Step.{names, shown, tallied}
+use Rattle.ioc_events.specs.StepRules.{KeepsRecords}
 use Rattle.ioc_history.specs.declared.entry.Note.{Note}
 use Rattle.ioc_history.specs.declared.cell.View.{View}
 use Rattle.ioc_history.specs.Key.{Key, Has as Has_key}
@@ -31,11 +34,13 @@ use Rattle.ioc_history.specs.Legal.{AreLiveAlike, IsLegal, IsSound, key_of, noti
 use Rattle.ioc_history.specs.Counting.{once_in, once_by, tallied_by, MaySend, MayCount, DoesCount}
 use Rattle.ioc_history.specs.CountLaws.{PartsCountAlike}
 use Rattle.ioc_store.specs.declared.outbox.OutboxItem.{OutboxItem}
-use Rattle.ioc_history.specs.Covering.{Holds, Cover, CancelsWithin, AreHeldAlike, IsOf, IsDone, question_note}
-use Rattle.ioc_history.specs.Laws.{Lasts, OneMore, HoldersMove, MovesAlike, EndsOver, Asks, HeldAlike, GoesOn}
-use Rattle.ioc_history.specs.Account.{journalled, number_given, AreRecords, IsHolder, MayFollow, Added}
+use Rattle.ioc_history.specs.Covering.{Holds, Cover, CancelsWithin, AreHeldAlike, IsOf, IsDone}
+use Rattle.ioc_history.specs.Laws.{Lasts, OneMore, HoldersMove, MovesAlike, EndsOver, Asks, GoesOn}
+use Rattle.ioc_history.specs.EventLaws.{EventLaws}
+use Rattle.ioc_history.specs.Account.{journalled, number_begun, AreRecords, IsHolder, MayFollow, Added}
 use Rattle.ioc_journaled_set.specs.CallLaws.{CallLaws}
-use Rattle.ioc_journaled_set.specs.Holding.{is_on_record, IsOwner}
+use Rattle.ioc_journaled_set.specs.Holding.{is_on_record, entry_of_event, IsOwner}
+use Rattle.ioc_journaled_set.specs.Puts.{told_at}
 use Rattle.ioc_set.specs.SetState.{SetState, NoneIsLive, now_of, folded, done_by, held_after}
 use Rattle.ioc_set.specs.Doing.{is_ordinary, with_place, Does}
 
@@ -51,25 +56,19 @@ false_true e = cc
 
 -- An ordinary event names a record.
 pub names_one : (event : Event) → is_on_record event ≡ true → (n : ℕ) × Contains (names event) n
-names_one (Get s field) is = absurd (false_true is)
 names_one (Process s) is = (s, (zero, omega arith, refl))
 names_one (Put s field given) is = (s, (zero, omega arith, refl))
 names_one (Complete s n x) is = (s, (zero, omega arith, refl))
-names_one (Link s field link) is = absurd (false_true is)
 names_one (Notify s n field given) is = (s, (zero, omega arith, refl))
 names_one (Cancel n) is = absurd (false_true is)
-names_one (IsLive n) is = absurd (false_true is)
 
 -- An ordinary event is one on a record.
 pub ordinary_on : (event : Event) → is_ordinary event ≡ true → is_on_record event ≡ true
-ordinary_on (Get s field) is = absurd (false_true is)
 ordinary_on (Process s) is = refl
 ordinary_on (Put s field given) is = refl
 ordinary_on (Complete s n x) is = refl
-ordinary_on (Link s field link) is = absurd (false_true is)
 ordinary_on (Notify s n field given) is = absurd (false_true is)
 ordinary_on (Cancel n) is = absurd (false_true is)
-ordinary_on (IsLive n) is = absurd (false_true is)
 
 -- What follows for the number that there may be.
 pub if_some_then : {A : Type 0} {P Q : A → Type 0} (o : Option A) → ((a : A) → P a → Q a) → IfSome o P → IfSome o Q
@@ -77,15 +76,12 @@ if_some_then None f p = tt
 if_some_then (Some a) f p = f a p
 
 -- An ordinary event begins no put with notification.
-pub begins_no_put : (event : Event) → is_ordinary event ≡ true → number_given event ≡ None
-begins_no_put (Get s field) is = refl
+pub begins_no_put : (event : Event) → is_ordinary event ≡ true → number_begun event ≡ None
 begins_no_put (Process s) is = refl
 begins_no_put (Put s field given) is = refl
 begins_no_put (Complete s n x) is = refl
-begins_no_put (Link s field link) is = refl
 begins_no_put (Notify s n field given) is = absurd (false_true is)
 begins_no_put (Cancel n) is = refl
-begins_no_put (IsLive n) is = refl
 
 -- A pass that has seen more of the list still owns the keys of the records that were there.
 pub owner_on : {R : Type 0} (table id id' : TableId) (v v' : View) (seen : List Note) (w w' : World R) → IsOwner table id v w → id' ≡ id → v' ≡ holder seen v.owns → ((n : ℕ) → Has w' n → Has w n) → IsOwner table id' v' w'
@@ -97,27 +93,21 @@ owner_on table id id' v v' seen w w' owner same is only = record {
 }
 
 module _ {R : Type 0} (k : RecordRules R) where
-  pub no_cancel : (m v : World R) (event : Event) → is_on_record event ≡ true → CancelsWithin k m v event
-  no_cancel m v (Get s field) is = tt
-  no_cancel m v (Process s) is = tt
-  no_cancel m v (Put s field given) is = tt
-  no_cancel m v (Complete s n x) is = tt
-  no_cancel m v (Link s field link) is = tt
-  no_cancel m v (Notify s n field given) is = tt
-  no_cancel m v (Cancel n) is = absurd (false_true is)
-  no_cancel m v (IsLive n) is = tt
+  pub no_cancel : (m v : World R) (event : Event) → is_on_record event ≡ true → (reply : Reply) → CancelsWithin k m v (calling.Event event reply)
+  no_cancel m v (Process s) is reply = tt
+  no_cancel m v (Put s field given) is reply = tt
+  no_cancel m v (Complete s n x) is reply = tt
+  no_cancel m v (Notify s n field given) is reply = tt
+  no_cancel m v (Cancel n) is reply = absurd (false_true is)
 
   -- An event on a record asks alike in two worlds if the put with notification that it may begin
   -- has a place in both or in none.
-  pub asks_alike : (w v : World R) (event : Event) → is_on_record event ≡ true → IfSome (number_given event) (λ number. has_place w number ≡ has_place v number) → AskAlike w v event
-  asks_alike w v (Get s field) is same = tt
+  pub asks_alike : (w v : World R) (event : Event) → is_on_record event ≡ true → IfSome (number_begun event) (λ number. has_place w number ≡ has_place v number) → AskAlike w v event
   asks_alike w v (Process s) is same = tt
   asks_alike w v (Put s field given) is same = tt
   asks_alike w v (Complete s n x) is same = tt
-  asks_alike w v (Link s field link) is same = tt
   asks_alike w v (Notify s n field given) is same = same
   asks_alike w v (Cancel n) is same = absurd (false_true is)
-  asks_alike w v (IsLive n) is same = absurd (false_true is)
 
   -- An ordinary event asks alike in any two worlds.
   pub asks_nothing : (w v : World R) (event : Event) → is_ordinary event ≡ true → AskAlike w v event
@@ -164,8 +154,11 @@ module _ {R : Type 0} (k : RecordRules R) where
 
 module _ {R D : Type 0} (k : RecordRules R) (gives : D → Ask → ℕ → Answer → D → Type 0) (h h' : SetState R D) (moment : ℕ) (event : Event) (reply : Reply) (come_to : World R)
     (does : Does k gives h moment event reply h' come_to) (there : (n : ℕ) → Contains (names event) n → Has (now_of h) n) where
-  abbrev e : Entry
+  abbrev e : EventEntry
   e = does.entry
+
+  abbrev made : Entry
+  made = entry_of_event does.entry
 
   abbrev after : World R
   after = (done_by k (now_of h) e).world
@@ -180,10 +173,10 @@ module _ {R D : Type 0} (k : RecordRules R) (gives : D → Ask → ℕ → Answe
   replied = subst (λ (w : World R). (done_by k w e).reply ≡ e.reply) was_now does.tells.reply
 
   -- The entry has the answers of devices that the event left.
-  pub entry_is : (answers : List Answer) → answers ≡ answers_of come_to.calls → e ≡ record { moment = moment; event = event; answers = answers; reply = reply }
+  pub entry_is : (answers : List Answer) → answers ≡ answers_of come_to.calls → made ≡ record { moment = moment; call = calling.Event event reply; answers = answers }
   entry_is answers copied =
       let told : e.answers ≡ answers = sym used ∙ ap (λ (w : World R). answers_of w.calls) (sym does.left) ∙ sym copied in
-      λ i. record { moment = does.moment i; event = does.event i; answers = told i; reply = does.answer i }
+      λ i. record { moment = does.moment i; call = calling.Event (does.event i) (does.answer i); answers = told i }
 
   now_then : now_of h' ≡ now_of (held_after k (with_place h) e h'.devices)
   now_then = ap (λ (z : SetState R D). now_of z) does.after
@@ -213,36 +206,35 @@ module _ {R D : Type 0} (k : RecordRules R) (gives : D → Ask → ℕ → Answe
       ∙ ap (λ (w : World R). tallied h.tally (begun_at e.moment w) e.event (done_by k w e)) was_now
 
   -- If no put with notification is live before and after, no record is part of one.
-  pub none_held : (counted : (answers : Answers) (w after : World R) (event : Event) (reply : Reply) (requests : Requests) → Step k answers w event after reply requests → IsCounted k w → IsCounted k after)
-      → (allowed : (answers : Answers) (w : World R) (event : Event) → Step k answers w event (stepped k answers w event).world (stepped k answers w event).reply (stepped k answers w event).requests)
-      → IsCounted k (now_of h) → NoneIsLive h → NoneIsLive h' → AreHeldAlike k (now_of h) after
-  none_held counted allowed before none none_then number =
-      let done = done_by k (now_of h) e in
-      let step = allowed (listed e.answers) (begun_at e.moment (now_of h)) e.event in
-      let then = counted (listed e.answers) (begun_at e.moment (now_of h)) after e.event done.reply done.requests step (counted_begun k (now_of h) e.moment before) in
+  pub none_held : EventLaws k → IsCounted k (now_of h) → NoneIsLive h → NoneIsLive h' → AreHeldAlike k (now_of h) after
+  unfolding called
+  none_held laws before none none_then number =
+      let w = begun_at e.moment (now_of h) in
+      let d = called k (listed e.answers) w made.call in
+      let then = laws.counted (listed e.answers) w d.world d.call d.requests (laws.allowed (listed e.answers) w made.call) (counted_begun k (now_of h) e.moment before) in
       sym (before.counted.counted number) ∙ live_alike k (now_of h) after (none.0 ∙ sym none_then.0 ∙ live_then) number ∙ then.counted.counted number
 
   -- The event, noted with these keys, follows a legal list after which the set is held: the set is
   -- held after it, and the counts of all records change as those of the set do.
   module _ (one_more : OneMore k) (moves : HoldersMove k) (base : World R) (log : List Note) (desk call : ℕ) (keys : List Key) (sound : IsSound k base) (legal : IsLegal k base log)
-      (holds : Holds k (map_of k base log) (now_of h)) (covers : Cover keys (now_of h)) (cancels : CancelsWithin k (map_of k base log) (now_of h) event)
+      (holds : Holds k (map_of k base log) (now_of h)) (covers : Cover keys (now_of h)) (cancels : (r : Reply) → CancelsWithin k (map_of k base log) (now_of h) (calling.Event event r))
       (asks : AskAlike (begun_at moment (now_of h)) (begun_at moment (map_of k base log)) event) (same : (Has_key notifications_key keys → ⊥) → AreHeldAlike k (now_of h) after) where
     abbrev note : Note
-    note = noted (journalled desk call e) keys
+    note = noted (journalled desk call made) keys
 
     is_of : IsOf k (map_of k base log) (now_of h) note
-    unfolding done
+    unfolding done called
     is_of = record {
       named = λ r c. there r (subst (λ (x : Event). Contains (names x) r) does.event c);
-      cancels = subst (λ (x : Event). CancelsWithin k (map_of k base log) (now_of h) x) (sym does.event) cancels;
+      cancels = subst (λ (x : Event). CancelsWithin k (map_of k base log) (now_of h) (calling.Event x e.reply)) (sym does.event) (cancels e.reply);
       asks = subst (λ (t : ℕ). AskAlike (begun_at t (now_of h)) (begun_at t (map_of k base log)) e.event) (sym does.moment) (subst (λ (x : Event). AskAlike (begun_at moment (now_of h)) (begun_at moment (map_of k base log)) x) (sym does.event) asks);
       covers = covers;
       live = same;
     }
 
     is_done : IsDone k (now_of h) note after
-    unfolding done
-    is_done = record { world = refl; reply = replied; used = used }
+    unfolding done called
+    is_done = record { world = refl; reply = ap (λ (r : Reply). calling.Event e.event r) replied; used = used }
 
     pub noted_on : GoesOn k base log note (λ m. Holds k m after)
     noted_on = one_more base (now_of h) after log note sound legal holds is_of is_done
@@ -252,37 +244,34 @@ module _ {R D : Type 0} (k : RecordRules R) (gives : D → Ask → ℕ → Answe
 
     -- The event sends as many once requests among all records as on the set.
     pub sent_on : PartsCountAlike k → length (once_in come_to.outbox) ≡ once_by k (map_of k base log) note
-    unfolding done
+    unfolding done called
     sent_on law = ap (λ (items : List OutboxItem). length (once_in items)) outbox_then ∙ sym (law base (now_of h) log note sound legal holds is_of).once
 
     -- The event counts as much among all records as on the set.
     pub counted_on : PartsCountAlike k → h'.tally ≡ tallied_by k h.tally (map_of k base log) note
-    unfolding done
+    unfolding done called tallied
     counted_on law = tally_then ∙ sym ((law base (now_of h) log note sound legal holds is_of).tally h.tally)
 
     -- What has ended among all records has ended on the set, and no record is part of it.
     pub ended_on : EndsOver k → IsCounted k (now_of h) → (n : ℕ) → Contains (map_of k base (log ++ note ∷ [])).ended n ↔ (Contains after.ended n × (IsHeld k (map_of k base (log ++ note ∷ [])) n → ⊥))
     ended_on ends counted n = ends base (now_of h) after log note sound legal holds is_of is_done counted n
 
+  keeps_records : EventLaws k → IsClosed k (now_of h) → KeepsRecords (begun_at e.moment (now_of h)) after
+  unfolding called
+  keeps_records laws shut =
+      let w = begun_at e.moment (now_of h) in
+      let d = called k (listed e.answers) w made.call in
+      laws.kept (listed e.answers) w d.world d.call d.requests (laws.allowed (listed e.answers) w made.call) (closed_begun k (now_of h) e.moment shut)
+
   -- The event adds no record.
-  pub only : ((answers : Answers) (w : World R) (event : Event) → Step k answers w event (stepped k answers w event).world (stepped k answers w event).reply (stepped k answers w event).requests)
-      → ((answers : Answers) (w after : World R) (event : Event) (reply : Reply) (requests : Requests) → Step k answers w event after reply requests → IsClosed k w → KeepsRecords w after)
-      → IsClosed k (now_of h) → (n : ℕ) → Has (now_of h') n → Has (now_of h) n
-  only allowed kept shut n has =
-      let step = allowed (listed e.answers) (begun_at e.moment (now_of h)) e.event in
-      there_begun k (now_of h) e.moment n
-      ((kept (listed e.answers) (begun_at e.moment (now_of h)) after e.event (done_by k (now_of h) e).reply (done_by k (now_of h) e).requests step (closed_begun k (now_of h) e.moment shut)).only n
-      (subst (λ (rs : FinMap nat_cmp R). is_some (get rs n) ≡ true) records_then has))
+  pub only : EventLaws k → IsClosed k (now_of h) → (n : ℕ) → Has (now_of h') n → Has (now_of h) n
+  only laws shut n has =
+      there_begun k (now_of h) e.moment n ((keeps_records laws shut).only n (subst (λ (rs : FinMap nat_cmp R). is_some (get rs n) ≡ true) records_then has))
 
   -- The set has as many records as before.
-  pub as_many : ((answers : Answers) (w : World R) (event : Event) → Step k answers w event (stepped k answers w event).world (stepped k answers w event).reply (stepped k answers w event).requests)
-      → ((answers : Answers) (w after : World R) (event : Event) (reply : Reply) (requests : Requests) → Step k answers w event after reply requests → IsClosed k w → KeepsRecords w after)
-      → IsClosed k (now_of h) → len h'.records ≡ len h.records
+  pub as_many : EventLaws k → IsClosed k (now_of h) → len h'.records ≡ len h.records
   unfolding begun_at begun
-  as_many allowed kept shut =
-      let step = allowed (listed e.answers) (begun_at e.moment (now_of h)) e.event in
-      ap (λ (rs : FinMap nat_cmp R). len rs) records_then
-      ∙ (kept (listed e.answers) (begun_at e.moment (now_of h)) after e.event (done_by k (now_of h) e).reply (done_by k (now_of h) e).requests step (closed_begun k (now_of h) e.moment shut)).count
+  as_many laws shut = ap (λ (rs : FinMap nat_cmp R). len rs) records_then ∙ (keeps_records laws shut).count
 
 -- An event was done on a set. It asks nothing of all puts with notification, and leaves the counts
 -- of the set as they were.
@@ -295,12 +284,12 @@ module _ {R D : Type 0} (k : RecordRules R) (gives : D → Ask → ℕ → Answe
     pub same : AreHeldAlike k (now_of h) (done_by k (now_of h) does.entry).world
     pub covers : Cover owned (now_of h)
     pub holds : Holds k (map_of k base seen) (now_of h)
-    pub entry_is : does.entry ≡ entry
+    pub entry_is : entry_of_event does.entry ≡ entry
 
 module _ {R D : Type 0} {k : RecordRules R} {gives : D → Ask → ℕ → Answer → D → Type 0} {h h' : SetState R D} {moment : ℕ} {event : Event} {reply : Reply} {come_to base : World R} {seen : List Note} {owned : List Key} {entry : Entry}
     (d : IsDoneAlone k gives h h' moment event reply come_to base seen owned entry) where
   abbrev alone : (desk call : ℕ) → List Key → Note
-  alone desk call own = noted (journalled desk call d.does.entry) (owned ++ own)
+  alone desk call own = noted (journalled desk call (entry_of_event d.does.entry)) (owned ++ own)
 
   module _ (log : List Note) (desk call : ℕ) (own : List Key) (sound : IsSound k base) (go : Continues seen owned log) (legal : IsLegal k base log) where
     held_on : Holds k (map_of k base log) (now_of h)
@@ -336,7 +325,7 @@ module _ {R D : Type 0} {k : RecordRules R} {gives : D → Ask → ℕ → Answe
       ∙ ap (λ (t : Tally). tallied_by k t (map_of k base log) (alone desk call own)) (sym was)))
 
   module _ (log longer : List Note) (added : Added k base seen owned entry log longer) where
-    as_done : Added k base seen owned d.does.entry log longer
+    as_done : Added k base seen owned (entry_of_event d.does.entry) log longer
     as_done = subst (λ (x : Entry). Added k base seen owned x log longer) (sym d.entry_is) added
 
     -- If nothing has ended on the set, nothing has among all records.
@@ -360,22 +349,24 @@ module _ {R D : Type 0} {k : RecordRules R} {gives : D → Ask → ℕ → Answe
         (records_then k gives h h' moment event reply come_to d.does d.there) (waiting_then k gives h h' moment event reply come_to d.does d.there)
 
 -- A get on a held set.
-module _ {R : Type 0} (k : RecordRules R) (lasts : Lasts k) (asks : Asks k) (base v : World R) (moment s : ℕ) (field : FieldNo) (reply : Reply)
-    (answer : (answers : Answers) → reply ≡ (stepped k answers v (Get s field)).reply) (there : Has v s)
+module _ {R : Type 0} (k : RecordRules R) (lasts : Lasts k) (asks : Asks k) (base v : World R) (moment s : ℕ) (field : FieldNo) (text : List ℕ)
+    (answer : shown k v s field ≡ Ok text) (there : Has v s)
     (seen : List Note) (owned : List Key) (covers : Cover owned v) (holds : Holds k (map_of k base seen) v) where
   abbrev pub got : Entry
-  got = record { moment = moment; event = Get s field; answers = []; reply = reply }
+  got = told_at moment (calling.Get s field (Ok text))
 
-  get_goes_on : (log : List Note) (desk call : ℕ) (own : List Key) → IsSound k base → Continues seen owned log → IsLegal k base log
-      → GoesOn k base log (noted (journalled desk call got) (owned ++ own)) (λ m. Holds k m v)
-  get_goes_on log desk call own sound go legal =
-      let none : Answers = listed [] in
-      subst (λ (r : Reply). GoesOn k base log (question_note desk call moment (Get s field) r (owned ++ own)) (λ m. Holds k m v)) (sym (answer none))
-      (asks base v log desk call moment (Get s field) none (owned ++ own) refl sound legal (holds_on k lasts base v seen owned covers holds log go legal)
-      (λ r c. subst (λ (n : ℕ). Has v n) (one_there s r c) there) tt (λ r h. has_left (key_of r) owned own (covers r h)))
+  told : (called k (listed []) v got.call).call ≡ got.call
+  unfolding called
+  told = ap (λ (t : Result (List ℕ) IocError). calling.Get s field t) answer
+
+  get_goes_on : (log : List Note) (desk number : ℕ) (own : List Key) → IsSound k base → Continues seen owned log → IsLegal k base log
+      → GoesOn k base log (noted (journalled desk number got) (owned ++ own)) (λ m. Holds k m v)
+  get_goes_on log desk number own sound go legal =
+      asks base v log desk number moment got.call (listed []) (owned ++ own) refl told sound legal (holds_on k lasts base v seen owned covers holds log go legal)
+      (λ r c. subst (λ (n : ℕ). Has v n) (one_there s r c) there) tt (λ r h. has_left (key_of r) owned own (covers r h))
 
   pub get_may_follow : (entry : Entry) → got ≡ entry → MayFollow k base seen owned entry
-  get_may_follow entry is = subst (λ (x : Entry). MayFollow k base seen owned x) is (λ log desk call own sound go legal. (get_goes_on log desk call own sound go legal).legal)
+  get_may_follow entry is = subst (λ (x : Entry). MayFollow k base seen owned x) is (λ log desk number own sound go legal. (get_goes_on log desk number own sound go legal).legal)
 
   pub held_after_get : (entry : Entry) → got ≡ entry → (log longer : List Note) → Added k base seen owned entry log longer → Holds k (map_of k base longer) v
   held_after_get entry is log longer added =

@@ -10,7 +10,7 @@ use Rattle.ioc_notify.specs.Living.{is_live}
 use Rattle.ioc_notify.specs.Counts.{IsTable, holders_in, lines_of}
 use Rattle.ioc_record.specs.RecordRules.{RecordRules}
 use Rattle.ioc_store.specs.World.{World}
-use Rattle.ioc_events.specs.declared.event.Event.{Event}
+use Rattle.ioc_events.specs.declared.event.Call.{Call}
 use Rattle.ioc_history.specs.declared.entry.Note.{Note}
 use Rattle.ioc_history.specs.Account.{puts_key, calls, number_given, numbers_given, PutsAreKeyed}
 use Rattle.ioc_history.specs.Laws.{LiveLasts, OneMayBegin, StaysSound}
@@ -84,11 +84,11 @@ module _ {R : Type 0} (k : RecordRules R) (lasts : LiveLasts k) (stays : StaysSo
     (by_lines : (ls : List Live) (n : ℕ) → IsTrue (is_live n ls) ↔ (0 < lines_of n ls)) (by_table : (ls : List Live) (n : ℕ) → IsTable ls → IsTrue (is_live n ls) ↔ (0 < holders_in n ls))
     (base : World R) (seen log longer : List Note) (n : Note) (lines then : List Live) (table : IsTable lines) (table_then : IsTable then) (counted : AreCounted k base lines seen) (told : AreCounted k base then longer)
     (sound : IsSound k base) (go : Continues seen puts_key log) (legal : IsLegal k base log) (ends : longer ≡ log ++ n ∷ []) (legal_then : IsLegal k base longer) where
-  abbrev event : Event
-  event = (entry_of n).event
+  abbrev made : Call
+  made = (entry_of n).call
 
-  -- A put with notification that wasn't live, and that the event doesn't begin, isn't live.
-  pub stays_over : (m : ℕ) → number_given event ≢ Some m → is_live m lines ≡ false → is_live m then ≡ false
+  -- A put with notification that wasn't live, and that the call doesn't begin, isn't live.
+  pub stays_over : (m : ℕ) → number_given made ≢ Some m → is_live m lines ≡ false → is_live m then ≡ false
   stays_over m other isnt =
       let at_log = counted_on k lasts base seen log lines counted go legal in
       let before = same_live k by_lines lines (map_of k base log) m table by_table (stays base log sound).2 (at_log m) in
@@ -96,28 +96,28 @@ module _ {R : Type 0} (k : RecordRules R) (lasts : LiveLasts k) (stays : StaysSo
       after ∙ subst (λ (l : List Note). is_live m (map_of k base l).live ≡ false) (sym ends)
       (one base log n m sound (subst (λ (l : List Note). IsLegal k base l) ends legal_then) other (sym before ∙ isnt))
 
-  -- Numbers stay taken, but for the one that the event begins.
-  pub still_taken : (taken : List ℕ) (last : ℕ) → PutsAreKeyed longer → AreTaken lines taken last seen → IfSome (number_given event) (λ number. Contains taken number → ⊥) → AreTaken then taken last longer
+  -- Numbers stay taken, but for the one that the call begins.
+  pub still_taken : (taken : List ℕ) (last : ℕ) → PutsAreKeyed longer → AreTaken lines taken last seen → IfSome (number_given made) (λ number. Contains taken number → ⊥) → AreTaken then taken last longer
   still_taken taken last keyed was own m there =
       let t = was m there in
-      let other = other_than (number_given event) taken m own there in (
+      let other = other_than (number_given made) taken m own there in (
         t.0,
-        (λ begun. ⊎_elim (λ old. t.1 old) (λ new. other (in_option (number_given event) m new))
-            (Contains-append_cases (numbers_given (calls seen)) (cons_option (number_given event) []) m
+        (λ begun. ⊎_elim (λ old. t.1 old) (λ new. other (in_option (number_given made) m new))
+            (Contains-append_cases (numbers_given (calls seen)) (cons_option (number_given made) []) m
             (subst (λ (xs : List ℕ). Contains xs m) (numbers_then seen log longer puts_key n go ends (inl refl) keyed) begun))),
         stays_over m other t.2,
       )
 
   -- Each that is live has a place.
   pub still_placed : (begun begun_then : List ℕ) → ((m : ℕ) → is_live m lines ≡ true → Contains begun m) → ((m : ℕ) → is_live m lines ≡ true → Contains begun m → Contains begun_then m)
-      → IfSome (number_given event) (λ number. Contains begun_then number) → (m : ℕ) → is_live m then ≡ true → Contains begun_then m
+      → IfSome (number_given made) (λ number. Contains begun_then number) → (m : ℕ) → is_live m then ≡ true → Contains begun_then m
   still_placed begun begun_then placed kept own m lives =
       elim (is_live m lines) as (λ b. is_live m lines ≡ b → Contains begun_then m) [
         | true ↦ λ was. kept m was (placed m was)
-        | false ↦ λ wasnt. by (number_given event) refl wasnt own
+        | false ↦ λ wasnt. by (number_given made) refl wasnt own
       ] refl
     where
-      by : (o : Option ℕ) → number_given event ≡ o → is_live m lines ≡ false → IfSome o (λ number. Contains begun_then number) → Contains begun_then m
+      by : (o : Option ℕ) → number_given made ≡ o → is_live m lines ≡ false → IfSome o (λ number. Contains begun_then number) → Contains begun_then m
       by None is wasnt own = absurd (not_both lives (stays_over m (λ some. let no : None ≡ Some m = sym is ∙ some in cc) wasnt))
       by (Some b) is wasnt own =
           elim (eqb b m) as (λ c. eqb b m ≡ c → Contains begun_then m) [
@@ -126,9 +126,9 @@ module _ {R : Type 0} (k : RecordRules R) (lasts : LiveLasts k) (stays : StaysSo
           ] refl
 
   -- Each that has a place has begun.
-  pub still_begun : (begun begun_then : List ℕ) → PutsAreKeyed longer → ((m : ℕ) → Contains begun m → Contains (numbers_given (calls seen)) m) → ((m : ℕ) → Contains begun_then m → (number_given event ≡ Some m) ⊎ Contains begun m)
+  pub still_begun : (begun begun_then : List ℕ) → PutsAreKeyed longer → ((m : ℕ) → Contains begun m → Contains (numbers_given (calls seen)) m) → ((m : ℕ) → Contains begun_then m → (number_given made ≡ Some m) ⊎ Contains begun m)
       → (m : ℕ) → Contains begun_then m → Contains (numbers_given (calls longer)) m
   still_begun begun begun_then keyed was within m there =
       subst (λ (xs : List ℕ). Contains xs m) (sym (numbers_then seen log longer puts_key n go ends (inl refl) keyed))
-      (⊎_elim (λ new. Contains-append_right (numbers_given (calls seen)) (cons_option (number_given event) []) m (option_in (number_given event) m new))
-      (λ old. Contains-append_left (numbers_given (calls seen)) (cons_option (number_given event) []) m (was m old)) (within m there))
+      (⊎_elim (λ new. Contains-append_right (numbers_given (calls seen)) (cons_option (number_given made) []) m (option_in (number_given made) m new))
+      (λ old. Contains-append_left (numbers_given (calls seen)) (cons_option (number_given made) []) m (was m old)) (within m there))

@@ -1,37 +1,32 @@
--- The events without effect that the owner of the key of the puts with notification may note.
+-- The calls without effect that the owner of the key of the puts with notification may note.
 use Rattle.std.proofs.Common.{length, ◌≡◌, ◌↔◌, ℕ, ◌<◌, Bool, true, false, cond, nat_lt, List, [], ◌∷◌, ◌++◌, refl, sym, ap, ◌∙◌, subst, arith}
 use Rattle.std.specs.Prelude.{IsTrue}
 use Rattle.std.proofs.lemmas.Bool.{ltb-true, lt-ltb}
 use Rattle.ioc_values.specs.declared.error.IocError.TheVariants.{Stale}
-use Rattle.ioc_ledger.specs.Requests.{None, counted_completion}
+use Rattle.ioc_ledger.specs.Requests.{None, counted_all}
 use Rattle.ioc_ledger.specs.declared.tally.Tally.{Tally}
 use Rattle.ioc_notify.specs.declared.live_numbers.Live.{Live}
 use Rattle.ioc_notify.specs.Living.{holders_of, is_live}
 use Rattle.ioc_notify.specs.Counts.{holders_in, lines_of, IsTable}
 use Rattle.ioc_record.specs.RecordRules.{RecordRules}
 use Rattle.ioc_store.specs.World.{World, at, begun, begun_at}
-use Rattle.ioc_store.specs.Given.{Answers, answers_of, listed}
-use Rattle.ioc_device.specs.declared.Answer.{Answer}
-use Rattle.ioc_events.specs.declared.event.Event.{Event}
-use Rattle.ioc_events.specs.declared.event.Event.TheVariants.{Cancel, IsLive}
+use Rattle.ioc_store.specs.Given.{Answers, answers_of, later_among, listed}
+use Rattle.ioc_events.specs.declared.event.Event.TheVariants.{Cancel}
+use Rattle.ioc_events.specs.declared.event.Call.TheVariants as calling
 use Rattle.ioc_events.specs.declared.event.Entry.{Entry}
-use Rattle.ioc_events.specs.declared.reply.Reply.{Reply}
-use Rattle.ioc_events.specs.declared.reply.Reply.TheVariants.{Live as Live-reply}
+use Rattle.ioc_events.specs.declared.reply.Reply.TheVariants.{Refused}
+use Rattle.ioc_events.specs.Calls.{Called, called}
 use Rattle.ioc_events.specs.Holding.{IsCounted, holders}
-use Rattle.ioc_events.specs.Step.{Stepped, stepped, done_alone, done_there, refused, with_starts, lets_start, completes, tallied}
+use Rattle.ioc_events.specs.Step.{Stepped, stepped, done_alone, done_there, refused, with_starts, lets_start, calls_since}
 use Rattle.ioc_history.specs.declared.entry.Note.{Note}
 use Rattle.ioc_history.specs.Key.{Key}
-use Rattle.ioc_history.specs.Counting.{once_in}
+use Rattle.ioc_history.specs.Counting.{is_completion, once_in, tallied_by}
 use Rattle.ioc_journaled_set.specs.Sent.{MayCountNothing}
 use Rattle.ioc_history.specs.Line.{Continues, noted}
 use Rattle.ioc_history.specs.Legal.{AreLiveAlike, IsLegal, IsSound, IsUntouched, Fits, done, map_of}
 use Rattle.ioc_history.specs.Account.{journalled, MayFollow, Added, puts_key}
-use Rattle.ioc_journaled_set.specs.Puts.{told_at}
+use Rattle.ioc_journaled_set.specs.Puts.{ChangesNothing}
 use Rattle.ioc_journaled_set.proofs.Beside.{lines_are}
-
--- An entry with these answers.
-abbrev pub entry_with : ℕ → Event → Reply → List Answer → Entry
-entry_with moment event reply answers = record { moment = moment; event = event; answers = answers; reply = reply }
 
 both_same : (a b : Bool) → (a ≡ true → b ≡ true) → (b ≡ true → a ≡ true) → a ≡ b
 both_same true b there back = sym (there refl)
@@ -95,29 +90,29 @@ module _ {R : Type 0} (k : RecordRules R) where
   unfolding begun begun_at
   none_sent m moment = refl
 
-  none_counted : (m : World R) (moment : ℕ) (t : Tally) (event : Event) (reply : Reply) → completes event reply ≡ false
-      → tallied t (begun_at moment m) event (record { world = begun_at moment m; reply = reply; requests = None }) ≡ t
-  unfolding tallied begun begun_at
-  none_counted m moment t event reply none = ap (λ (b : Bool). cond b (counted_completion t) t) none
+  none_counted : (m : World R) (moment : ℕ) (t : Tally) (n : Note) → done k m n ≡ record { world = begun_at moment m; call = n.entry.entry.call; requests = None } → n.entry.entry.moment ≡ moment
+      → is_completion n.entry.entry.call ≡ false → tallied_by k t m n ≡ t
+  unfolding begun begun_at
+  none_counted m moment t n is at none =
+      ap (λ (d : Called R). counted_all t d.requests (later_among (calls_since (begun_at n.entry.entry.moment m) d.world)) (is_completion d.call)) is
+      ∙ ap (λ (b : Bool). counted_all t None 0 b) none
 
   -- A question or a refusal leaves the world after any legal list as it is.
-  module _ (base : World R) (moment : ℕ) (event : Event) (reply : Reply) (seen : List Note)
-      (comes : (log : List Note) → IsSound k base → Continues seen puts_key log → IsLegal k base log
-      → (answers : Answers) → stepped k answers (begun_at moment (map_of k base log)) event ≡ record { world = begun_at moment (map_of k base log); reply = reply; requests = None }) where
-    module _ (log : List Note) (desk call : ℕ) (keys : List Key) (sound : IsSound k base) (go : Continues seen puts_key log) (legal : IsLegal k base log) where
+  module _ (base : World R) (entry : Entry) (seen : List Note) (comes : ChangesNothing k base seen entry) (unanswered : entry.answers ≡ []) where
+    module _ (log : List Note) (desk number : ℕ) (keys : List Key) (sound : IsSound k base) (go : Continues seen puts_key log) (legal : IsLegal k base log) where
       abbrev note : Note
-      note = noted (journalled desk call (told_at moment event reply)) keys
+      note = noted (journalled desk number entry) keys
 
-      done_is : done k (map_of k base log) note ≡ record { world = begun_at moment (map_of k base log); reply = reply; requests = None }
+      pub done_is : done k (map_of k base log) note ≡ record { world = begun_at entry.moment (map_of k base log); call = entry.call; requests = None }
       unfolding done
-      done_is = comes log sound go legal (listed [])
+      done_is = comes log sound go legal (listed entry.answers)
 
       fits : Fits k (map_of k base log) note
       fits = record {
-        reply = sym (ap (λ (d : Stepped R). d.reply) done_is);
-        used = ap (λ (d : Stepped R). answers_of d.world.calls) done_is ∙ none_called (map_of k base log) moment;
-        untouched = λ r out. subst (λ (d : Stepped R). IsUntouched k r (map_of k base log) d.world) (sym done_is) (untouched (map_of k base log) moment r);
-        live = λ out. subst (λ (d : Stepped R). AreLiveAlike (map_of k base log) d.world) (sym done_is) (live_begun (map_of k base log) moment);
+        reply = sym (ap (λ (d : Called R). d.call) done_is);
+        used = ap (λ (d : Called R). answers_of d.world.calls) done_is ∙ none_called (map_of k base log) entry.moment ∙ sym unanswered;
+        untouched = λ r out. subst (λ (d : Called R). IsUntouched k r (map_of k base log) d.world) (sym done_is) (untouched (map_of k base log) entry.moment r);
+        live = λ out. subst (λ (d : Called R). AreLiveAlike (map_of k base log) d.world) (sym done_is) (live_begun (map_of k base log) entry.moment);
       }
 
       legal_then : IsLegal k base (log ++ note ∷ [])
@@ -125,39 +120,40 @@ module _ {R : Type 0} (k : RecordRules R) where
 
       alike_then : AreLiveAlike (map_of k base log) (map_of k base (log ++ note ∷ []))
       alike_then =
-          subst (λ (w : World R). AreLiveAlike (map_of k base log) w) (sym (map_join log (note ∷ []) base ∙ ap (λ (d : Stepped R). d.world) done_is)) (live_begun (map_of k base log) moment)
+          subst (λ (w : World R). AreLiveAlike (map_of k base log) w) (sym (map_join log (note ∷ []) base ∙ ap (λ (d : Called R). d.world) done_is)) (live_begun (map_of k base log) entry.moment)
 
-    pub told_follows : (entry : Entry) → told_at moment event reply ≡ entry → MayFollow k base seen puts_key entry
-    told_follows entry is = subst (λ (x : Entry). MayFollow k base seen puts_key x) is (λ log desk call own sound go legal. legal_then log desk call (puts_key ++ own) sound go legal)
+    pub told_follows : MayFollow k base seen puts_key entry
+    told_follows log desk number own sound go legal = legal_then log desk number (puts_key ++ own) sound go legal
 
-    pub told_counts_none : completes event reply ≡ false → (entry : Entry) → told_at moment event reply ≡ entry → MayCountNothing k base seen puts_key entry
-    told_counts_none none entry is = subst (λ (x : Entry). MayCountNothing k base seen puts_key x) is
-        (λ log desk call own sound go legal.
-        let same = done_is log desk call (puts_key ++ own) sound go legal in
+    pub told_counts_none : is_completion entry.call ≡ false → MayCountNothing k base seen puts_key entry
+    told_counts_none none log desk number own sound go legal =
+        let same = done_is log desk number (puts_key ++ own) sound go legal in
         record {
-          tally = λ t. ap (λ (d : Stepped R). tallied t (begun_at moment (map_of k base log)) event d) same ∙ none_counted (map_of k base log) moment t event reply none;
-          once = ap (λ (d : Stepped R). length (once_in d.world.outbox)) same ∙ none_sent (map_of k base log) moment;
-        })
+          tally = λ t. none_counted (map_of k base log) entry.moment t (note log desk number (puts_key ++ own) sound go legal) same refl none;
+          once = ap (λ (d : Called R). length (once_in d.world.outbox)) same ∙ none_sent (map_of k base log) entry.moment;
+        }
 
-    pub told_alike : (entry : Entry) → told_at moment event reply ≡ entry → (log longer : List Note) → Added k base seen puts_key entry log longer → AreLiveAlike (map_of k base log) (map_of k base longer)
-    told_alike entry is log longer added =
-        let a = subst (λ (x : Entry). Added k base seen puts_key x log longer) (sym is) added in
+    pub told_alike : (log longer : List Note) → Added k base seen puts_key entry log longer → AreLiveAlike (map_of k base log) (map_of k base longer)
+    told_alike log longer a =
         subst (λ (l : List Note). AreLiveAlike (map_of k base log) (map_of k base l)) (sym a.ends) (alike_then log a.desk a.call (puts_key ++ a.own) a.sound a.goes_on a.legal)
 
-  -- The question whether a put with notification is live.
-  pub ask_comes : (answers : Answers) (w : World R) (number : ℕ) → stepped k answers w (IsLive number) ≡ record { world = w; reply = Live-reply (is_live number w.live); requests = None }
-  unfolding stepped done_alone done_there
-  ask_comes answers w number = refl
+  -- The question whether a put with notification is live, with the reply that it has.
+  pub ask_comes : (answers : Answers) (w : World R) (number : ℕ) (live : Bool) → is_live number w.live ≡ live
+      → called k answers w (calling.IsLive number live) ≡ record { world = w; call = calling.IsLive number live; requests = None }
+  unfolding called
+  ask_comes answers w number live is = ap (λ (b : Bool). record { world = w; call = calling.IsLive number b; requests = None }) is
 
   stale : (answers : Answers) (w : World R) (number : ℕ) (first : Stepped R) (b : Bool) → b ≡ false
-      → (let d = cond b first (refused w Stale) in cond (lets_start (Cancel number) d.reply) (with_starts k answers d) d) ≡ refused w Stale
+      → (let d = cond b first (refused w Stale) in cond (lets_start d.reply) (with_starts k answers d) d) ≡ refused w Stale
   stale answers w number first true is = cc
   stale answers w number first false is = refl
 
   -- Canceling a put with notification that isn't live.
-  pub stale_comes : (answers : Answers) (w : World R) (number : ℕ) → is_live number w.live ≡ false → stepped k answers w (Cancel number) ≡ refused w Stale
-  unfolding stepped done_alone done_there
-  stale_comes answers w number none = stale answers w number _ (is_live number w.live) none
+  pub stale_comes : (answers : Answers) (w : World R) (number : ℕ) → is_live number w.live ≡ false
+      → called k answers w (calling.Event (Cancel number) (Refused Stale)) ≡ record { world = w; call = calling.Event (Cancel number) (Refused Stale); requests = None }
+  unfolding called stepped done_alone done_there
+  stale_comes answers w number none =
+      ap (λ (d : Stepped R). record { world = d.world; call = calling.Event (Cancel number) d.reply; requests = d.requests }) (stale answers w number _ (is_live number w.live) none)
 
 -- A put with notification is live when the next event begins exactly if it is live in a table with
 -- the counts of the world before.

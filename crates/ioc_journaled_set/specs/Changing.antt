@@ -2,15 +2,14 @@
 -- afterwards, and how many were moved. Application Developer's Guide, "Database Locking, Scanning,
 -- and Processing": a changed link parts lock sets or joins them. That the smaller part is moved is
 -- this project's own.
-use Rattle.std.specs.Prelude.{◌≡◌, ◌⊎◌, ◌≤◌, ◌<◌, ◌+◌, ℕ, min, length}
+use Rattle.std.specs.Prelude.{◌≡◌, ◌⊎◌, ◌≤◌, ◌<◌, ◌+◌, ℕ, min, length, Result, Ok, Err}
 use Rattle.std.specs.FinMap.{len}
+use Rattle.ioc_values.specs.declared.error.IocError.{IocError}
 use Rattle.ioc_values.specs.declared.error.IocError.TheVariants.{PutDisabled}
 use Rattle.ioc_fields.specs.declared.field_no.FieldNo.{FieldNo}
 use Rattle.ioc_dbcommon.specs.declared.link_field.LinkField.{LinkField}
 use Rattle.ioc_record.specs.RecordRules.{RecordRules}
 use Rattle.ioc_store.specs.World.{World}
-use Rattle.ioc_events.specs.declared.reply.Reply.{Reply}
-use Rattle.ioc_events.specs.declared.reply.Reply.TheVariants.{Plain, Refused}
 use Rattle.ioc_history.specs.Account.{DeskView}
 use Rattle.ioc_journaled_set.specs.Holding.{HeldView, numbers_of}
 use Rattle.ioc_journaled_set.specs.LinkChanges.{Parts, Leads, Refuses}
@@ -35,7 +34,7 @@ module _ {R D : Type 0} where
     pub count : moved ≡ min part other + min part (size_of rest)
 
 module _ {R D : Type 0} (k : RecordRules R) (base : World R) (first second spare : HeldView R D) (desk : DeskView) (at_moment number : ℕ) (field : FieldNo) (link : LinkField)
-    (reply : Reply) (moved : ℕ) (first_then second_then spare_then : HeldView R D) (desk_then : DeskView) (come_to : World R) where
+    (reply : Result (Unit {0}) IocError) (moved : ℕ) (first_then second_then spare_then : HeldView R D) (desk_then : DeskView) (come_to : World R) where
   -- The first set was parted in two, or is still one part.
   pub record FellApart : Type 0 where
     pub stay : HeldView R D
@@ -43,7 +42,7 @@ module _ {R D : Type 0} (k : RecordRules R) (base : World R) (first second spare
     pub parts : Parts k base first desk at_moment number field link stay rest desk_then come_to
     pub places : KeepsLarger stay rest first_then spare_then moved
     pub beside : second_then ≡ second
-    pub done : reply ≡ Plain
+    pub done : reply ≡ Ok tt
 
   -- The record's part of the first set was joined with the second.
   pub record WasLed : Type 0 where
@@ -52,7 +51,7 @@ module _ {R D : Type 0} (k : RecordRules R) (base : World R) (first second spare
     pub rest : HeldView R D
     pub leads : Leads k base first second desk at_moment number field link joined emptied rest desk_then come_to
     pub places : KeepsLargest (len leads.leads.stay.records) (size_of second) joined emptied rest first_then second_then spare_then moved
-    pub done : reply ≡ Plain
+    pub done : reply ≡ Ok tt
 
   -- DISP forbids the change, and no set has changed.
   pub record WasRefused : Type 0 where
@@ -60,7 +59,7 @@ module _ {R D : Type 0} (k : RecordRules R) (base : World R) (first second spare
     pub beside : second_then ≡ second
     pub none : spare_then ≡ spare
     pub unmoved : moved ≡ 0
-    pub refused : reply ≡ Refused PutDisabled
+    pub refused : reply ≡ Err PutDisabled
 
   -- The record's link was changed, or the change was refused.
   abbrev pub Relinks : Type 0

@@ -10,9 +10,11 @@ use Rattle.ioc_notify.specs.Living.{holders_of, is_live}
 use Rattle.ioc_record.specs.RecordRules.{RecordRules}
 use Rattle.ioc_store.specs.World.{World, cancelled}
 use Rattle.ioc_events.specs.declared.event.Event.TheVariants.{Cancel}
+use Rattle.ioc_events.specs.declared.event.Call.TheVariants as call
 use Rattle.ioc_events.specs.declared.reply.Reply.{Reply}
 use Rattle.ioc_events.specs.declared.reply.Reply.TheVariants.{Plain}
 use Rattle.ioc_events.specs.declared.event.Entry.{Entry}
+use Rattle.ioc_events.specs.declared.event.EventEntry.{EventEntry}
 use Rattle.ioc_history.specs.declared.entry.Note.{Note}
 use Rattle.ioc_history.specs.Key.{Key, Has as Has_key}
 use Rattle.ioc_history.specs.Legal.{IsLegal, map_of, notifications_key}
@@ -25,9 +27,13 @@ use Rattle.ioc_set.specs.Sound.{IsSound}
 use Rattle.ioc_set.specs.Doing.{Does, with_place}
 use Rattle.ioc_journaled_set.specs.Puts.{told_at}
 
--- The entry of a cancel that was done, in which no device answers.
+-- A cancel that was done, in which no device answers, as a set has it in its history, and as the
+-- journal has it.
+abbrev pub cancel_event : (moment number : ℕ) → EventEntry
+cancel_event moment number = record { moment = moment; event = Cancel number; answers = []; reply = Plain }
+
 abbrev pub cancel_entry : (moment number : ℕ) → Entry
-cancel_entry moment number = told_at moment (Cancel number) Plain
+cancel_entry moment number = told_at moment (call.Event (Cancel number) Plain)
 
 -- The note of such a cancel.
 abbrev pub cancel_note : (desk call moment number : ℕ) → List Key → Note
@@ -56,7 +62,7 @@ module _ {R D : Type 0} (k : RecordRules R) where
     pub live : after.live ≡ (cancelled k number (now_of before)).live
     pub devices : get after.devices ≡ get before.devices
     pub tally : after.tally ≡ before.tally
-    pub told : after ≡ held_after k (with_place before) (cancel_entry moment number) after.devices
+    pub told : after ≡ held_after k (with_place before) (cancel_event moment number) after.devices
 
   -- Holds if a set is sound and held, and these keys include those of its records.
   pub record IsHeldSoundly (m : World R) (keys : List Key) (h : SetState R D) : Type 0 where

@@ -5,14 +5,11 @@ use Rattle.atomic_table.specs.Seated.{TableId}
 use Rattle.ioc_notify.specs.Living.{holders_of}
 use Rattle.ioc_notify.specs.declared.live_numbers.Live.{Live}
 use Rattle.ioc_notify.specs.Counts.{holders_in}
-use Rattle.ioc_events.specs.declared.event.Event.TheVariants.{Cancel}
-use Rattle.ioc_events.specs.declared.reply.Reply.{Reply}
-use Rattle.ioc_events.specs.declared.reply.Reply.TheVariants.{Plain}
-use Rattle.ioc_history.specs.Account.{DeskView, Call, calls, numbers_given, puts_key, Pass}
+use Rattle.ioc_history.specs.Account.{DeskView, HasCalled, calls, numbers_given, puts_key, Pass}
 use Rattle.ioc_history.specs.Line.{holder}
-use Rattle.ioc_journaled_set.specs.GiveUpLaws.{GivesUp}
+use Rattle.ioc_journaled_set.specs.GiveUpLaws.{GivesUp, cancel_entry}
 use Rattle.ioc_journaled_set.specs.Sets.{AreItsSets}
-use Rattle.ioc_journaled_set.specs.Puts.{PutsView, told_at}
+use Rattle.ioc_journaled_set.specs.Puts.{PutsView}
 use Rattle.ioc_record.specs.RecordRules.{RecordRules}
 use Rattle.ioc_store.specs.World.{World}
 use Rattle.ioc_history.specs.declared.cell.View.{View}
@@ -50,7 +47,7 @@ module _ {R D : Type 0} (k : RecordRules R) (base : World R) (moment number : �
   -- unchanged, none has ended, and none has begun meanwhile.
   pub record HeldGaveUp (kept : View) (desk_then : DeskView) (after : List (HeldView R D)) (kept_then : View) : Type 0 where
     pub gives_up : (i : ℕ) (d : SetState R D) (e : HeldView R D) → i < length before → GivesUp k moment number (slice_index_or before i d) (slice_index_or after i e).set
-    pub call : Call k base desk (told_at moment (Cancel number) Plain) desk_then
+    pub call : HasCalled k base desk (cancel_entry moment number) desk_then
     pub seen : (i : ℕ) (d : HeldView R D) → i < length after → (slice_index_or after i d).seen ≡ desk_then.seen
     pub keeps : kept_then ≡ holder desk_then.seen puts_key
     pub nobody : holders_of number (map_of k base desk_then.seen).live ≡ 0
@@ -60,10 +57,9 @@ module _ {R D : Type 0} (k : RecordRules R) (base : World R) (moment number : �
 
 module _ {R D : Type 0} (k : RecordRules R) (base : World R) (moment number : ℕ) (desk : DeskView) (before : List (HeldView R D)) where
   -- The same, with the counts of the lines of the table.
-  pub record GaveUpOn (puts : PutsView) (reply : Reply) (desk_then : DeskView) (after : List (HeldView R D)) (puts_then : PutsView) : Type 0 where
-    pub answer : reply ≡ Plain
+  pub record GaveUpOn (puts : PutsView) (desk_then : DeskView) (after : List (HeldView R D)) (puts_then : PutsView) : Type 0 where
     pub gives_up : (i : ℕ) (d e : HeldView R D) → i < length before → GivesUp k moment number (slice_index_or before i d).set (slice_index_or after i e).set
-    pub call : Call k base desk (told_at moment (Cancel number) Plain) desk_then
+    pub call : HasCalled k base desk (cancel_entry moment number) desk_then
     pub seen : (i : ℕ) (d : HeldView R D) → i < length after → (slice_index_or after i d).seen ≡ desk_then.seen
     pub puts_seen : puts_then.seen ≡ desk_then.seen
     pub last : puts_then.last ≡ puts.last

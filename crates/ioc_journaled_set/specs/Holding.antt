@@ -1,6 +1,6 @@
 -- Sets under their locks, and the calls on them. Application Developer's Guide, "Database Locking,
 -- Scanning, and Processing". The journal is this project's own.
-use Rattle.std.specs.Prelude.{◌≡◌, ◌⊎◌, ℕ, Bool, true, false, List, [], ◌∷◌, ◌++◌, Option, Some, None, MatchOption, unwrap_or}
+use Rattle.std.specs.Prelude.{◌≡◌, ◌⊎◌, ℕ, Bool, true, false, List, [], Option, Some, None, MatchOption, unwrap_or, Ok}
 use Rattle.std.specs.Option.{option_map, IfSome}
 use Rattle.ioc_ledger.specs.Shared.{ShareView, share_view}
 use Rattle.std.specs.FinMap.{get, keys, len}
@@ -10,25 +10,27 @@ use Rattle.ioc_device.specs.declared.Ask.{Ask}
 use Rattle.ioc_device.specs.declared.Answer.{Answer}
 use Rattle.ioc_record.specs.RecordRules.{RecordRules}
 use Rattle.ioc_store.specs.World.{World, Has}
-use Rattle.ioc_store.specs.Given.{Answers}
 use Rattle.ioc_fields.specs.declared.field_no.FieldNo.{FieldNo}
 use Rattle.ioc_values.specs.declared.input.Input.{Input}
 use Rattle.ioc_events.specs.declared.event.Event.{Event}
 use Rattle.ioc_events.specs.declared.event.Event.TheVariants.{Process, Put, Complete, Notify}
 use Rattle.ioc_events.specs.declared.reply.Reply.{Reply}
-use Rattle.ioc_events.specs.Step.{stepped}
+use Rattle.ioc_events.specs.declared.event.Call.TheVariants as call
+use Rattle.ioc_events.specs.declared.event.Entry.{Entry}
+use Rattle.ioc_events.specs.declared.event.EventEntry.{EventEntry}
+use Rattle.ioc_events.specs.Step.{shown}
 use Rattle.ioc_history.specs.declared.entry.Note.{Note}
 use Rattle.ioc_history.specs.declared.cell.View.{View}
 use Rattle.ioc_history.specs.Legal.{map_of}
 use Rattle.ioc_history.specs.Covering.{Holds, Cover}
 use Rattle.ioc_values.specs.declared.error.IocError.{IocError}
-use Rattle.ioc_history.specs.Account.{Pass, DeskView, IsHolder, AreRecords, Call}
+use Rattle.ioc_history.specs.Account.{Pass, DeskView, IsHolder, AreRecords, HasCalled}
 use Rattle.ioc_history.specs.Places.{IsNoPlace}
 use Rattle.ioc_set.specs.SetState.{SetState, now_of}
 use Rattle.ioc_set.specs.Sound.{IsSound}
 use Rattle.ioc_set.specs.NoCalls.{no_call}
 use Rattle.ioc_set.specs.Doing.{Does}
-use Rattle.ioc_journaled_set.specs.Puts.{BeginsUnder}
+use Rattle.ioc_journaled_set.specs.Puts.{BeginsUnder, told_at}
 
 -- A set, and the beginning of the journal's list that its pass has seen.
 pub record HeldView (R D : Type 0) : Type 0 where
@@ -61,6 +63,10 @@ pub record IsOwner {R : Type 0} (table id : TableId) (v : View) (w : World R) : 
   pub holder : IsHolder v
   pub records : AreRecords v.owns
   pub covers : Cover v.owns w
+
+-- The journal's entry of an event that a set has in its history.
+abbrev pub entry_of_event : EventEntry → Entry
+entry_of_event e = record { moment = e.moment; call = call.Event e.event e.reply; answers = e.answers }
 
 -- The errors of an event on the records of a set that isn't added to the journal: its record has no
 -- such field, the field can't be put, the journal has no place left, or allocation fails.
@@ -98,13 +104,12 @@ module _ {R D : Type 0} (k : RecordRules R) (base : World R) where
     pub sound : IsSound k v.set
     pub holds : Holds k (map_of k base v.seen) (now_of v.set)
 
-  -- The set replies to a question of a desk, and the question is the last call of the legal list
-  -- that desk and set have seen afterwards.
-  pub record Tells (held : HeldView R D) (desk : DeskView) (at_moment : ℕ) (asked : Event) (reply : Reply) (held_then : HeldView R D) (desk_then : DeskView) : Type 0 where
-    pub is_call : no_call k (now_of held.set) asked ≡ None
-    pub answer : (answers : Answers) → reply ≡ (stepped k answers (now_of held.set) asked).reply
+  -- The set tells a desk the text of a field, and the get is the last call of the legal list that
+  -- desk and set have seen afterwards.
+  pub record Tells (held : HeldView R D) (desk : DeskView) (at_moment number : ℕ) (field : FieldNo) (text : List ℕ) (held_then : HeldView R D) (desk_then : DeskView) : Type 0 where
+    pub answer : shown k (now_of held.set) number field ≡ Ok text
     pub set : held_then.set ≡ held.set
-    pub call : Call k base desk (record { moment = at_moment; event = asked; answers = []; reply = reply }) desk_then
+    pub call : HasCalled k base desk (told_at at_moment (call.Get number field (Ok text))) desk_then
     pub seen : held_then.seen ≡ desk_then.seen
 
 module _ {R D : Type 0} (k : RecordRules R) (gives : D → Ask → ℕ → Answer → D → Type 0) (base : World R) where
@@ -113,7 +118,7 @@ module _ {R D : Type 0} (k : RecordRules R) (gives : D → Ask → ℕ → Answe
   pub record Serves (held : HeldView R D) (desk : DeskView) (at_moment : ℕ) (done : Event) (reply : Reply) (held_then : HeldView R D) (desk_then : DeskView) (come_to : World R) : Type 0 where
     pub is_call : no_call k (now_of held.set) done ≡ None
     pub does : Does k gives held.set at_moment done reply held_then.set come_to
-    pub call : Call k base desk does.entry desk_then
+    pub call : HasCalled k base desk (entry_of_event does.entry) desk_then
     pub seen : held_then.seen ≡ desk_then.seen
 
   -- A put with notification of a desk begins on a set, under a number that was taken for it.

@@ -1,7 +1,7 @@
 -- The puts with notification of all lock sets, in one table beside the journal. Application
 -- Developer's Guide, "Put with Notification" (dbPutNotify): it is complete when all processing that
 -- it has caused is done. The table and its place beside the journal are this project's own.
-use Rattle.std.specs.Prelude.{◌≡◌, ◌⊎◌, ◌↔◌, ◌+◌, ◌-◌, ◌≤◌, ◌<◌, ◌^◌, ◌∷◌, ◌++◌, ℕ, true, false, not, List, [], length, All, Contains}
+use Rattle.std.specs.Prelude.{◌≡◌, ◌⊎◌, ◌↔◌, ◌+◌, ◌-◌, ◌≤◌, ◌<◌, ◌^◌, ◌∷◌, ◌++◌, ℕ, Bool, true, false, not, List, [], length, All, Contains}
 use Rattle.std.specs.List.{filter}
 use Rattle.atomic_table.specs.Seated.{TableId}
 use Rattle.crossbeam_utils.specs.Seq.{cell_view}
@@ -13,17 +13,17 @@ use Rattle.ioc_store.specs.Given.{Answers}
 use Rattle.ioc_ledger.specs.Requests.{None}
 use Rattle.ioc_notify.specs.Counts.{Table, IsTable, holders_in}
 use Rattle.ioc_values.specs.declared.error.IocError.TheVariants.{Stale}
-use Rattle.ioc_events.specs.declared.event.Event.{Event}
-use Rattle.ioc_events.specs.declared.event.Event.TheVariants.{Cancel, IsLive}
+use Rattle.ioc_events.specs.declared.event.Event.TheVariants.{Cancel}
+use Rattle.ioc_events.specs.declared.event.Call.{Call}
+use Rattle.ioc_events.specs.declared.event.Call.TheVariants as call
 use Rattle.ioc_events.specs.declared.event.Entry.{Entry}
-use Rattle.ioc_events.specs.declared.reply.Reply.{Reply}
-use Rattle.ioc_events.specs.declared.reply.Reply.TheVariants.{Live as Live-reply, Refused}
-use Rattle.ioc_history.specs.Account.{DeskView, Call, Pass, puts_key, calls, numbers_given}
+use Rattle.ioc_events.specs.declared.reply.Reply.TheVariants.{Refused}
+use Rattle.ioc_history.specs.Account.{DeskView, HasCalled, Pass, puts_key, calls, numbers_given}
 use Rattle.ioc_history.specs.declared.entry.Note.{Note}
 use Rattle.ioc_history.specs.declared.cell.View.{View}
 use Rattle.ioc_history.specs.Line.{holder, Continues}
 use Rattle.ioc_history.specs.Legal.{map_of, IsLegal, IsSound}
-use Rattle.ioc_events.specs.Step.{stepped}
+use Rattle.ioc_events.specs.Calls.{called}
 use Rattle.ioc_journaled_set.specs.PutPlaces.{Places}
 
 -- The live puts with notification, each with its count, the numbers that were taken for calls whose
@@ -74,11 +74,11 @@ module _ {R : Type 0} (k : RecordRules R) (base : World R) where
   abbrev pub AreCounted : List Live → List Note → Type 0
   AreCounted live seen = (n : ℕ) → holders_in n live ≡ holders_of n (map_of k base seen).live
 
-  -- Holds if an event changes nothing but the moment, and has this reply, after any legal list that
+  -- Holds if a call changes nothing but the moment, and has its reply, after any legal list that
   -- continues from one that was seen without the key of the puts with notification.
   abbrev pub ChangesNothing : List Note → Entry → Type 0
   ChangesNothing seen entry = (log : List Note) → IsSound k base → Continues seen puts_key log → IsLegal k base log → (answers : Answers)
-      → stepped k answers (begun_at entry.moment (map_of k base log)) entry.event ≡ record { world = begun_at entry.moment (map_of k base log); reply = entry.reply; requests = None }
+      → called k answers (begun_at entry.moment (map_of k base log)) entry.call ≡ record { world = begun_at entry.moment (map_of k base log); call = entry.call; requests = None }
 
   -- What is true of the table whenever its lock is free: its lines are the live puts with
   -- notification of the world of all records, each with its count there, none began under a number
@@ -136,23 +136,22 @@ module _ {R : Type 0} (k : RecordRules R) (base : World R) where
     pub fits : (n : ℕ) → holders_of n (map_of k base longer).live ≤ 2 ^ 63
     pub few : length (map_of k base longer).live ≤ 256
 
--- The journal's entry of a question or of a refusal, in which no device answers.
-abbrev pub told_at : (moment : ℕ) → Event → Reply → Entry
-told_at moment event reply = record { moment = moment; event = event; answers = []; reply = reply }
+-- The journal's entry of a call in which no device answers.
+abbrev pub told_at : (moment : ℕ) → Call → Entry
+told_at moment made = record { moment = moment; call = made; answers = [] }
 
-module _ {R : Type 0} (k : RecordRules R) (base : World R) (puts : PutsView) (desk : DeskView) (moment number : ℕ) (reply : Reply) (puts_then : PutsView) (desk_then : DeskView) where
+module _ {R : Type 0} (k : RecordRules R) (base : World R) (puts : PutsView) (desk : DeskView) (moment number : ℕ) (puts_then : PutsView) (desk_then : DeskView) where
   -- A desk asks whether a put with notification is live, which it is if the table has it. The
   -- question is the last call of the legal list that desk and table have seen afterwards, and
   -- nothing else has changed.
-  pub record WasAsked : Type 0 where
-    pub answer : reply ≡ Live-reply (is_live number puts.live)
-    pub call : Call k base desk (told_at moment (IsLive number) reply) desk_then
+  pub record WasAsked (live : Bool) : Type 0 where
+    pub answer : live ≡ is_live number puts.live
+    pub call : HasCalled k base desk (told_at moment (call.IsLive number live)) desk_then
     pub kept : puts_then ≡ puts_view puts.live puts.taken puts.last desk_then.seen
 
   -- A put with notification isn't canceled because it isn't live. The refusal is the last call of
   -- that list, and nothing else has changed.
   pub record WasStale : Type 0 where
     pub none : is_live number puts.live ≡ false
-    pub answer : reply ≡ Refused Stale
-    pub call : Call k base desk (told_at moment (Cancel number) reply) desk_then
+    pub call : HasCalled k base desk (told_at moment (call.Event (Cancel number) (Refused Stale))) desk_then
     pub kept : puts_then ≡ puts_view puts.live puts.taken puts.last desk_then.seen

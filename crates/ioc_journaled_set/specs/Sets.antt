@@ -10,7 +10,7 @@ use Rattle.ioc_history.specs.declared.cell.View.{View}
 use Rattle.ioc_history.specs.Line.{holder}
 use Rattle.ioc_history.specs.Legal.{map_of}
 use Rattle.ioc_history.specs.Covering.{Holds, Cover}
-use Rattle.ioc_history.specs.Account.{DeskView, Call, calls, numbers_given, puts_key}
+use Rattle.ioc_history.specs.Account.{DeskView, HasCalled, calls, numbers_given, puts_key}
 use Rattle.ioc_set.specs.SetState.{SetState, now_of}
 use Rattle.ioc_journaled_set.specs.GiveUpLaws.{GivesUp, cancel_entry, holders_in_all}
 use Rattle.ioc_journaled_set.specs.Passes.{Slot, view_in, IsPassIn, IsDealt}
@@ -55,7 +55,7 @@ module _ {R D : Type 0} (k : RecordRules R) where
     -- meanwhile. The pass of the puts with notification knows this and owns their key alone.
     pub record GaveUp (table : TableId) (moment number : ℕ) (desk : DeskView) (before : List (SetState R D)) (kept : View) (desk_then : DeskView) (after : List (SetState R D)) (passes : List Slot) (kept_then : View) : Type 0 where
       pub gives_up : EachGivesUp moment number before after
-      pub call : Call k base desk (cancel_entry moment number) desk_then
+      pub call : HasCalled k base desk (cancel_entry moment number) desk_then
       pub dealt : (i : ℕ) (d : SetState R D) (e : Slot) → i < length after → IsDealt table desk_then.seen (slice_index_or after i d) (slice_index_or passes i e)
       pub holds : (i : ℕ) (d : SetState R D) → i < length after → Holds k (map_of k base desk_then.seen) (now_of (slice_index_or after i d))
       pub keeps : kept_then ≡ holder desk_then.seen puts_key

@@ -1,14 +1,14 @@
 //! Calls that concern puts with notification but no set.
-ghost use Rattle.std.specs.Prelude.{◌≡◌, false, [], None, IfOk, IfErr, OnErr};
+ghost use Rattle.std.specs.Prelude.{◌≡◌, false, [], None, IfOk, IfErr, OnOk, OnErr};
 ghost use Rattle.ioc_notify.specs.Living.{is_live};
-ghost use Rattle.ioc_events.specs.Step.{completes};
-ghost use Rattle.ioc_history.specs.Account.{Call, number_given};
+ghost use Rattle.ioc_history.specs.Account.{HasCalled, number_given};
+ghost use Rattle.ioc_history.specs.Counting.{is_completion};
 ghost use Rattle.ioc_history.specs.Places.{IsNoPlace};
 ghost use Rattle.ioc_journaled_set.specs.Puts.{puts_view, ChangesNothing, WasAsked, WasStale};
 
 use crate::journal_access::JournalAccess;
 use crate::shared_notifications::SharedNotifications;
-use ioc_events::{Entry, Event, KeptAnswers, Reply};
+use ioc_events::{Call, Entry, Event, KeptAnswers, Reply};
 use ioc_history::legal_laws::{lists_leave_sound, live_lasts};
 use ioc_history::{DeskAccount, EventCounts, JournalName, Place, Receipt};
 use ioc_notify::NotifyId;
@@ -25,7 +25,7 @@ impl<K: RecordKind, B: JournalName<K>> SharedNotifications<K, B> {
         self.table.is_live(number)
     }
 
-    // Adds an event to the journal that changes nothing but the moment, and that no device answers.
+    // Adds a call to the journal that changes nothing but the moment, and that no device answers.
     fn keep_told<R: Wait>(
         &mut self,
         access: &JournalAccess<'_, K, B, R>,
@@ -35,9 +35,9 @@ impl<K: RecordKind, B: JournalName<K>> SharedNotifications<K, B> {
     ) -> Receipt<K, B>
         requires nothing { ChangesNothing K.rules B.base self.old.seen entry }
         requires unanswered { entry.answers ≡ [] }
-        requires begins_none { number_given entry.event ≡ None }
-        requires completes_none { completes entry.event entry.reply ≡ false }
-        ensures call { Call K.rules B.base desk.old entry desk.new }
+        requires begins_none { number_given entry.call ≡ None }
+        requires completes_none { is_completion entry.call ≡ false }
+        ensures call { HasCalled K.rules B.base desk.old entry desk.new }
         ensures receipt { result ≡ desk.new.seen }
         ensures kept { self.new ≡ puts_view self.old.live self.old.taken self.old.last desk.new.seen }
     {
@@ -67,8 +67,8 @@ impl<K: RecordKind, B: JournalName<K>> SharedNotifications<K, B> {
         desk: &mut DeskAccount<K, B>,
         number: NotifyId,
         moment: u64,
-    ) -> Result<(Reply, Receipt<K, B>), IocError>
-        ensures asked { IfOk result (λ x. WasAsked K.rules B.base self.old desk.old moment number x.0 self.new desk.new) }
+    ) -> Result<(bool, Receipt<K, B>), IocError>
+        ensures asked { IfOk result (λ x. WasAsked K.rules B.base self.old desk.old moment number self.new desk.new x.0) }
         ensures receipt { IfOk result (λ x. x.1 ≡ desk.new.seen) }
         ensures refused { IfErr result IsNoPlace }
         ensures err { OnErr result ((self.new ≡ self.old) × (desk.new ≡ desk.old)) }
@@ -81,12 +81,11 @@ impl<K: RecordKind, B: JournalName<K>> SharedNotifications<K, B> {
         let is_live = self.table.is_live(number);
         let entry = Entry {
             moment,
-            event: Event::IsLive(number),
+            call: Call::IsLive(number, is_live),
             answers: KeptAnswers::new(Vec::new(access.alloc)),
-            reply: Reply::Live(is_live),
         };
         let receipt = self.keep_told(access, place, desk, entry);
-        Ok((Reply::Live(is_live), receipt))
+        Ok((is_live, receipt))
     }
 
     /// Refuses to cancel a put with notification that isn't live, and adds the refusal to the
@@ -102,10 +101,10 @@ impl<K: RecordKind, B: JournalName<K>> SharedNotifications<K, B> {
         desk: &mut DeskAccount<K, B>,
         number: NotifyId,
         moment: u64,
-    ) -> Result<(Reply, Receipt<K, B>), IocError>
+    ) -> Result<Receipt<K, B>, IocError>
         requires none { is_live number self.old.live ≡ false }
-        ensures stale { IfOk result (λ x. WasStale K.rules B.base self.old desk.old moment number x.0 self.new desk.new) }
-        ensures receipt { IfOk result (λ x. x.1 ≡ desk.new.seen) }
+        ensures stale { OnOk result (WasStale K.rules B.base self.old desk.old moment number self.new desk.new) }
+        ensures receipt { IfOk result (λ receipt. receipt ≡ desk.new.seen) }
         ensures refused { IfErr result IsNoPlace }
         ensures err { OnErr result ((self.new ≡ self.old) × (desk.new ≡ desk.old)) }
     {
@@ -114,13 +113,14 @@ impl<K: RecordKind, B: JournalName<K>> SharedNotifications<K, B> {
         lines_tell_holders();
         self.table.is_table();
         let place = access.journal.reserve(access.rt, access.alloc, desk)?;
+        let event = Event::Cancel {
+            notification: number,
+        };
         let entry = Entry {
             moment,
-            event: Event::Cancel(number),
+            call: Call::Event(event, Reply::Refused(IocError::Stale)),
             answers: KeptAnswers::new(Vec::new(access.alloc)),
-            reply: Reply::Refused(IocError::Stale),
         };
-        let receipt = self.keep_told(access, place, desk, entry);
-        Ok((Reply::Refused(IocError::Stale), receipt))
+        Ok(self.keep_told(access, place, desk, entry))
     }
 }

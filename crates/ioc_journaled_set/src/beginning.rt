@@ -54,11 +54,20 @@ impl<K: RecordKind + Drop, B: SetsName<K, D>, D: Device> JournaledSet<K, B, D> {
             ⊎ IsNoCall K.rules self.old.set (Put put.number put.field put.given) error) }
         ensures err { OnErr result ((self.new ≡ self.old) × (desk.new ≡ desk.old)) }
     {
-        self.test_call(&Event::Put(put.number, put.field, put.given))?;
+        self.test_call(&Event::Put {
+            record: put.number,
+            field: put.field,
+            value: put.given,
+        })?;
         let Some(number) = take_number(access.rt, puts) else {
             return Err(IocError::QueueFull);
         };
-        let event = Event::Notify(put.number, number, put.field, put.given);
+        let event = Event::Notify {
+            record: put.number,
+            notification: number,
+            field: put.field,
+            value: put.given,
+        };
         let begun = self.serve_counted(access, puts, desk, buffers, &event, put.moment);
         if begun.is_err() {
             puts.lock(access.rt).give_back(number);

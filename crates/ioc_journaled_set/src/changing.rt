@@ -17,7 +17,6 @@ use crate::JournaledSet;
 use crate::journal_access::JournalAccess;
 use crate::sets_name::SetsName;
 use ioc_device::Device;
-use ioc_events::Reply;
 use ioc_history::{DeskAccount, JournalName, Receipt};
 use ioc_record::RecordKind;
 use ioc_set::LinkChange;
@@ -30,8 +29,8 @@ use std::sync::Wait;
 /// The result of a link change.
 #[derive(Drop)]
 pub struct Changed<K: RecordKind, B: JournalName<K>> {
-    /// The reply, as in the journal.
-    pub reply: Reply,
+    /// The reply, as in the journal: [`IocError::PutDisabled`] if DISP forbids the change.
+    pub reply: Result<(), IocError>,
     /// The receipt of the call.
     pub receipt: Receipt<K, B>,
     /// The number of records that were moved: if a set was parted, those of the smaller part, and
@@ -116,7 +115,7 @@ fn part_first<K: RecordKind + Drop, B: SetsName<K, D>, D: Device, R: Wait>(
     buffers.ended_everywhere.clear();
     let moved = keep_larger(first, spare);
     Ok(Changed {
-        reply: Reply::Plain,
+        reply: Ok(()),
         receipt,
         moved,
     })
@@ -153,7 +152,7 @@ fn lead_first<K: RecordKind + Drop, B: SetsName<K, D>, D: Device, R: Wait>(
     buffers.ended_everywhere.clear();
     let moved = keep_largest(first, second, spare, before, other);
     Ok(Changed {
-        reply: Reply::Plain,
+        reply: Ok(()),
         receipt,
         moved,
     })
@@ -200,9 +199,9 @@ pub fn change_link<K: RecordKind + Drop, B: SetsName<K, D>, D: Device, R: Wait>(
         first.is_sound();
         second.is_sound();
         buffers.ended_everywhere.clear();
-        let (reply, receipt) = first.refuse_link(access, desk, &change)?;
+        let receipt = first.refuse_link(access, desk, &change)?;
         return Ok(Changed {
-            reply,
+            reply: Err(IocError::PutDisabled),
             receipt,
             moved: 0,
         });

@@ -20,7 +20,6 @@ use crate::sets_name::SetsName;
 use crate::together::giving_up::give_up_all;
 use crate::{JournaledSet, SharedNotifications};
 use ioc_device::Device;
-use ioc_events::Reply;
 use ioc_history::{Cell, DeskAccount, EngineCounts, KeyPass, Receipt};
 use ioc_ledger::TallyShare;
 use ioc_notify::table_laws::lines_tell_holders;
@@ -189,10 +188,10 @@ pub fn cancel_on<K: RecordKind + Drop, B: SetsName<K, D>, D: Device, R: Wait>(
     held: &mut [JournaledSet<K, B, D>],
     number: NotifyId,
     moment: u64,
-) -> Result<Option<(Reply, Receipt<K, B>)>, IocError>
-    ensures gave_up { IfOk result (λ given. IfSome given (λ x. GaveUpOn K.rules B.base moment number desk.old held.old all.old x.0
+) -> Result<Option<Receipt<K, B>>, IocError>
+    ensures gave_up { IfOk result (λ given. IfSome given (λ _. GaveUpOn K.rules B.base moment number desk.old held.old all.old
         desk.new held.new all.new)) }
-    ensures receipt { IfOk result (λ given. IfSome given (λ x. x.1 ≡ desk.new.seen)) }
+    ensures receipt { IfOk result (λ given. IfSome given (λ receipt. receipt ≡ desk.new.seen)) }
     ensures ended { IfOk result (λ given. IfSome given (λ _. buffers.new.ended_everywhere.items ≡ [])) }
     ensures missing { IfOk result (λ given. IfNone given (AreSameSets (sets_of held.old) held.new × (all.new ≡ all.old)
         × (desk.new ≡ desk.old) × HaveNotAll number all.old.live (sets_of held.old))) }
@@ -227,7 +226,7 @@ pub fn cancel_on<K: RecordKind + Drop, B: SetsName<K, D>, D: Device, R: Wait>(
                 holders: total,
             }]);
             all.table.is_table();
-            Ok(Some((Reply::Plain, receipt)))
+            Ok(Some(receipt))
         }
         Ok(None) => Ok(None),
         Err(refused) => Err(refused),

@@ -1,9 +1,8 @@
 //! Sets whose events are added to the journal.
-ghost use Rattle.std.specs.Prelude.{◌≡◌, ℕ, true, None, Some, IfOk, IfErr, OnOk, OnErr, Contains};
+ghost use Rattle.std.specs.Prelude.{◌≡◌, ◌⊎◌, ℕ, true, None, Some, Err, IfOk, IfErr, OnOk, OnErr, Contains};
 ghost use Rattle.std.specs.Option.{IfSome};
 ghost use Rattle.crossbeam_utils.specs.Seq.{cell_view};
-ghost use Rattle.ioc_events.specs.declared.event.Event.TheVariants.{Get};
-ghost use Rattle.ioc_events.specs.Step.{names};
+ghost use Rattle.ioc_events.specs.Step.{names, shown};
 ghost use Rattle.ioc_notify.specs.Living.{is_live};
 ghost use Rattle.ioc_journaled_set.specs.Sent.{AreTicketsFor};
 ghost use Rattle.ioc_history.specs.Covering.{Holds};
@@ -14,7 +13,7 @@ ghost use Rattle.ioc_set.specs.Doing.{is_ordinary};
 ghost use Rattle.ioc_history.specs.Places.{IsNoPlace};
 ghost use Rattle.ioc_set_records.specs.Slots.{devices_of, records_of};
 ghost use Rattle.ioc_set_store.specs.SetStore.{world_of};
-ghost use Rattle.ioc_history.specs.Account.{number_given};
+ghost use Rattle.ioc_history.specs.Account.{number_begun};
 ghost use Rattle.ioc_journaled_set.specs.Puts.{BeginsUnder, HaveEnded};
 ghost use Rattle.ioc_journaled_set.specs.Holding.{is_on_record, IsCounted, IsLent, IsOwner, KeepsDevices, held_view, numbers_of, Serves, Tells, IsNoCall};
 ghost use Rattle.ioc_journaled_set.specs.SameDevice.{IsDeviceOf};
@@ -26,7 +25,7 @@ use crate::running::{Served, run_counted, run_with_answers};
 use crate::sets_name::SetsName;
 use crate::shared_notifications::{SharedNotifications, keep_beside, lock_for};
 use ioc_device::Device;
-use ioc_events::{Entry, Event, KeptAnswers, Reply};
+use ioc_events::{Call, Entry, Event, KeptAnswers};
 use ioc_fields::FieldNo;
 use ioc_history::count_laws::questions_count_nothing;
 use ioc_history::legal_laws::{events_are_held, holding_lasts};
@@ -35,7 +34,7 @@ use ioc_ledger::TallyShare;
 use ioc_names::RecordNo;
 use ioc_notify::NotifyId;
 use ioc_notify::table_laws::lines_tell_holders;
-use ioc_record::RecordKind;
+use ioc_record::{FieldText, RecordKind};
 use ioc_set::{LockSet, sets_stay_without_puts};
 use ioc_set_records::Slot;
 use ioc_set_store::EventBuffers;
@@ -161,8 +160,8 @@ impl<K: RecordKind + Drop, B: SetsName<K, D>, D: Device> JournaledSet<K, B, D> {
             .any(|live| live.number == number)
     }
 
-    // Refuses a get or a put that names no field of its record, and a put to a field that can't be
-    // put. Such a call isn't added to the journal.
+    // Refuses a put that names no field of its record, or one that can't be put. Such a call isn't
+    // added to the journal.
     #[inline(always)]
     pub(crate) fn test_call(&self, event: &Event) -> Result<(), IocError>
         requires there { (n : ℕ) → Contains (names event.now) n → Contains (numbers_of self.now) n }
@@ -220,9 +219,8 @@ impl<K: RecordKind + Drop, B: SetsName<K, D>, D: Device> JournaledSet<K, B, D> {
         let answer = &reply;
         let entry = Entry {
             moment,
-            event: *event,
+            call: Call::Event(*event, *answer),
             answers,
-            reply: *answer,
         };
         let Some(mut pass) = self.pass.take() else {
             unreachable!();
@@ -261,7 +259,7 @@ impl<K: RecordKind + Drop, B: SetsName<K, D>, D: Device> JournaledSet<K, B, D> {
         requires is_call { no_call K.rules (now_of self.old.set) event.now ≡ None }
         ensures serves { IfOk result (λ x. Serves K.rules D.gives B.base self.old desk.old moment event.now x.reply self.new desk.new
             (world_of buffers.new.store)) }
-        ensures begins { OnOk result (IfSome (number_given event.now) (λ number. BeginsUnder K.rules B.base number desk.new.seen)) }
+        ensures begins { OnOk result (IfSome (number_begun event.now) (λ number. BeginsUnder K.rules B.base number desk.new.seen)) }
         ensures receipt { IfOk result (λ x. x.receipt ≡ desk.new.seen) }
         ensures tickets { IfOk result (λ x. AreTicketsFor K.rules B.base desk.new.seen (world_of buffers.new.store).outbox x.tickets) }
         ensures ended { OnOk result (HaveEnded K.rules B.base (world_of buffers.new.store).ended desk.new.seen
@@ -349,26 +347,22 @@ impl<K: RecordKind + Drop, B: SetsName<K, D>, D: Device> JournaledSet<K, B, D> {
         number: RecordNo,
         field: FieldNo,
         moment: u64,
-    ) -> Result<(Reply, Receipt<K, B>), IocError>
+    ) -> Result<(FieldText, Receipt<K, B>), IocError>
         requires there { Contains (numbers_of self.old) number }
-        ensures tells { IfOk result (λ x. Tells K.rules B.base self.old desk.old moment (Get number field) x.0 self.new desk.new) }
+        ensures tells { IfOk result (λ x. Tells K.rules B.base self.old desk.old moment number field x.0 self.new desk.new) }
         ensures receipt { IfOk result (λ x. x.1 ≡ desk.new.seen) }
-        ensures refused { IfErr result (IsNoCall K.rules self.old.set (Get number field)) }
+        ensures refused { IfErr result (λ error. (shown K.rules (now_of self.old.set) number field ≡ Err error) ⊎ IsNoPlace error) }
         ensures err { OnErr result ((self.new ≡ self.old) × (desk.new ≡ desk.old)) }
     {
         holding_lasts::<K>();
         events_are_held::<K>();
         questions_count_nothing::<K>();
-        let event = Event::Get(number, field);
-        self.test_call(&event)?;
+        let text = self.set.get(number, field)?;
         let place = access.journal.reserve(access.rt, access.alloc, desk)?;
-        let reply = self.set.get(number, field);
-        let text = &reply;
         let entry = Entry {
             moment,
-            event,
+            call: Call::Get(number, field, Ok(text)),
             answers: KeptAnswers::new(Vec::new(access.alloc)),
-            reply: *text,
         };
         let Some(mut pass) = self.pass.take() else {
             unreachable!();
@@ -382,6 +376,6 @@ impl<K: RecordKind + Drop, B: SetsName<K, D>, D: Device> JournaledSet<K, B, D> {
             EventCounts::none(),
         );
         self.pass = Some(pass);
-        Ok((*text, appended.receipt))
+        Ok((text, appended.receipt))
     }
 }

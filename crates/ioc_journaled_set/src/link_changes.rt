@@ -1,5 +1,5 @@
 //! Link changes of journaled sets.
-ghost use Rattle.std.specs.Prelude.{◌≡◌, ◌++◌, ◌∷◌, ℕ, List, [], None, true, false, IsSome, IfOk, IfErr, OnErr, Contains};
+ghost use Rattle.std.specs.Prelude.{◌≡◌, ◌++◌, ◌∷◌, ℕ, List, [], None, true, false, IsSome, IfOk, IfErr, OnOk, OnErr, Contains};
 ghost use Rattle.std.specs.FinMap.{get};
 ghost use Rattle.crossbeam_utils.specs.Seq.{cell_view};
 ghost use Rattle.ioc_values.specs.declared.error.IocError.TheVariants.{PutDisabled};
@@ -7,17 +7,17 @@ ghost use Rattle.ioc_dbcommon.specs.Links.{use_of, named_by};
 ghost use Rattle.ioc_record.specs.Values.{stops_put};
 ghost use Rattle.ioc_set_records.specs.Joined.{HasLink};
 ghost use Rattle.ioc_store.specs.World.{common_at};
-ghost use Rattle.ioc_events.specs.declared.reply.Reply.TheVariants.{Refused};
 ghost use Rattle.ioc_history.specs.declared.entry.Note.{Note};
 ghost use Rattle.ioc_history.specs.Key.{Key, Has};
 ghost use Rattle.ioc_history.specs.Line.{holder};
-ghost use Rattle.ioc_history.specs.Account.{IsHolder, AreRecords, BothMayFollow, Call, AddedByBoth, number_given};
+ghost use Rattle.ioc_history.specs.Account.{IsHolder, AreRecords, BothMayFollow, HasCalled, AddedByBoth, number_given};
 ghost use Rattle.ioc_history.specs.CountLaws.{counts_nothing};
 ghost use Rattle.ioc_history.specs.Places.{IsNoPlace};
 ghost use Rattle.ioc_set.specs.SetState.{now_of, folded};
 ghost use Rattle.ioc_set.specs.Linking.{MayBeOne};
 ghost use Rattle.ioc_set_store.specs.SetStore.{world_of};
-ghost use Rattle.ioc_journaled_set.specs.LinkChanges.{plain_entry, keys_of, IsKnown, Refuses, Parts, Leads};
+ghost use Rattle.ioc_journaled_set.specs.Puts.{told_at};
+ghost use Rattle.ioc_journaled_set.specs.LinkChanges.{keys_of, IsKnown, Refuses, Parts, Leads};
 
 use crate::counts::{divide_share, take_share};
 use crate::journal_access::JournalAccess;
@@ -25,7 +25,7 @@ use crate::journaled_set::JournaledSet;
 use crate::link_laws::{held_sets_may_be_one, led_sets_are_held, parted_sets_are_held};
 use crate::sets_name::SetsName;
 use ioc_device::Device;
-use ioc_events::{Entry, Event, KeptAnswers, Reply};
+use ioc_events::{Call, Entry, KeptAnswers};
 use ioc_history::count_laws::questions_count_nothing;
 use ioc_history::legal_laws::{holding_lasts, lists_leave_sound};
 use ioc_history::{
@@ -54,32 +54,31 @@ fn keep_change<P: Keys, K: RecordKind, B: JournalName<K>, D, R: Wait>(
     one: &mut KeyPass,
     other: &mut KeyPass,
     after: LinkedSets<'_, K, D>,
-    event: Event,
+    made: Call,
     moment: u64,
 ) -> Receipt<K, B>
     requires table { (one.old.table_id ≡ B.table) × (other.old.table_id ≡ B.table) }
     requires one { IsHolder (cell_view one.old) × AreRecords (cell_view one.old).owns }
     requires other { IsHolder (cell_view other.old) × AreRecords (cell_view other.old).owns }
-    requires nothing { (counts_nothing event ≡ true) × (number_given event ≡ None) }
+    requires nothing { (counts_nothing made ≡ true) × (number_given made ≡ None) }
     requires keys { (P.keys ≡ keys_of after.stay.now) × (P.rest ≡ keys_of after.rest.now) }
     requires within { (key : Key) → Has key (P.keys ++ P.rest) → Has key ((cell_view one.old).owns ++ (cell_view other.old).owns) }
     requires apart { (key : Key) → Has key P.keys → Has key P.rest → ⊥ }
     requires follows { BothMayFollow K.rules B.base (cell_view one.old).seen (cell_view one.old).owns (cell_view other.old).seen
-        (cell_view other.old).owns (plain_entry moment event) }
-    ensures call { Call K.rules B.base desk.old (plain_entry moment event) desk.new }
+        (cell_view other.old).owns (told_at moment made) }
+    ensures call { HasCalled K.rules B.base desk.old (told_at moment made) desk.new }
     ensures receipt { result ≡ desk.new.seen }
     ensures one { (one.new.table_id ≡ B.table) × (cell_view one.new ≡ holder desk.new.seen P.keys) }
     ensures other { (other.new.table_id ≡ B.table) × (cell_view other.new ≡ holder desk.new.seen P.rest) }
     ensures added { (log : List Note)
         × AddedByBoth K.rules B.base (cell_view one.old).seen (cell_view one.old).owns (cell_view other.old).seen
-        (cell_view other.old).owns (plain_entry moment event) log desk.new.seen }
+        (cell_view other.old).owns (told_at moment made) log desk.new.seen }
 {
     questions_count_nothing::<K>();
     let entry = Entry {
         moment,
-        event,
+        call: made,
         answers: KeptAnswers::new(Vec::new(access.alloc)),
-        reply: Reply::Plain,
     };
     access
         .journal
@@ -154,9 +153,9 @@ impl<K: RecordKind + Drop, B: SetsName<K, D>, D: Device> JournaledSet<K, B, D> {
             stay: &self.set,
             rest: &rest,
         };
-        let event = Event::Link(number, field, chosen);
+        let made = Call::Link(number, field, chosen, Ok(()));
         let receipt = keep_change::<Brand, K, B, D, R>(
-            access, place, desk, &mut pass, &mut other, after, event, moment,
+            access, place, desk, &mut pass, &mut other, after, made, moment,
         );
         self.pass = Some(pass);
         self.share = Some(share);
@@ -266,7 +265,7 @@ impl<K: RecordKind + Drop, B: SetsName<K, D>, D: Device> JournaledSet<K, B, D> {
             stay: &self.set,
             rest: &rest,
         };
-        let event = Event::Link(number, field, chosen);
+        let made = Call::Link(number, field, chosen, Ok(()));
         let receipt = keep_change::<Brand, K, B, D, R>(
             access,
             place,
@@ -274,7 +273,7 @@ impl<K: RecordKind + Drop, B: SetsName<K, D>, D: Device> JournaledSet<K, B, D> {
             &mut pass,
             &mut beside,
             after,
-            event,
+            made,
             moment,
         );
         self.pass = Some(pass);
@@ -299,14 +298,13 @@ impl<K: RecordKind + Drop, B: SetsName<K, D>, D: Device> JournaledSet<K, B, D> {
         access: &JournalAccess<'_, K, B, R>,
         desk: &mut DeskAccount<K, B>,
         change: &LinkChange,
-    ) -> Result<(Reply, Receipt<K, B>), IocError>
+    ) -> Result<Receipt<K, B>, IocError>
         requires field { HasLink K.rules self.old.set.records change.now.number change.now.field }
         requires forbidden { stops_put (common_at K.rules (now_of self.old.set) change.now.number) change.now.field ≡ true }
         requires known { (t : ℕ) → Contains (named_by (use_of change.now.link)) t → IsKnown K.rules B.base t }
-        ensures refuses { IfOk result (λ x. Refuses K.rules B.base self.old desk.old change.now.moment change.now.number change.now.field
+        ensures refuses { OnOk result (Refuses K.rules B.base self.old desk.old change.now.moment change.now.number change.now.field
             change.now.link self.new desk.new) }
-        ensures reply { IfOk result (λ x. x.0 ≡ Refused PutDisabled) }
-        ensures receipt { IfOk result (λ x. x.1 ≡ desk.new.seen) }
+        ensures receipt { IfOk result (λ receipt. receipt ≡ desk.new.seen) }
         ensures refused { IfErr result IsNoPlace }
         ensures err { OnErr result ((self.new ≡ self.old) × (desk.new ≡ desk.old)) }
     {
@@ -314,12 +312,11 @@ impl<K: RecordKind + Drop, B: SetsName<K, D>, D: Device> JournaledSet<K, B, D> {
         lists_leave_sound::<K>();
         questions_count_nothing::<K>();
         let place = access.journal.reserve(access.rt, access.alloc, desk)?;
-        let event = Event::Link(change.number, change.field, change.link.get());
+        let refused = Err(IocError::PutDisabled);
         let entry = Entry {
             moment: change.moment,
-            event,
+            call: Call::Link(change.number, change.field, change.link.get(), refused),
             answers: KeptAnswers::new(Vec::new(access.alloc)),
-            reply: Reply::Refused(IocError::PutDisabled),
         };
         let Some(mut pass) = self.pass.take() else {
             unreachable!();
@@ -333,6 +330,6 @@ impl<K: RecordKind + Drop, B: SetsName<K, D>, D: Device> JournaledSet<K, B, D> {
             EventCounts::none(),
         );
         self.pass = Some(pass);
-        Ok((Reply::Refused(IocError::PutDisabled), appended.receipt))
+        Ok(appended.receipt)
     }
 }

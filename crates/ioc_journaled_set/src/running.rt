@@ -1,15 +1,15 @@
 //! Performs the event of a call on a set.
-ghost use Rattle.std.specs.Prelude.{◌≡◌, ◌≤◌, true, length, IfOk, IfErr, OnOk, OnErr};
+ghost use Rattle.std.specs.Prelude.{◌≡◌, ◌≤◌, length, IfOk, IfErr, OnOk, OnErr};
 ghost use Rattle.ioc_store.specs.Given.{answers_of};
-ghost use Rattle.ioc_events.specs.SetReply.{told_by};
+ghost use Rattle.ioc_events.specs.declared.event.Call.TheVariants as call;
 ghost use Rattle.ioc_history.specs.Places.{IsNoPlace};
 ghost use Rattle.ioc_set_store.specs.SetStore.{world_of};
-ghost use Rattle.ioc_set.specs.Doing.{Does, is_done_on_sets};
+ghost use Rattle.ioc_set.specs.Doing.{Does};
 ghost use Rattle.ioc_set.specs.Sound.{IsSound};
 
 use crate::journal_access::JournalAccess;
 use ioc_device::Device;
-use ioc_events::{Entry, Event, KeptAnswers, Reply, SetReply};
+use ioc_events::{Call, Entry, Event, KeptAnswers, Reply};
 use ioc_history::{DeskAccount, JournalName, Place, Receipt, RequestTickets};
 use ioc_ledger::Tickets;
 use ioc_notify::Live;
@@ -44,35 +44,6 @@ pub struct Served<K: RecordKind, B: JournalName<K>> {
     pub tickets: Tickets<RequestTickets<K, B>>,
 }
 
-// Performs an event on a set. If allocation fails, nothing has changed.
-#[inline(always)]
-fn do_on_set<K: RecordKind + Drop, D: Device>(
-    set: &mut LockSet<K, D>,
-    buffers: &mut EventBuffers<K, D>,
-    alloc: Global,
-    event: &Event,
-    moment: u64,
-) -> Result<SetReply, AllocError>
-    requires done_here { is_done_on_sets event.now ≡ true }
-    ensures ok { IfOk result (λ told. Does K.rules D.gives set.old moment event.now (told_by told) set.new (world_of buffers.new.store)) }
-    ensures err { OnErr result (set.new ≡ set.old) }
-{
-    match event {
-        Event::Process(number) => set.request(buffers, alloc, *number, moment),
-        Event::Put(number, field, given) => {
-            set.put(buffers, alloc, *number, *field, *given, moment)
-        }
-        Event::Complete(number, wait, finished) => {
-            set.complete(buffers, alloc, *number, *wait, *finished, moment)
-        }
-        Event::Notify(target, number, field, given) => {
-            set.put_notify(buffers, alloc, *number, *target, *field, *given, moment)
-        }
-        Event::Cancel(number) => set.cancel(buffers, alloc, *number, moment),
-        _ => unreachable!(),
-    }
-}
-
 /// Performs an event on a set, and returns the reply and the answers of devices, in memory of their
 /// own size.
 ///
@@ -87,7 +58,6 @@ pub(crate) fn run_with_answers<K: RecordKind + Drop, D: Device>(
     event: &Event,
     moment: u64,
 ) -> Result<(Reply, KeptAnswers), AllocError>
-    requires done_here { is_done_on_sets event.now ≡ true }
     ensures ok { IfOk result (λ done. Does K.rules D.gives set.old moment event.now done.0 set.new (world_of buffers.new.store)) }
     ensures answers { IfOk result (λ done. done.1 ≡ answers_of (world_of buffers.new.store).calls) }
     ensures err { OnErr result (set.new ≡ set.old) }
@@ -96,10 +66,10 @@ pub(crate) fn run_with_answers<K: RecordKind + Drop, D: Device>(
     // one.
     let mut spare = mem::replace(&mut buffers.journal_spare, Vec::new(alloc));
     spare.reserve(256)?;
-    let told = do_on_set(set, buffers, alloc, event, moment)?;
+    let reply = set.do_event(buffers, alloc, event, moment)?;
     let answers = kept_answers(&buffers.store.event.calls, &mut spare, alloc);
     buffers.journal_spare = spare;
-    Ok((told.reply(), answers))
+    Ok((reply, answers))
 }
 
 /// Reserves a place in the journal for an event of a desk, and performs the event on a set. The
@@ -117,16 +87,9 @@ pub(crate) fn run_counted<K: RecordKind + Drop, B: JournalName<K>, D: Device, R:
     event: &Event,
     moment: u64,
 ) -> Result<Ran<K, B>, IocError>
-    requires done_here { is_done_on_sets event.now ≡ true }
     ensures does { IfOk result (λ ran. Does K.rules D.gives set.old moment event.now ran.reply set.new (world_of buffers.new.store)) }
     ensures entry { IfOk result (λ ran. ran.entry
-        ≡ record {
-          moment = moment;
-          event = event.now;
-          answers = answers_of (world_of buffers.new.store).calls;
-          reply
-              = ran.reply;
-        }) }
+        ≡ record { moment = moment; call = call.Event event.now ran.reply; answers = answers_of (world_of buffers.new.store).calls }) }
     ensures before { IfOk result (λ ran. ran.before.items ≡ set.old.live) }
     ensures few { OnOk result (length set.new.live ≤ 256) }
     ensures sound { OnOk result (IsSound K.rules set.new) }
@@ -149,14 +112,13 @@ pub(crate) fn run_counted<K: RecordKind + Drop, B: JournalName<K>, D: Device, R:
     let answer = &reply;
     let entry = Entry {
         moment,
-        event: *event,
+        call: Call::Event(*event, *answer),
         answers,
-        reply: *answer,
     };
     Ok(Ran {
         place,
         before,
-        reply: *answer,
+        reply,
         entry,
     })
 }

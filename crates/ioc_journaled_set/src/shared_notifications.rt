@@ -10,7 +10,7 @@ ghost use Rattle.ioc_history.specs.declared.entry.Note.{Note};
 ghost use Rattle.ioc_history.specs.Counting.{BothMaySend, BothMayCount, IsBacked, IsGivenBack, once_in};
 ghost use Rattle.ioc_journaled_set.specs.Sent.{AreTicketsFor};
 ghost use Rattle.ioc_history.specs.Line.{holder};
-ghost use Rattle.ioc_history.specs.Account.{IsHolder, AreRecords, BothMayFollow, Call, AddedByBoth, number_given, puts_key};
+ghost use Rattle.ioc_history.specs.Account.{IsHolder, AreRecords, BothMayFollow, HasCalled, AddedByBoth, number_begun, number_given, puts_key};
 ghost use Rattle.ioc_set_store.specs.SetStore.{world_of};
 ghost use Rattle.ioc_journaled_set.specs.Puts.{puts_view, MayTake, NoneMayTake, CanBegin, NoneMayBegin, NoneIsAbove, AreTaken, AreCounted, AreMoved};
 ghost use Rattle.ioc_journaled_set.specs.PutPlaces.{without};
@@ -18,7 +18,7 @@ ghost use Rattle.ioc_journaled_set.specs.PutPlaces.{without};
 use crate::journal_access::JournalAccess;
 use crate::put_places::PutPlaces;
 use crate::running::Ran;
-use ioc_events::Event;
+use ioc_events::{Call, Event};
 use ioc_history::legal_laws::{lists_leave_sound, live_lasts, one_may_begin};
 use ioc_history::{Appended, DeskAccount, EventCounts, JournalName, KeyPass};
 use ioc_notify::table_laws::{lines_tell_holders, tables_are_short};
@@ -185,25 +185,38 @@ pub(crate) fn lock_for<'a, K: RecordKind, B: JournalName<K>, R: Wait>(
     puts: &'a Mutex<SharedNotifications<K, B>>,
     event: &Event,
 ) -> MutexGuard<'a, SharedNotifications<K, B>>
-    ensures can { IfSome (number_given event.now) (λ number. CanBegin (mutex_guard_value result) number) }
+    ensures can { IfSome (number_begun event.now) (λ number. CanBegin (mutex_guard_value result) number) }
 {
     match event {
-        Event::Notify(_, number, _, _) => lock_taken(rt, puts, *number),
+        Event::Notify { notification, .. } => lock_taken(rt, puts, *notification),
         _ => puts.lock(rt),
     }
 }
 
-// Gives a place to the put with notification that an event begins, if it begins one.
-fn place_begun(places: &mut PutPlaces, event: &Event, live: &NotificationCounts)
-    requires room { IfSome (number_given event.now) (λ _. length live.now.live + length places.old.taken < 256) }
-    requires new { IfSome (number_given event.now) (λ n. Contains places.old.begun n → ⊥) }
-    ensures taken { places.new.taken ≡ places.old.taken }
-    ensures own { IfSome (number_given event.now) (λ n. Contains places.new.begun n) }
-    ensures kept { (n : ℕ) → is_live n live.now.live ≡ true → Contains places.old.begun n → Contains places.new.begun n }
-    ensures within { (n : ℕ) → Contains places.new.begun n → (number_given event.now ≡ Some n) ⊎ Contains places.old.begun n }
+// Returns the number of the put with notification that an event begins, if it is one.
+fn number_begun(event: &Event) -> Option<NotifyId>
+    ensures { result ≡ number_begun event.now }
 {
-    if let Event::Notify(_, number, _, _) = event {
-        places.begin(*number, live);
+    match event {
+        Event::Notify { notification, .. } => Some(*notification),
+        _ => None,
+    }
+}
+
+// Gives a place to the put with notification that a call begins, if it begins one.
+fn place_begun(places: &mut PutPlaces, made: &Call, live: &NotificationCounts)
+    requires room { IfSome (number_given made.now) (λ _. length live.now.live + length places.old.taken < 256) }
+    requires new { IfSome (number_given made.now) (λ n. Contains places.old.begun n → ⊥) }
+    ensures taken { places.new.taken ≡ places.old.taken }
+    ensures own { IfSome (number_given made.now) (λ n. Contains places.new.begun n) }
+    ensures kept { (n : ℕ) → is_live n live.now.live ≡ true → Contains places.old.begun n → Contains places.new.begun n }
+    ensures within { (n : ℕ) → Contains places.new.begun n → (number_given made.now ≡ Some n) ⊎ Contains places.old.begun n }
+{
+    let Call::Event(event, _) = made else {
+        return;
+    };
+    if let Some(number) = number_begun(event) {
+        places.begin(number, live);
     }
 }
 
@@ -261,7 +274,7 @@ pub(crate) fn keep_beside<K: RecordKind, B: JournalName<K>, D, R: Wait>(
     requires table { pass.old.table_id ≡ B.table }
     requires set { IsHolder (cell_view pass.old) × AreRecords (cell_view pass.old).owns }
     requires follows { BothMayFollow K.rules B.base (cell_view pass.old).seen (cell_view pass.old).owns all.old.seen puts_key ran.entry }
-    requires begins { IfSome (number_given ran.entry.event) (λ number. CanBegin all.old number) }
+    requires begins { IfSome (number_given ran.entry.call) (λ number. CanBegin all.old number) }
     requires sent { BothMaySend K.rules B.base (cell_view pass.old).seen (cell_view pass.old).owns all.old.seen puts_key ran.entry
         counts.sent }
     requires outbox { counts.sent ≡ length (once_in (world_of buffers.old.store).outbox) }
@@ -272,7 +285,7 @@ pub(crate) fn keep_beside<K: RecordKind, B: JournalName<K>, D, R: Wait>(
         all.old.seen puts_key ran.entry log longer →
         AreMoved K.rules B.base log longer ran.before.items set.now.live }
     requires few { length set.now.live ≤ 256 }
-    ensures call { Call K.rules B.base desk.old ran.entry desk.new }
+    ensures call { HasCalled K.rules B.base desk.old ran.entry desk.new }
     ensures receipt { result.receipt ≡ desk.new.seen }
     ensures tickets { AreTicketsFor K.rules B.base desk.new.seen (world_of buffers.old.store).outbox result.tickets }
     ensures share { IsGivenBack counts.share counts.after result.share }
@@ -298,7 +311,7 @@ pub(crate) fn keep_beside<K: RecordKind, B: JournalName<K>, D, R: Wait>(
         reply: _,
         entry,
     } = ran;
-    place_begun(&mut all.places, &entry.event, &all.table);
+    place_begun(&mut all.places, &entry.call, &all.table);
     let appended = access
         .journal
         .append_two::<Brand, R>(access.rt, place, pass, &mut all.pass, desk, entry, counts);

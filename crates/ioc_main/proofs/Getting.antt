@@ -4,17 +4,15 @@ use Rattle.ioc_fields.specs.declared.field_no.FieldNo.{FieldNo}
 use Rattle.ioc_fields.specs.Table.{row_of}
 use Rattle.ioc_record.specs.RecordRules.{RecordRules}
 use Rattle.ioc_record.specs.Values.{text_of}
-use Rattle.ioc_events.specs.declared.reply.Reply.TheVariants.{Shown}
-use Rattle.ioc_events.specs.declared.event.Event.TheVariants.{Get}
-use Rattle.ioc_store.specs.Given.{Answers}
+use Rattle.std.specs.Prelude.{Ok}
 use Rattle.ioc_store.specs.World.{World, Has, at}
 use Rattle.ioc_main.specs.Coming.{Stands}
-use Rattle.ioc_events.specs.Step.{stepped, done_alone, done_there}
+use Rattle.ioc_events.specs.Step.{shown}
 
-pub shown_there : {R : Type 0} (k : RecordRules R) (answers : Answers) (w : World R) (n : ℕ) (field : FieldNo)
-    → Has w n → IsSome (row_of (k.record_type (at k w n)) field) → (stepped k answers w (Get n field)).reply ≡ Shown (text_of k (at k w n) field)
-unfolding stepped done_alone done_there
-shown_there k answers w n field has is = rw (has, is) refl
+pub shown_there : {R : Type 0} (k : RecordRules R) (w : World R) (n : ℕ) (field : FieldNo)
+    → Has w n → IsSome (row_of (k.record_type (at k w n)) field) → shown k w n field ≡ Ok (text_of k (at k w n) field)
+unfolding shown
+shown_there k w n field has is = rw (has, is) refl
 
 -- A reply without further text.
 pub said_shortly : (reply more said : List ℕ) → reply ≡ said → more ≡ [] → reply ++ more ≡ said

@@ -1,4 +1,3 @@
-pub mod Asking
 pub mod Beginning
 pub mod Bracing
 pub mod ComingLemmas

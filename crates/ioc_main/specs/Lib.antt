@@ -1,4 +1,3 @@
-pub mod Arguments
 pub mod Coming
 pub mod Doing
 pub mod Faults

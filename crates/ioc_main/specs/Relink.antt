@@ -15,14 +15,13 @@ use Rattle.ioc_fields.specs.Table.{kind_of}
 use Rattle.ioc_record.specs.RecordRules.{RecordRules}
 use Rattle.ioc_record.specs.Values.{stops_put}
 use Rattle.ioc_store.specs.World.{at, common_at}
-use Rattle.ioc_events.specs.declared.event.Event.TheVariants.{Link as Link-event}
-use Rattle.ioc_sim.specs.Machine.{Machine, MachineReply, done, refused}
+use Rattle.ioc_sim.specs.Machine.{Machine, MachineReply, linked, refused}
 use Rattle.ioc_sim.specs.Leads.{field_of_link}
 
 module _ {R : Type 0} (k : RecordRules R) (names : NameTable) where
   -- The field gets this link, if the text is a valid one.
   abbrev pub linked_to : Machine R → ℕ → FieldNo → Result Link IocError → MachineReply R
-  linked_to m n field (Ok link) = done k m (Link-event n field (field_of_link k names m.owner m.world n link))
+  linked_to m n field (Ok link) = linked k m n field (field_of_link k names m.owner m.world n link)
   linked_to m n field (Err e) = refused m e
 
   -- A link field is changed, unless DISP forbids it.

@@ -15,15 +15,15 @@ use Rattle.ioc_device.specs.declared.Answer.{Answer}
 use Rattle.ioc_device.specs.declared.Answer.TheVariants.{Done as Answer-done, Fault as Answer-fault, Later as Answer-later}
 use Rattle.ioc_record.specs.RecordRules.{RecordRules}
 use Rattle.ioc_store.specs.World.{World, at}
-use Rattle.ioc_events.specs.declared.event.Event.TheVariants.{Get as Get-event, Process as Process-event, Put as Put-event, Complete as Complete-event}
-use Rattle.ioc_events.specs.Step.{stepped}
+use Rattle.ioc_events.specs.declared.event.Event.TheVariants.{Process as Process-event, Put as Put-event, Complete as Complete-event}
+use Rattle.ioc_events.specs.Step.{shown}
 use Rattle.ioc_main.specs.Script.{Command, Silent, Bad, Process, Put, Get, At, Next-done, Next-fault, Next-later, Done, Fault, Event, Interrupt, Scan, Link, Tally as Tally-command, command_of, is_silent, Notify, Cancel, Sets}
-use Rattle.ioc_main.specs.Replies.{reply_words, count_words, tally_words}
+use Rattle.ioc_main.specs.Replies.{reply_words, text_words, count_words, tally_words}
 use Rattle.ioc_scan.specs.declared.list_name.ListName.TheVariants.{Period as Period-list}
 use Rattle.ioc_main.specs.Sets.{sets_line}
-use Rattle.ioc_sim.specs.Scanner.{event_list, interrupt_list}
+use Rattle.ioc_scanner.specs.Asked.{event_list, interrupt_list}
 use Rattle.ioc_main.specs.Relink.{were_linked}
-use Rattle.ioc_sim.specs.Machine.{Machine, MachineReply, Counted, answers_from, refused, queued_at, queued_on, at_moment, most_served, done, scanned, serve, with_none_ended, notified, given_up}
+use Rattle.ioc_sim.specs.Machine.{Machine, MachineReply, Counted, refused, queued_at, queued_on, at_moment, most_served, done, scanned, serve, with_none_ended, notified, given_up}
 
 -- A line for each put with notification that has ended.
 abbrev pub ended_lines : List ℕ → List ℕ
@@ -77,10 +77,10 @@ module _ {R : Type 0} (k : RecordRules R) (names : NameTable) where
   processed m (Ok number) = done k m (Process-event number)
   processed m (Err e) = refused m e
 
-  -- A get, which changes nothing.
-  abbrev pub got : Machine R → Result (ℕ × FieldNo) IocError → MachineReply R
-  got m (Ok c) = record { machine = m; reply = (stepped k (answers_from m.queued) m.world (Get-event c.0 c.1)).reply }
-  got m (Err e) = refused m e
+  -- The text of a field. A get changes nothing.
+  abbrev pub got : Machine R → Result (ℕ × FieldNo) IocError → Result (List ℕ) IocError
+  got m (Ok c) = shown k m.world c.0 c.1
+  got m (Err e) = Err e
 
   abbrev pub were_put : Machine R → List ℕ → Result (ℕ × FieldNo) IocError → MachineReply R
   were_put m text (Ok c) = done k m (Put-event c.0 c.1 (input_of text))
@@ -105,7 +105,7 @@ module _ {R : Type 0} (k : RecordRules R) (names : NameTable) where
   carried_out m Bad = record { machine = m; said = codes "bad\n" }
   carried_out m (Process name) = replied (processed m (record_named names name))
   carried_out m (Put name field text) = replied (were_put m text (channel m.world name field))
-  carried_out m (Get name field) = replied (got m (channel m.world name field))
+  carried_out m (Get name field) = record { machine = m; said = text_words (got m (channel m.world name field)) ++ 10 ∷ [] }
   carried_out m (At moment) = record { machine = at_moment moment m; said = codes "ok\n" }
   carried_out m (Next-done name text) = replied (answers_next m (Answer-done (given_value text)) (record_named names name))
   carried_out m (Next-fault name) = replied (answers_next m Answer-fault (record_named names name))

@@ -1,70 +1,11 @@
 //! The faults of a run.
 ghost use Rattle.std.specs.Prelude.{◌≡◌};
-ghost use Rattle.std.specs.IoError.{error_kind};
-ghost use Rattle.ioc_main.specs.Faults.{reason_of, reason_text, is_out_of_memory};
+ghost use Rattle.ioc_main.specs.Faults.{whole_run};
 
+use ioc_program::{FileRole, Reason, Stage, Stop};
 use ioc_values::{DbFault, LoadError};
 use std::alloc::AllocError;
-use std::{fmt, io};
-
-/// Why the operating system refused to open, read or write a file.
-#[derive(Clone, Copy, Debug, PartialEq, Eq)]
-pub enum Reason {
-    NotFound,
-    PermissionDenied,
-    NotADirectory,
-    IsADirectory,
-    StorageFull,
-    /// Nobody reads what is written.
-    BrokenPipe,
-    Other,
-}
-
-impl Reason {
-    /// The reason that an error tells.
-    pub fn of(error: &io::Error) -> Self
-        ensures { result ≡ reason_of (error_kind error.now) }
-    {
-        match error.kind() {
-            io::ErrorKind::NotFound => Reason::NotFound,
-            io::ErrorKind::PermissionDenied => Reason::PermissionDenied,
-            io::ErrorKind::NotADirectory => Reason::NotADirectory,
-            io::ErrorKind::IsADirectory => Reason::IsADirectory,
-            io::ErrorKind::StorageFull => Reason::StorageFull,
-            io::ErrorKind::BrokenPipe => Reason::BrokenPipe,
-            _ => Reason::Other,
-        }
-    }
-}
-
-/// The words of the operating system.
-#[tactic(auto, unfolding(crate::specs::Faults::reason_text))]
-impl fmt::Display for Reason {
-    ghost use Rattle.std.specs.Prelude.{Some};
-
-    ghost output = { λ reason. Some (reason_text reason) };
-
-    fn fmt<W: fmt::Write>(&self, f: &mut fmt::Formatter<W>) -> fmt::Result {
-        f.write_str(match self {
-            Reason::NotFound => "No such file or directory",
-            Reason::PermissionDenied => "Permission denied",
-            Reason::NotADirectory => "Not a directory",
-            Reason::IsADirectory => "Is a directory",
-            Reason::StorageFull => "No space left on device",
-            Reason::BrokenPipe => "Broken pipe",
-            Reason::Other => "Input/output error",
-        })
-    }
-}
-
-/// When memory ran out.
-#[derive(Clone, Copy, Debug, PartialEq, Eq)]
-pub enum Stage {
-    /// Before the first line of the script.
-    Loading,
-    /// In a line of the script.
-    Line,
-}
+use std::io;
 
 /// Why a run stopped before the end of its script.
 #[derive(Clone, Copy, Debug, PartialEq, Eq)]
@@ -152,7 +93,7 @@ impl From<ScriptFault> for RunFault {
 
 /// Converts a failed allocation of a load.
 impl From<AllocError> for RunFault {
-    ghost use Rattle.ioc_main.specs.declared.fault.Stage.TheVariants.{Loading};
+    ghost use Rattle.ioc_program.specs.declared.ending.Stage.TheVariants.{Loading};
     ghost use Rattle.ioc_main.specs.declared.fault.RunFault.TheVariants.{Memory};
 
     ghost from_gives = { λ _ fault. fault ≡ Memory Loading };
@@ -176,9 +117,26 @@ impl From<LoadError> for RunFault {
     }
 }
 
-/// Returns whether allocation failed. No other error is reported as such.
-pub fn is_out_of_memory(error: &io::Error) -> bool
-    ensures { result ≡ is_out_of_memory (error_kind error.now) }
+/// Returns the result of a run of the script with this path whose output was then flushed. The
+/// replies before a fault are written all the same, and the first fault counts.
+pub fn whole_run(
+    ran: Result<(), RunFault>,
+    flushed: io::Result<()>,
+    script: String,
+) -> Result<(), Stop>
+    ensures { result ≡ whole_run ran flushed script }
 {
-    matches!(error.kind(), io::ErrorKind::OutOfMemory)
+    match ran {
+        Ok(()) => match flushed {
+            Ok(()) => Ok(()),
+            Err(e) => Err(Stop::Write(Reason::of(&e))),
+        },
+        Err(RunFault::Write) => match flushed {
+            Ok(()) => Err(Stop::Write(Reason::Other)),
+            Err(e) => Err(Stop::Write(Reason::of(&e))),
+        },
+        Err(RunFault::BadDb(fault)) => Err(Stop::BadDb(fault)),
+        Err(RunFault::Read(reason)) => Err(Stop::Unreadable(FileRole::Script, script, reason)),
+        Err(RunFault::Memory(stage)) => Err(Stop::Memory(stage)),
+    }
 }

@@ -4,10 +4,8 @@
 #![tactic(auto)]
 
 mod answering;
-mod arguments;
 mod command;
 mod counts;
-mod ending;
 mod fault;
 mod fields;
 mod lines;
@@ -19,14 +17,12 @@ mod session;
 mod sets;
 mod writing;
 
-pub use arguments::Arguments;
 pub use command::{Command, words_of_put};
 pub use counts::{count_line, ended_line, notify_line, tally_line};
-pub use ending::{Ending, FileRole, Stop, Stream, UsageFault, unreadable, whole_run};
-pub use fault::{LineFault, Reason, RunFault, ScriptFault, Stage, WriteFault};
+pub use fault::{LineFault, RunFault, ScriptFault, WriteFault, whole_run};
 pub use lines::run_script;
 pub use parts::{cut_at, split_before};
 pub use replay::Replay;
-pub use reply_line::{LineReply, say_effect, say_refusal, say_reply};
+pub use reply_line::{LineReply, say_refusal, say_reply};
 pub use runs::run;
 pub use session::{PendingOutput, Session};

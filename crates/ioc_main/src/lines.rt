@@ -6,9 +6,10 @@ ghost use Rattle.ioc_main.specs.Coming.{still, to_come, AnswersLine, StopsAtLine
 ghost use Rattle.ioc_main.specs.Written.{Writes, WritesPart, StopsLine, StopsScript};
 
 use crate::cut_at;
-use crate::fault::{LineFault, Reason, ScriptFault, WriteFault};
+use crate::fault::{LineFault, ScriptFault, WriteFault};
 use crate::session::{PendingOutput, Session};
 use crate::writing::write_text;
+use ioc_program::Reason;
 use ioc_values::ByteBuffer;
 use std::alloc::Global;
 use std::io::{Read, Write};

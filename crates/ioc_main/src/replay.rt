@@ -9,20 +9,21 @@ ghost use Rattle.ioc_sim.specs.SeenMachine.{machine_of};
 ghost use Rattle.ioc_main.specs.Script.{Process, Put, Next-done, Done, Scan, Event, Interrupt, Link};
 ghost use Rattle.ioc_main.specs.Script.{At, Tally as Tally-command, Notify, Cancel, Sets};
 ghost use Rattle.ioc_main.specs.Replay.{given_value, record_named, channel, got, answers_next, were_completed, replied, counted};
-ghost use Rattle.ioc_main.specs.Replies.{reply_words};
+ghost use Rattle.ioc_main.specs.Replies.{text_words};
 ghost use Rattle.ioc_main.specs.Doing.{effect_on, FoundOrRefused, Does};
 
 use crate::fields::{channel, record, relink};
 use crate::session::Replies;
 use crate::sets::say_sets;
-use crate::{count_line, say_effect, say_refusal, say_reply, tally_line};
+use crate::{count_line, say_refusal, say_reply, tally_line};
 use ioc_device::Answer;
 use ioc_fields::FieldNo;
 use ioc_names::Names;
 use ioc_notify::NotifyId;
 use ioc_record::add_text;
 use ioc_scan::{ListName, Period};
-use ioc_sim::{Machine, event_list, interrupt_list};
+use ioc_scanner::{event_list, interrupt_list};
+use ioc_sim::Machine;
 use ioc_store::Store;
 use ioc_values::{Finished, Input, IocError, Text, Value};
 use rec_types::Record;
@@ -100,7 +101,7 @@ impl Replay {
         let Some(number) = or_refuse(record(&self.names, name), replies) else {
             return Ok(());
         };
-        say_effect(replies, &self.machine.process(number)?);
+        say_reply(replies, &self.machine.process(number)?);
         Ok(())
     }
 
@@ -112,8 +113,8 @@ impl Replay {
         requires { length replies.old + 256 ≤ 4096 }
         ensures { replies.new
             ≡ replies.old
-            ++ reply_words (got record_rules self.now.names (machine_of self.now.machine)
-            (channel record_rules self.now.names (machine_of self.now.machine).world record_name.now field_name.now)).reply
+            ++ text_words (got record_rules self.now.names (machine_of self.now.machine)
+            (channel record_rules self.now.names (machine_of self.now.machine).world record_name.now field_name.now))
             ++ 10 ∷ [] }
     {
         match channel(&self.names, &self.machine, record_name, field_name) {
@@ -138,7 +139,7 @@ impl Replay {
         let Some((number, field)) = or_refuse(found, replies) else {
             return Ok(());
         };
-        say_effect(replies, &self.machine.put(number, field, text)?);
+        say_reply(replies, &self.machine.put(number, field, text)?);
         Ok(())
     }
 

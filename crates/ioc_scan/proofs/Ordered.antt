@@ -11,7 +11,7 @@ use Rattle.std.proofs.lemmas.Cmp.{ranked, int_ranked, tied_itself}
 use Rattle.std.proofs.lemmas.Map.Lookups.{CmpEqualImpliesEq, exact_bytes, exact_signed, exact_unsigned}
 use Rattle.ioc_scan.specs.declared.list_name.ListName.{ListName}
 use Rattle.ioc_scan.specs.declared.list_name.ListName.TheVariants.{Period, Event, Interrupt, Start}
-use Rattle.ioc_scan.specs.declared.period.Period.TheVariants.{TenSeconds, FiveSeconds, TwoSeconds, OneSecond, HalfSecond, FifthSecond, TenthSecond}
+use Rattle.ioc_scan.specs.declared.period.Period.{Period as Every}
 use Rattle.ioc_scan.specs.declared.position.Position.{Position}
 use Rattle.ioc_scan.specs.contracts.period.PeriodOrd.TheImpl as period
 use Rattle.ioc_scan.specs.contracts.list_name.ListNameOrd.TheImpl as list_name
@@ -22,15 +22,11 @@ use Rattle.ioc_scan.specs.contracts.position.PositionOrd.TheImpl.Laws as positio
 abbrev list_cmp : ListName → ListName → Ordering
 list_cmp = list_name.ghosts.cmp
 
+abbrev every : ℕ → Every
+every ticks = record { ticks = ticks }
+
 exact_period : CmpEqualImpliesEq period.ghosts.cmp
-exact_period TenSeconds TenSeconds e = refl
-exact_period FiveSeconds FiveSeconds e = refl
-exact_period TwoSeconds TwoSeconds e = refl
-exact_period OneSecond OneSecond e = refl
-exact_period HalfSecond HalfSecond e = refl
-exact_period FifthSecond FifthSecond e = refl
-exact_period TenthSecond TenthSecond e = refl
-exact_period a b e = cc
+exact_period a b e = ap every (exact_unsigned a.ticks b.ticks e)
 
 exact_list : CmpEqualImpliesEq list_cmp
 exact_list (Period a) (Period b) e = ap Period (exact_period a b e)

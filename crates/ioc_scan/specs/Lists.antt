@@ -12,10 +12,4 @@ abbrev pub list_of : Scan → List ℕ → Option (List ℕ) → Option ListName
 list_of scan.Passive event device = None
 list_of scan.Event event device = option_map (λ word. Event word) (event_word event)
 list_of scan.IoIntr event device = option_map (λ text. Interrupt (first_word text)) device
-list_of scan.TenSeconds event device = option_map (λ period. Period period) (period_of scan.TenSeconds)
-list_of scan.FiveSeconds event device = option_map (λ period. Period period) (period_of scan.FiveSeconds)
-list_of scan.TwoSeconds event device = option_map (λ period. Period period) (period_of scan.TwoSeconds)
-list_of scan.OneSecond event device = option_map (λ period. Period period) (period_of scan.OneSecond)
-list_of scan.HalfSecond event device = option_map (λ period. Period period) (period_of scan.HalfSecond)
-list_of scan.FifthSecond event device = option_map (λ period. Period period) (period_of scan.FifthSecond)
-list_of scan.TenthSecond event device = option_map (λ period. Period period) (period_of scan.TenthSecond)
+list_of choice event device = option_map (λ period. Period period) (period_of choice)

@@ -6,20 +6,23 @@ use Rattle.ioc_values.specs.Trim.{is_blank, trimmed}
 use Rattle.ioc_menus.specs.declared.scan.Scan.{Scan}
 use Rattle.ioc_menus.specs.declared.scan.Scan.TheVariants as scan
 use Rattle.ioc_scan.specs.declared.period.Period.{Period}
-use Rattle.ioc_scan.specs.declared.period.Period.TheVariants.{TenSeconds, FiveSeconds, TwoSeconds, OneSecond, HalfSecond, FifthSecond, TenthSecond}
+
+-- A period of this many tenths of a second.
+abbrev pub every : ℕ → Option Period
+every ticks = Some (record { ticks = ticks })
 
 -- The period of a choice of SCAN.
 abbrev pub period_of : Scan → Option Period
 period_of scan.Passive = None
 period_of scan.Event = None
 period_of scan.IoIntr = None
-period_of scan.TenSeconds = Some TenSeconds
-period_of scan.FiveSeconds = Some FiveSeconds
-period_of scan.TwoSeconds = Some TwoSeconds
-period_of scan.OneSecond = Some OneSecond
-period_of scan.HalfSecond = Some HalfSecond
-period_of scan.FifthSecond = Some FifthSecond
-period_of scan.TenthSecond = Some TenthSecond
+period_of scan.TenSeconds = every 100
+period_of scan.FiveSeconds = every 50
+period_of scan.TwoSeconds = every 20
+period_of scan.OneSecond = every 10
+period_of scan.HalfSecond = every 5
+period_of scan.FifthSecond = every 2
+period_of scan.TenthSecond = every 1
 
 -- The name of an event, without the spaces at its ends; an empty name and 0 name no event.
 abbrev pub event_word : List ℕ → Option (List ℕ)

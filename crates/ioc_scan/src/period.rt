@@ -4,30 +4,26 @@ ghost use Rattle.ioc_scan.specs.Places.{period_of};
 
 use ioc_menus::Scan;
 
-/// A scan period, as a choice of SCAN.
+/// A scan period.
 #[derive(Clone, Copy, PartialEq, Eq, PartialOrd, Ord, Debug)]
-pub enum Period {
-    TenSeconds,
-    FiveSeconds,
-    TwoSeconds,
-    OneSecond,
-    HalfSecond,
-    FifthSecond,
-    TenthSecond,
+pub struct Period {
+    /// Its length in tenths of a second, the shortest period.
+    pub ticks: u16,
 }
 
 /// Returns the period of a choice of SCAN, or `None` for Passive, Event and I/O Intr.
 pub fn period_of(scan: Scan) -> Option<Period>
     ensures { result ≡ period_of scan }
 {
-    Some(match scan {
+    let ticks = match scan {
         Scan::Passive | Scan::Event | Scan::IoIntr => return None,
-        Scan::TenSeconds => Period::TenSeconds,
-        Scan::FiveSeconds => Period::FiveSeconds,
-        Scan::TwoSeconds => Period::TwoSeconds,
-        Scan::OneSecond => Period::OneSecond,
-        Scan::HalfSecond => Period::HalfSecond,
-        Scan::FifthSecond => Period::FifthSecond,
-        Scan::TenthSecond => Period::TenthSecond,
-    })
+        Scan::TenSeconds => 100,
+        Scan::FiveSeconds => 50,
+        Scan::TwoSeconds => 20,
+        Scan::OneSecond => 10,
+        Scan::HalfSecond => 5,
+        Scan::FifthSecond => 2,
+        Scan::TenthSecond => 1,
+    };
+    Some(Period { ticks })
 }

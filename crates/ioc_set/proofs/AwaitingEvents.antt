@@ -1,7 +1,7 @@
 -- After an event, as many records await a completion as before, plus one for each call that is
 -- answered later.
-use Rattle.std.proofs.Common.{◌≡◌, ℕ, ◌+◌, Bool, true, false, List, [], ◌++◌, length, drop, Option, Some, None as Nothing_, Ok, Err, IsSome, IsTrue, inl, inr, refl, sym, ap, subst, ◌∙◌, append-nil, arith}
-use Rattle.std.specs.Prelude.{◌⊎◌, ◌↔◌, ◌&&◌, Result}
+use Rattle.std.proofs.Common.{◌≡◌, ℕ, ◌+◌, Bool, true, false, List, [], ◌++◌, length, drop, Option, Some, None as Nothing_, Ok, Err, IsSome, IsTrue, refl, sym, ap, subst, ◌∙◌, append-nil, arith}
+use Rattle.std.specs.Prelude.{◌↔◌, ◌&&◌, Result}
 use Rattle.std.proofs.Math.Seq.{drop-append_seam}
 use Rattle.ioc_values.specs.declared.error.IocError.{IocError}
 use Rattle.ioc_values.specs.declared.input.Input.{Input}
@@ -15,21 +15,20 @@ use Rattle.ioc_record.specs.Values.{put_field, put_tested, put_once_tested, put_
 use Rattle.ioc_record.specs.Laws.{IsLawful}
 use Rattle.ioc_store.specs.declared.call.Call.{Call}
 use Rattle.ioc_store.specs.World.{World, Has, at, common_at, put, changed}
-use Rattle.ioc_store.specs.Worlds.{has-put}
 use Rattle.ioc_store.specs.StepFrames.{stored_with}
 use Rattle.ioc_store.specs.Given.{Answers, later_among}
-use Rattle.ioc_store.specs.Scanning.{device_of, rescanned}
+use Rattle.ioc_store.specs.Scanning.{rescanned}
 use Rattle.ioc_process.specs.Keeping.{keeps_all}
 use Rattle.ioc_process.specs.Rules.{IsSettled}
 use Rattle.ioc_events.specs.declared.event.Event.{Event}
-use Rattle.ioc_events.specs.declared.event.Event.TheVariants.{Complete, Link}
+use Rattle.ioc_events.specs.declared.event.Event.TheVariants.{Complete}
 use Rattle.ioc_events.specs.declared.reply.Reply.{Reply}
 use Rattle.ioc_events.specs.declared.reply.Reply.TheVariants.{Refused}
 use Rattle.ioc_events.specs.Starting.{is_ready, taken_and_stored}
-use Rattle.ioc_events.specs.Step.{awaits, is_pending, is_link_change, lets_start, calls_since}
-use Rattle.ioc_events.specs.StepRules.{Does, Step, by_itself, then_others, Starts, to_be_processed, at_once_told, StartsAll, no_more, next_starts, no_such_record, no_such_field, shows_field, processes_record, refuses_value, stores_alone, stores_while_active, stores_and_processes, not_awaited, completes_record, leads_to_no_record, no_link_field, keeps_its_link, takes_link, refuses_notified_value, no_place, waits_its_turn, starts_now, not_live, cancels, tells_if_live}
+use Rattle.ioc_events.specs.Step.{awaits, is_pending, calls_since}
+use Rattle.ioc_events.specs.StepRules.{Does, Step, by_itself, then_others, Starts, to_be_processed, at_once_told, StartsAll, no_more, next_starts, no_such_record, processes_record, refuses_value, stores_alone, stores_while_active, stores_and_processes, not_awaited, completes_record, refuses_notified_value, no_place, waits_its_turn, starts_now, not_live, cancels}
 use Rattle.ioc_set.specs.Awaiting.{awaited, one_if_completes}
-use Rattle.ioc_set.proofs.AwaitingAlike.{Alike, alike-on, alike-admitted, alike-queued, alike-unqueued, count-put, put-calls, alike-changed, alike-stored, alike-notification, alike-rescanned, alike-rewired, alike-notified, alike-cancelled}
+use Rattle.ioc_set.proofs.AwaitingAlike.{Alike, alike-on, alike-admitted, alike-queued, alike-unqueued, alike-changed, alike-stored, alike-notification, alike-rescanned, alike-notified, alike-cancelled}
 use Rattle.ioc_set.proofs.AwaitingCounts.{Fine, fine-alike}
 use Rattle.ioc_set.proofs.AwaitingRequests.{requested-fine, resumes-fine}
 
@@ -37,11 +36,6 @@ use Rattle.ioc_set.proofs.AwaitingRequests.{requested-fine, resumes-fine}
 refused-none : (event : Event) (e : IocError) → one_if_completes event (Refused e) ≡ 0
 refused-none (Complete s number x) e = refl
 refused-none event e = refl
-
--- Nothing starts after a link change.
-link-alone : (event : Event) (reply : Reply) → is_link_change event ≡ true → lets_start event reply ≡ true → ⊥
-link-alone (Link s field link) reply is starts = cc
-link-alone event reply is starts = cc
 
 -- An idle record awaits nothing, if one that awaits a completion is active.
 none-awaited : (b : Bool) (o : Option ℕ) → (IsTrue b ↔ IsSome o) → b ≡ false → o ≡ Nothing_
@@ -96,14 +90,6 @@ module _ {R : Type 0} (k : RecordRules R) (lawful : IsLawful k) (answers : Answe
     calls : v.calls ≡ w.calls ++ made
     count : awaited k v.records + completed ≡ awaited k w.records + later_among made
 
-  -- Setting a link requests nothing and keeps the count.
-  link-counts : (w v : World R) (s : ℕ) (r : R) → Has w s → (k.common r).pending ≡ (common_at k w s).pending → Alike k (put w s r) v → Counts 0 w v
-  link-counts w v s r there pending alike = record {
-    made = [];
-    calls = alike.calls ∙ put-calls k w s r ∙ sym (append-nil w.calls);
-    count = omega (arith, alike.count, count-put k lawful w s r there pending);
-  }
-
   module _ (w0 : World R) (settled : IsSettled k w0) where
     abbrev Fine_ : ℕ → World R → Type 0
     Fine_ = Fine k lawful w0 settled.closed
@@ -140,58 +126,40 @@ module _ {R : Type 0} (k : RecordRules R) (lawful : IsLawful k) (answers : Answe
 
     -- Lemmas about an event by itself.
 
-    -- The event leaves a world in which it may continue, or it is a link change.
+    -- The event leaves a world in which it may continue.
     abbrev Leaves : Event → Reply → World R → Type 0
-    Leaves event reply v = Fine_ (one_if_completes event reply) v ⊎ ((is_link_change event ≡ true) × Counts (one_if_completes event reply) w0 v)
+    Leaves event reply v = Fine_ (one_if_completes event reply) v
 
     nothing-done : (event : Event) (e : IocError) → Leaves event (Refused e) w0
-    nothing-done event e = inl (subst (λ (n : ℕ). Fine_ n w0) (sym (refused-none event e)) first-fine)
+    nothing-done event e = (subst (λ (n : ℕ). Fine_ n w0) (sym (refused-none event e)) first-fine)
 
     put-leaves : {w' : World R} (s : ℕ) (field : FieldNo) (given : Input) (r : R) → Has w0 s → put_field k (at k w0 s) field given ≡ Ok r → w' ≡ rescanned k (put w0 s r) s field → Fine_ 0 w'
     put-leaves {w'} s field given r there is stored = on (stored-alike w0 w' s field given r there is stored) first-fine
 
   does-leaves : {w w' : World R} {event : Event} {reply : Reply} {requests : Requests} → Does k answers w event w' reply requests → (settled : IsSettled k w) → Leaves w settled event reply w'
   does-leaves (no_such_record {w} {event} _) settled = nothing-done w settled event _
-  does-leaves (no_such_field {w} _ _) settled = inl (first-fine w settled)
-  does-leaves (shows_field {w} _ _) settled = inl (first-fine w settled)
-  does-leaves (processes_record {w} there r _) settled = inl (requested-fine k lawful answers w settled.closed r there (first-fine w settled))
-  does-leaves (refuses_value {w} _ _) settled = inl (first-fine w settled)
-  does-leaves (stores_alone {w} {w'} {s} {field} {given} {r} there is stored _) settled = inl (put-leaves w settled s field given r there is stored)
+  does-leaves (processes_record {w} there r _) settled = (requested-fine k lawful answers w settled.closed r there (first-fine w settled))
+  does-leaves (refuses_value {w} _ _) settled = (first-fine w settled)
+  does-leaves (stores_alone {w} {w'} {s} {field} {given} {r} there is stored _) settled = (put-leaves w settled s field given r there is stored)
   does-leaves (stores_while_active {w} {w'} {s} {field} {given} {r} there is stored _ _) settled =
       let first = put-leaves w settled s field given r there is stored in
-      inl (on w settled (alike-changed k lawful w' s (with_reprocess_mark true) (first.keeps.has s there) (λ c. (refl, refl)) (λ c. refl) (λ c. refl)) first)
+      (on w settled (alike-changed k lawful w' s (with_reprocess_mark true) (first.keeps.has s there) (λ c. (refl, refl)) (λ c. refl) (λ c. refl)) first)
   does-leaves (stores_and_processes {w} {w'} {w''} {s} {field} {given} {r} there is stored _ _ q _) settled =
       let first = put-leaves w settled s field given r there is stored in
-      inl (requested-fine k lawful answers w settled.closed q there (on w settled (marked-alike w' s (first.keeps.has s there)) first))
-  does-leaves (not_awaited {w} _ _) settled = inl (first-fine w settled)
+      (requested-fine k lawful answers w settled.closed q there (on w settled (marked-alike w' s (first.keeps.has s there)) first))
+  does-leaves (not_awaited {w} _ _) settled = (first-fine w settled)
   does-leaves (completes_record {w} {w'} {s} {number} there awaits r) settled =
-      inl (resumes-fine k lawful answers w settled.closed r there (is-awaited (common_at k w s).pending number awaits) (first-fine w settled))
-  does-leaves (leads_to_no_record {w} _ _) settled = inl (first-fine w settled)
-  does-leaves (no_link_field {w} _ _ _) settled = inl (first-fine w settled)
-  does-leaves (keeps_its_link {w} _ _ _ _) settled = inl (first-fine w settled)
-  does-leaves (takes_link {w} {s} {field} {link} there led _ _) settled =
-      let r = k.with_link (at k w s) field link in
-      inr (refl, link-counts w _ s r there (lawful.link_set_pending _ field link) (alike-rewired k lawful (device_of k (at k w s)) (put w s r) s (has-put k w s s r there)))
-  does-leaves (refuses_notified_value {w} _ _) settled = inl (first-fine w settled)
-  does-leaves (no_place {w} _ _ _) settled = inl (first-fine w settled)
-  does-leaves (waits_its_turn {w} {s} {number} {field} {given} {v} _ _ _ _) settled = inl (on w settled (alike-on k (alike-admitted k number w) (alike-queued k (record { number = number; target = s; field = field; value = v }) _)) (first-fine w settled))
-  does-leaves (starts_now {w} {w'} {s} {number} there _ _ _ one) settled = inl (starts-fine w settled one there (on w settled (alike-admitted k number w) (first-fine w settled)))
-  does-leaves (not_live {w} _) settled = inl (first-fine w settled)
-  does-leaves (cancels {w} {number} _) settled = inl (on w settled (alike-cancelled k lawful number w) (first-fine w settled))
-  does-leaves (tells_if_live {w}) settled = inl (first-fine w settled)
-
-  does-counts : {w w' : World R} (event : Event) (reply : Reply) (settled : IsSettled k w) → Leaves w settled event reply w' → Counts (one_if_completes event reply) w w'
-  does-counts {w} event reply settled (inl fine) = fine-counts w settled fine
-  does-counts event reply settled (inr (is, counts)) = counts
-
-  others-count : {w w' w'' : World R} (event : Event) (reply : Reply) {rest : Requests} (settled : IsSettled k w) → Leaves w settled event reply w' → lets_start event reply ≡ true → StartsAll k answers w' w'' rest
-      → Counts (one_if_completes event reply) w w''
-  others-count {w} event reply settled (inl fine) starts others = fine-counts w settled (starts_all-fine w settled others fine)
-  others-count event reply settled (inr (is, counts)) starts others = absurd (link-alone event reply is starts)
+      (resumes-fine k lawful answers w settled.closed r there (is-awaited (common_at k w s).pending number awaits) (first-fine w settled))
+  does-leaves (refuses_notified_value {w} _ _) settled = (first-fine w settled)
+  does-leaves (no_place {w} _ _ _) settled = (first-fine w settled)
+  does-leaves (waits_its_turn {w} {s} {number} {field} {given} {v} _ _ _ _) settled = (on w settled (alike-on k (alike-admitted k number w) (alike-queued k (record { number = number; target = s; field = field; value = v }) _)) (first-fine w settled))
+  does-leaves (starts_now {w} {w'} {s} {number} there _ _ _ one) settled = (starts-fine w settled one there (on w settled (alike-admitted k number w) (first-fine w settled)))
+  does-leaves (not_live {w} _) settled = (first-fine w settled)
+  does-leaves (cancels {w} {number} _) settled = (on w settled (alike-cancelled k lawful number w) (first-fine w settled))
 
   step-counts : {w w' : World R} {event : Event} {reply : Reply} {requests : Requests} → Step k answers w event w' reply requests → IsSettled k w → Counts (one_if_completes event reply) w w'
-  step-counts (by_itself {event = event} {reply = reply} does _) settled = does-counts event reply settled (does-leaves does settled)
-  step-counts (then_others {event = event} {reply = reply} does starts others) settled = others-count event reply settled (does-leaves does settled) starts others
+  step-counts (by_itself {event = event} {reply = reply} does _) settled = fine-counts _ settled (does-leaves does settled)
+  step-counts (then_others {event = event} {reply = reply} does starts others) settled = fine-counts _ settled (starts_all-fine _ settled others (does-leaves does settled))
 
   since : (w v : World R) (made : List Call) → v.calls ≡ w.calls ++ made → calls_since w v ≡ made
   since w v made is = ap (λ (xs : List Call). drop (length w.calls) xs) is ∙ drop-append_seam w.calls made

@@ -13,7 +13,7 @@ use Rattle.ioc_record.specs.RecordRules.{RecordRules, targets}
 use Rattle.ioc_set_records.specs.Contents.{Records, Devices, record_at}
 use Rattle.ioc_set_records.specs.Joined.{links_of, IsPart}
 use Rattle.ioc_store.specs.World.{World, Has, IsClosed, at, common_at}
-use Rattle.ioc_events.specs.StepRules.{at_the_end}
+use Rattle.ioc_events.specs.EventReplay.{at_the_end}
 use Rattle.ioc_events.specs.Holding.{IsCounted, IsHeld, by_a_record}
 use Rattle.ioc_set.specs.Awaiting.{awaited}
 use Rattle.ioc_set.specs.SetState.{SetState, now_of}

@@ -3,7 +3,7 @@ use Rattle.std.proofs.Common.{◌≡◌, List, sym, ap, ◌∙◌}
 use Rattle.ioc_ledger.specs.declared.tally.Tally.{Tally}
 use Rattle.ioc_record.specs.RecordRules.{RecordRules}
 use Rattle.ioc_set_records.specs.Contents.{Contents}
-use Rattle.ioc_events.specs.declared.event.Entry.{Entry}
+use Rattle.ioc_events.specs.declared.event.EventEntry.{EventEntry}
 use Rattle.ioc_set_store.specs.Puts.{Puts}
 use Rattle.ioc_set_store.specs.Recounting.{AreLive}
 use Rattle.ioc_set.specs.Awaiting.{awaited}
@@ -26,7 +26,7 @@ module _ {R D : Type 0} (k : RecordRules R) where
     pub counts : CountsAddUp t (awaited k c.records)
 
   -- So it is after its history is cleared, and then each record equals its base.
-  pub folded_is_cleared : (h : SetState R D) (c : Contents R D) (p : Puts) (b t : Tally) (entries : List Entry) → held_by c p b t entries ≡ folded h
+  pub folded_is_cleared : (h : SetState R D) (c : Contents R D) (p : Puts) (b t : Tally) (entries : List EventEntry) → held_by c p b t entries ≡ folded h
       → IsSound k (held_by c p b t entries) → AreLive k c.records p.waiting p.live → HistoryIsCleared h c p t
   folded_is_cleared h c p b t entries is sound live = record {
     records = ap (λ (x : SetState R D). x.records) is;
@@ -39,5 +39,5 @@ module _ {R D : Type 0} (k : RecordRules R) where
     counts = sound.counts;
   }
 
-  pub folded_base : (h : SetState R D) (c : Contents R D) (p : Puts) (b t : Tally) (entries : List Entry) → held_by c p b t entries ≡ folded h → c.base ≡ c.records
+  pub folded_base : (h : SetState R D) (c : Contents R D) (p : Puts) (b t : Tally) (entries : List EventEntry) → held_by c p b t entries ≡ folded h → c.base ≡ c.records
   folded_base h c p b t entries is = ap (λ (x : SetState R D). x.base.records) is ∙ sym (ap (λ (x : SetState R D). x.records) is)

@@ -20,12 +20,13 @@ use Rattle.ioc_process.specs.Answering.{listed-accords}
 use Rattle.ioc_process.specs.Running.{CanRun}
 use Rattle.ioc_process.specs.Runs.{ForAnswers}
 use Rattle.ioc_events.specs.declared.event.Event.{Event}
-use Rattle.ioc_events.specs.declared.event.Entry.{Entry}
+use Rattle.ioc_events.specs.declared.event.EventEntry.{EventEntry}
 use Rattle.ioc_events.specs.declared.reply.Reply.{Reply}
 use Rattle.ioc_events.specs.declared.reply.Reply.TheVariants.{Notify as Notify-reply}
 use Rattle.ioc_events.specs.Events.{Tells}
 use Rattle.ioc_events.specs.Step.{Stepped, stepped}
-use Rattle.ioc_events.specs.StepRules.{Step, Replay, at_the_end, and_then}
+use Rattle.ioc_events.specs.StepRules.{Step}
+use Rattle.ioc_events.specs.EventReplay.{Replay, at_the_end, and_then}
 use Rattle.ioc_events.specs.Holding.{IsCounted}
 use Rattle.ioc_set_store.specs.declared.set_store.SetStore.{SetStore}
 use Rattle.ioc_set_store.specs.SetStore.{world_of, given_of}
@@ -56,7 +57,7 @@ at_moment moment w = refl
 
 module _ {R D : Type 0} (k : RecordRules R) (gives : D → Ask → ℕ → Answer → D → Type 0)
     (allowed : (answers : Answers) (w : World R) (event : Event) → Step k answers w event (stepped k answers w event).world (stepped k answers w event).reply (stepped k answers w event).requests)
-    (stays : (w after : World R) (entry : Entry) → Replay k w (entry ∷ []) after → IsCounted k w → w.live ≡ [] → ((n : ℕ) → entry.reply ≢ Notify-reply n) → (after.live ≡ []) × (after.waiting ≡ []))
+    (stays : (w after : World R) (entry : EventEntry) → Replay k w (entry ∷ []) after → IsCounted k w → w.live ≡ [] → ((n : ℕ) → entry.reply ≢ Notify-reply n) → (after.live ≡ []) × (after.waiting ≡ []))
     (begin : (answers : Answers) (w after : World R) (event : Event) (reply : Reply) (requests : Requests) (n : ℕ) → Step k answers w event after reply requests → reply ≡ Notify-reply n → is_put_with_notification event ≡ true)
     (before : Contents R D) (was : Puts) (t counts : Tally) (s s' : SetStore R D) (event : Event) (reply : Reply) (moment : ℕ) (answers : List Answer)
     (start : world_of s ≡ begun_at moment (resting before.records was.live was.waiting))
@@ -85,7 +86,7 @@ module _ {R D : Type 0} (k : RecordRules R) (gives : D → Ask → ℕ → Answe
 
   none : (is_put_with_notification event ≡ true → ⊥) → IsCounted k w → was.live ≡ [] → (done.world.live ≡ []) × (done.world.waiting ≡ [])
   none other counted nobody =
-      let entry : Entry = record { moment = moment; event = event; answers = answers; reply = reply } in
+      let entry : EventEntry = record { moment = moment; event = event; answers = answers; reply = reply } in
       stays w done.world entry (and_then step used at_the_end) counted nobody
       (λ n is. other (begin (listed answers) w0 done.world event reply done.requests n step is))
 

@@ -13,35 +13,14 @@ use Rattle.ioc_set_records.specs.Contents.{Devices, Contents, RecordsAreLikeThei
 use Rattle.ioc_store.specs.World.{World, Keeps, at, begun, begun_at}
 use Rattle.ioc_store.specs.Given.{DevicesWork}
 use Rattle.ioc_events.specs.declared.event.Event.{Event}
-use Rattle.ioc_events.specs.declared.event.Event.TheVariants.{Get, Process, Put, Complete, Link, Notify, Cancel, IsLive}
-use Rattle.ioc_events.specs.declared.event.Entry.{Entry}
-use Rattle.ioc_events.specs.declared.event.SetEvent.{SetEvent}
-use Rattle.ioc_events.specs.SetReply.{event_by}
-use Rattle.ioc_events.specs.Step.{is_link_change}
+use Rattle.ioc_events.specs.declared.event.EventEntry.{EventEntry}
 use Rattle.ioc_set_store.specs.declared.set_store.SetStore.{SetStore}
 use Rattle.ioc_set_store.specs.SetStore.{world_of}
 use Rattle.ioc_set.specs.SetState.{SetState, now_of, folded, done_by, held_after}
 use Rattle.ioc_set_store.specs.Resting.{resting}
 use Rattle.ioc_set.specs.Sound.{IsSound, TellsOf}
 use Rattle.ioc_set_store.specs.Puts.{Puts}
-use Rattle.ioc_set.specs.Doing.{is_done_on_sets, held_by, with_place, with_kept, Did, Does}
-
-no_link : (event : Event) → is_done_on_sets event ≡ true → is_link_change event ≡ false
-no_link (Get s field) is = refl
-no_link (Process s) is = refl
-no_link (Put s field given) is = refl
-no_link (Complete s n x) is = refl
-no_link (Link s field link) is = absurd (let z : false ≡ true = is in cc)
-no_link (Notify s n field given) is = refl
-no_link (Cancel n) is = refl
-no_link (IsLive n) is = refl
-
-pub set_events_are_done : (event : SetEvent) → is_done_on_sets (event_by event) ≡ true
-set_events_are_done (SetEvent.Process s) = refl
-set_events_are_done (SetEvent.Put s field given) = refl
-set_events_are_done (SetEvent.Complete s n x) = refl
-set_events_are_done (SetEvent.Notify s n field given) = refl
-set_events_are_done (SetEvent.Cancel n) = refl
+use Rattle.ioc_set.specs.Doing.{held_by, with_place, with_kept, Did, Does}
 
 below_full : (n : ℕ) → (n == 64) ≡ false → n ≤ 64 → n < 64
 below_full n e l = grind (arith, nat_tests)
@@ -67,7 +46,7 @@ module _ {R D : Type 0} where
   now_kept h h' is = ap (λ (z : SetState R D). now_of z) is ∙ placed_now (length h.history == 64) h
 
   -- The state of a set doesn't depend on the reserved room.
-  pub same_held : (c : Contents R D) (p q : Puts) (b t : Tally) (entries : List Entry) → q.live ≡ p.live → q.waiting ≡ p.waiting → q.base_live ≡ p.base_live → q.base_waiting ≡ p.base_waiting
+  pub same_held : (c : Contents R D) (p q : Puts) (b t : Tally) (entries : List EventEntry) → q.live ≡ p.live → q.waiting ≡ p.waiting → q.base_live ≡ p.base_live → q.base_waiting ≡ p.base_waiting
       → held_by c q b t entries ≡ held_by c p b t entries
   same_held c p q b t entries live waiting base_live base_waiting = λ i. record {
     records = c.records;
@@ -98,9 +77,9 @@ module _ {R D : Type 0} where
         let same : record { records = w.records; devices = after.devices; base = before.base } ≡ after = λ i. record { records = sym rs i; devices = after.devices; base = sym base i } in
         subst (λ (c : Contents R D). RecordsAreLikeTheirBase k c) same (alike before after live waiting moment w keeps rs base like)
 
-    module _ (gives : D → Ask → ℕ → Answer → D → Type 0) (h : SetState R D) (before : Contents R D) (was : Puts) (b t : Tally) (entries : List Entry) (held : held_by before was b t entries ≡ with_place h)
-        (entry : Entry) (after : Contents R D) (is : Puts) (counts : Tally) (store : SetStore R D) (did : Did k gives before was t entry after is counts store) (done_here : is_done_on_sets entry.event ≡ true)
-        (grown : List Entry) (grows : grown ≡ entries ++ entry ∷ []) where
+    module _ (gives : D → Ask → ℕ → Answer → D → Type 0) (h : SetState R D) (before : Contents R D) (was : Puts) (b t : Tally) (entries : List EventEntry) (held : held_by before was b t entries ≡ with_place h)
+        (entry : EventEntry) (after : Contents R D) (is : Puts) (counts : Tally) (store : SetStore R D) (did : Did k gives before was t entry after is counts store)
+        (grown : List EventEntry) (grows : grown ≡ entries ++ entry ∷ []) where
       same_after : held_by after is b counts grown ≡ held_after k (held_by before was b t entries) entry after.devices
       same_after = λ i. record {
         records = did.records i;
@@ -113,9 +92,9 @@ module _ {R D : Type 0} where
       }
 
       tells : TellsOf k (held_by before was b t entries) entry
-      tells = record { no_link_change = no_link entry.event done_here; reply = did.reply; answers = did.answers }
+      tells = record { reply = did.reply; answers = did.answers }
 
-      pub sound_then : ((h : SetState R D) (entry : Entry) (devices : Devices D) → IsSound k h → length h.history < 64 → TellsOf k h entry → IsSound k (held_after k h entry devices))
+      pub sound_then : ((h : SetState R D) (entry : EventEntry) (devices : Devices D) → IsSound k h → length h.history < 64 → TellsOf k h entry → IsSound k (held_after k h entry devices))
           → ((h : SetState R D) → IsSound k h → IsSound k (folded h)) → IsSound k h → IsSound k (held_by after is b counts grown)
       sound_then event fold sound =
           let full = length h.history == 64 in

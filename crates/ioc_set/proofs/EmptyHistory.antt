@@ -3,7 +3,7 @@ use Rattle.std.proofs.Common.{◌≡◌, List, [], refl, sym, ap, subst, ◌∙�
 use Rattle.ioc_ledger.specs.declared.tally.Tally.{Tally}
 use Rattle.ioc_record.specs.RecordRules.{RecordRules}
 use Rattle.ioc_set_records.specs.Contents.{Records, Contents, AreLike, RecordsAreLikeTheirBase, record_at}
-use Rattle.ioc_events.specs.declared.event.Entry.{Entry}
+use Rattle.ioc_events.specs.declared.event.EventEntry.{EventEntry}
 use Rattle.ioc_set_store.specs.Puts.{Puts, no_puts, AreNone, HasBegun, begun_with}
 use Rattle.ioc_set.specs.SetState.{folded}
 use Rattle.ioc_set.specs.Doing.{held_by}
@@ -28,7 +28,7 @@ were_none p is = (
 
 module _ {R D : Type 0} where
   -- A set on which none is live and whose history is cleared.
-  pub empty_history_without_puts : (c : Contents R D) (p : Puts) (b t : Tally) (entries : List Entry) → WereNone p → c.base ≡ c.records → b ≡ t → entries ≡ [] → held_by c p b t entries ≡ with_empty_history c.records c.devices [] [] t
+  pub empty_history_without_puts : (c : Contents R D) (p : Puts) (b t : Tally) (entries : List EventEntry) → WereNone p → c.base ≡ c.records → b ≡ t → entries ≡ [] → held_by c p b t entries ≡ with_empty_history c.records c.devices [] [] t
   empty_history_without_puts c p b t entries none base same forgotten = λ i. record {
     records = c.records;
     devices = c.devices;
@@ -39,7 +39,7 @@ module _ {R D : Type 0} where
     history = forgotten i;
   }
 
-  pub empty_history : (c : Contents R D) (p : Puts) (b t : Tally) (entries : List Entry) → HasBegun p → c.base ≡ c.records → b ≡ t → entries ≡ [] → held_by c p b t entries ≡ with_empty_history c.records c.devices p.live p.waiting t
+  pub empty_history : (c : Contents R D) (p : Puts) (b t : Tally) (entries : List EventEntry) → HasBegun p → c.base ≡ c.records → b ≡ t → entries ≡ [] → held_by c p b t entries ≡ with_empty_history c.records c.devices p.live p.waiting t
   empty_history c p b t entries begun base same forgotten = λ i. record {
     records = c.records;
     devices = c.devices;
@@ -50,7 +50,7 @@ module _ {R D : Type 0} where
     history = forgotten i;
   }
 
-  pub begun_folded : (before after : Contents R D) (p q : Puts) (b b' t : Tally) (entries entries' : List Entry) → after ≡ record before { base = before.records } → q ≡ begun_with p → b' ≡ t → entries' ≡ []
+  pub begun_folded : (before after : Contents R D) (p q : Puts) (b b' t : Tally) (entries entries' : List EventEntry) → after ≡ record before { base = before.records } → q ≡ begun_with p → b' ≡ t → entries' ≡ []
       → held_by after q b' t entries' ≡ folded (held_by before p b t entries)
   begun_folded before after p q b b' t entries entries' is puts same forgotten = λ i. record {
     records = (is i).records;

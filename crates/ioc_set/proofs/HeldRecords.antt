@@ -22,7 +22,7 @@ use Rattle.ioc_store.specs.Weights.{weight_of, total-insert}
 use Rattle.ioc_store.specs.ScanLaws.{rewired-either, moved-either}
 use Rattle.ioc_store.specs.Scanning.{rewired}
 use Rattle.ioc_store.specs.Worlds.{sent_by}
-use Rattle.ioc_events.specs.StepRules.{at_the_end}
+use Rattle.ioc_events.specs.EventReplay.{at_the_end}
 use Rattle.ioc_events.specs.Starting.{is_ready}
 use Rattle.ioc_events.specs.Holding.{IsCounted, IsHeld, by_a_record, in_a_waiting_list, HoldersCounted, holders, how_many, one_if_has}
 use Rattle.ioc_set.specs.Awaiting.{awaited}

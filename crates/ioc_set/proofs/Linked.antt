@@ -14,7 +14,7 @@ use Rattle.ioc_set_records.specs.Contents.{Records, Devices, Contents, nothing, 
 use Rattle.ioc_set_records.specs.Joined.{links_of, IsPart, AreShared, relinked}
 use Rattle.ioc_store.specs.World.{Has, Keeps, at, begun, begun_at}
 use Rattle.ioc_store.specs.Scanning.{rewired}
-use Rattle.ioc_events.specs.declared.event.Entry.{Entry}
+use Rattle.ioc_events.specs.declared.event.EventEntry.{EventEntry}
 use Rattle.ioc_events.specs.Holding.{HoldersCounted}
 use Rattle.ioc_set.specs.Awaiting.{awaited}
 use Rattle.ioc_set_store.specs.Puts.{Puts, AreNone, HasBegun, begun_with}
@@ -81,7 +81,7 @@ module _ {R : Type 0} (k : RecordRules R) where
 
 module _ {R D : Type 0} (k : RecordRules R) where
   -- The invariant of a set whose history is cleared.
-  pub folded_holds : (before after : Contents R D) (p q : Puts) (b b' t : Tally) (entries entries' : List Entry) → after ≡ record before { base = before.records } → q ≡ begun_with p → b' ≡ t → entries' ≡ []
+  pub folded_holds : (before after : Contents R D) (p q : Puts) (b b' t : Tally) (entries entries' : List EventEntry) → after ≡ record before { base = before.records } → q ≡ begun_with p → b' ≡ t → entries' ≡ []
       → IsSound k (held_by before p b t entries) → IsSound k (held_by after q b' t entries') × RecordsAreLikeTheirBase k after
   folded_holds before after p q b b' t entries entries' is puts same none sound = (
     subst (λ (h : SetState R D). IsSound k h) (sym (begun_folded before after p q b b' t entries entries' is puts same none)) (sound_folded k (held_by before p b t entries) sound),
@@ -91,7 +91,7 @@ module _ {R D : Type 0} (k : RecordRules R) where
   -- The invariant of a set with an empty history.
   module _ (sound : (rs : Records R) (ds : Devices D) (live : List Live) (waiting : List Waiting) (counts : Tally) → IsPart (links_of k rs) → AreHeld k rs live waiting → len rs < 2 ^ 63 → CountsAddUp counts (awaited k rs)
       → IsSound k (with_empty_history rs ds live waiting counts)) where
-    pub empty_history_is_sound : (c : Contents R D) (p : Puts) (b t : Tally) (entries : List Entry) → HasBegun p → c.base ≡ c.records → b ≡ t → entries ≡ [] → IsPart (links_of k c.records) → AreHeld k c.records p.live p.waiting
+    pub empty_history_is_sound : (c : Contents R D) (p : Puts) (b t : Tally) (entries : List EventEntry) → HasBegun p → c.base ≡ c.records → b ≡ t → entries ≡ [] → IsPart (links_of k c.records) → AreHeld k c.records p.live p.waiting
         → len c.records < 2 ^ 63 → CountsAddUp t (awaited k c.records) → IsSound k (held_by c p b t entries) × RecordsAreLikeTheirBase k c
     empty_history_is_sound c p b t entries begun base same none part held few add_up = (
       subst (λ (h : SetState R D). IsSound k h) (sym (empty_history c p b t entries begun base same none)) (sound c.records c.devices p.live p.waiting t part held few add_up),
@@ -99,7 +99,7 @@ module _ {R D : Type 0} (k : RecordRules R) where
     )
 
   pub calm_holds : ((rs : Records R) (ds : Devices D) (counts : Tally) → IsPart (links_of k rs) → AreCalm k rs → len rs < 2 ^ 63 → CountsAddUp counts (awaited k rs) → IsSound k (with_empty_history rs ds [] [] counts))
-      → (c : Contents R D) (p : Puts) (b t : Tally) (entries : List Entry) → WereNone p → c.base ≡ c.records → b ≡ t → entries ≡ [] → IsPart (links_of k c.records) → AreCalm k c.records → len c.records < 2 ^ 63 → CountsAddUp t (awaited k c.records)
+      → (c : Contents R D) (p : Puts) (b t : Tally) (entries : List EventEntry) → WereNone p → c.base ≡ c.records → b ≡ t → entries ≡ [] → IsPart (links_of k c.records) → AreCalm k c.records → len c.records < 2 ^ 63 → CountsAddUp t (awaited k c.records)
       → IsSound k (held_by c p b t entries) × RecordsAreLikeTheirBase k c
   calm_holds sound c p b t entries puts base same none part calm few add_up = (
     subst (λ (h : SetState R D). IsSound k h) (sym (empty_history_without_puts c p b t entries puts base same none)) (sound c.records c.devices t part calm few add_up),
@@ -108,7 +108,7 @@ module _ {R D : Type 0} (k : RecordRules R) where
 
   -- Lemmas about a set that is divided, and about two that become one.
 
-  pub fell_apart : (s : ℕ) (field : FieldNo) (link : LinkField) (h : SetState R D) (was stay rest : Contents R D) (whole p q : Puts) (count : ℕ) (all b t u v : Tally) (entries rest_entries : List Entry)
+  pub fell_apart : (s : ℕ) (field : FieldNo) (link : LinkField) (h : SetState R D) (was stay rest : Contents R D) (whole p q : Puts) (count : ℕ) (all b t u v : Tally) (entries rest_entries : List EventEntry)
       → HistoryIsCleared k h was whole all → t ≡ less_awaited h.tally count
       → AreShared (get (relinked k was.records s field link)) (get stay.records) (get rest.records) → AreShared (get was.devices) (get stay.devices) (get rest.devices) → IsSome (get stay.records s)
       → p.waiting ≡ own_waiting stay.records whole.waiting → q.waiting ≡ own_waiting rest.records whole.waiting → (AreNone whole → AreNone p) → (AreNone whole → AreNone q)
@@ -134,7 +134,7 @@ module _ {R D : Type 0} (k : RecordRules R) where
         together = ap (λ (x : Tally). added x v) counts ∙ ap (λ (x : Tally). added (less_awaited h.tally count) x) alone ∙ together;
       }
 
-  pub became_one : (s : ℕ) (field : FieldNo) (link : LinkField) (h o : SetState R D) (was others both left : Contents R D) (one two p q : Puts) (t u sum : Tally) (none : Tally) (entries other_entries : List Entry)
+  pub became_one : (s : ℕ) (field : FieldNo) (link : LinkField) (h o : SetState R D) (was others both left : Contents R D) (one two p q : Puts) (t u sum : Tally) (none : Tally) (entries other_entries : List EventEntry)
       → HistoryIsCleared k h was one t → HistoryIsCleared k o others two u
       → AreShared (get both.records) (get (relinked k was.records s field link)) (get others.records) → AreShared (get both.devices) (get was.devices) (get others.devices)
       → p.waiting ≡ one.waiting ++ two.waiting → (AreNone one → AreNone two → AreNone p)

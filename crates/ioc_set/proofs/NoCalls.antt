@@ -1,5 +1,5 @@
--- A get or a put that is no call would be refused with its error, and change nothing.
-use Rattle.std.proofs.Common.{◌≡◌, ℕ, zero, true, false, if◌then◌else◌, List, [], ◌∷◌, Option, Some, None, Result, Ok, Err, refl, sym, ap, arith}
+-- A put that is no call would be refused with its error, and change nothing.
+use Rattle.std.proofs.Common.{◌≡◌, ◌⊎◌, inl, inr, subst, ℕ, zero, true, false, List, [], ◌∷◌, Option, Some, None, Result, Ok, Err, refl, sym, ap, arith}
 use Rattle.std.specs.Prelude.{Contains, is_some, unwrap_or}
 use Rattle.std.specs.Option.{IfSome}
 use Rattle.ioc_values.specs.declared.error.IocError.{IocError}
@@ -7,31 +7,29 @@ use Rattle.ioc_values.specs.declared.error.IocError.TheVariants.{NoField}
 use Rattle.ioc_values.specs.declared.input.Input.{Input}
 use Rattle.ioc_fields.specs.declared.field_no.FieldNo.{FieldNo}
 use Rattle.ioc_fields.specs.declared.field_kind.FieldKind.{FieldKind}
-use Rattle.ioc_fields.specs.declared.row.Row.{Row}
-use Rattle.ioc_fields.specs.Table.{row_of}
 use Rattle.ioc_record.specs.RecordRules.{RecordRules}
-use Rattle.ioc_record.specs.Values.{text_of, kind_to_put, put_field, put_tested, tested_by, put_once_tested}
+use Rattle.ioc_record.specs.Values.{kind_to_put, put_field, put_tested, tested_by, put_once_tested}
 use Rattle.ioc_store.specs.World.{World, Has, at}
 use Rattle.ioc_store.specs.Given.{Answers}
 use Rattle.ioc_events.specs.declared.event.Event.{Event}
-use Rattle.ioc_events.specs.declared.event.Event.TheVariants.{Get, Put, Process, Complete, Link, Notify, Cancel, IsLive}
-use Rattle.ioc_events.specs.declared.reply.Reply.TheVariants.{Shown}
-use Rattle.ioc_ledger.specs.Requests.{None as Nothing_}
+use Rattle.ioc_events.specs.declared.event.Event.TheVariants.{Put, Process, Complete, Notify, Cancel}
 use Rattle.ioc_events.specs.Starting.{value_if, value_to_put}
-use Rattle.ioc_events.specs.Step.{Stepped, stepped, done_alone, done_there, names, refused}
-use Rattle.ioc_set.specs.NoCalls.{no_call, why_not_shown, why_not_put}
+use Rattle.ioc_events.specs.Step.{stepped, done_alone, done_there, names, refused}
+use Rattle.ioc_set.specs.NoCalls.{no_call, why_not_put}
 
 none_is : {A : Type 0} (x : A) → None ≡ Some x → ⊥
 none_is {A = A} x e = let h : false ≡ true = ap (λ (o : Option A). is_some o) e in cc
 
-pub first_in : (n : ℕ) (ns : List ℕ) → Contains (n ∷ ns) n
+first_in : (n : ℕ) (ns : List ℕ) → Contains (n ∷ ns) n
 first_in n ns = (zero, omega arith, refl)
 
-module _ {R : Type 0} (k : RecordRules R) (answers : Answers) (w : World R) where
-  by_row : (row : Option Row) (shown : Stepped R) (e : IocError) → why_not_shown row ≡ Some e → (if is_some row then shown else refused w NoField) ≡ refused w e
-  by_row None shown e why = ap (λ (o : Option IocError). refused w (unwrap_or o NoField)) why
-  by_row (Some row) shown e why = absurd (none_is e why)
+-- The record of a put, with or without notification, is there if the records that it names are.
+pub put_there : {R : Type 0} (w : World R) (event : Event) (s : ℕ) (field : FieldNo) → ((n : ℕ) → Contains (names event) n → Has w n)
+    → ((given : Input) × (event ≡ Put s field given)) ⊎ ((n : ℕ) × (given : Input) × (event ≡ Notify s n field given)) → Has w s
+put_there w event s field there (inl is) = there s (subst (λ (e : Event). Contains (names e) s) (sym is.1) (first_in s []))
+put_there w event s field there (inr is) = there s (subst (λ (e : Event). Contains (names e) s) (sym is.2) (first_in s []))
 
+module _ {R : Type 0} (k : RecordRules R) (answers : Answers) (w : World R) where
   by_kind : (r : R) (field : FieldNo) (given : Input) (kind : Result FieldKind IocError) (e : IocError) → why_not_put kind ≡ Some e → put_once_tested k r field given (tested_by k r field kind) ≡ Err e
   by_kind r field given (Ok x) e why = absurd (none_is e why)
   by_kind r field given (Err x) e why = ap (λ (o : Option IocError). Err (unwrap_or o NoField)) why
@@ -39,10 +37,6 @@ module _ {R : Type 0} (k : RecordRules R) (answers : Answers) (w : World R) wher
   by_value : (r : R) (field : FieldNo) (given : Input) (kind : Result FieldKind IocError) (e : IocError) → why_not_put kind ≡ Some e → value_if k r field given (tested_by k r field kind) ≡ Err e
   by_value r field given (Ok x) e why = absurd (none_is e why)
   by_value r field given (Err x) e why = ap (λ (o : Option IocError). Err (unwrap_or o NoField)) why
-
-  get_refused : (s : ℕ) (field : FieldNo) (e : IocError) → Has w s → why_not_shown (row_of (k.record_type (at k w s)) field) ≡ Some e → stepped k answers w (Get s field) ≡ refused w e
-  unfolding stepped done_alone done_there
-  get_refused s field e has why = rw (has) (by_row (row_of (k.record_type (at k w s)) field) (record { world = w; reply = Shown (text_of k (at k w s) field); requests = Nothing_ }) e why)
 
   put_refused : (s : ℕ) (field : FieldNo) (given : Input) (e : IocError) → Has w s → why_not_put (kind_to_put (k.record_type (at k w s)) field) ≡ Some e → stepped k answers w (Put s field given) ≡ refused w e
   unfolding stepped done_alone done_there put_field put_tested
@@ -54,14 +48,11 @@ module _ {R : Type 0} (k : RecordRules R) (answers : Answers) (w : World R) wher
 
   no_call_refused : (event : Event) (e : IocError) → ((n : ℕ) → Contains (names event) n → Has w n) → no_call k w event ≡ Some e → stepped k answers w event ≡ refused w e
   unfolding no_call
-  no_call_refused (Get s field) e there why = get_refused s field e (there s (first_in s [])) why
   no_call_refused (Put s field given) e there why = put_refused s field given e (there s (first_in s [])) why
   no_call_refused (Process s) e there why = absurd (none_is e why)
   no_call_refused (Complete s n x) e there why = absurd (none_is e why)
-  no_call_refused (Link s field link) e there why = absurd (none_is e why)
   no_call_refused (Notify s n field given) e there why = notify_refused s n field given e (there s (first_in s [])) why
   no_call_refused (Cancel n) e there why = absurd (none_is e why)
-  no_call_refused (IsLive n) e there why = absurd (none_is e why)
 
 pub no_call_is_refused : {R : Type 0} (k : RecordRules R) (w : World R) (event : Event) (result : Option IocError) → ((n : ℕ) → Contains (names event) n → Has w n) → result ≡ no_call k w event
     → IfSome result (λ e. (answers : Answers) → stepped k answers w event ≡ refused w e)

@@ -11,8 +11,8 @@ use Rattle.ioc_set_records.specs.Contents.{Contents, nothing, RecordsAreLikeThei
 use Rattle.ioc_set_records.specs.Joined.{links_of, IsPart}
 use Rattle.ioc_store.specs.World.{World, IsClosed, total, at}
 use Rattle.ioc_process.specs.Rules.{IsSettled}
-use Rattle.ioc_events.specs.declared.event.Entry.{Entry}
-use Rattle.ioc_events.specs.StepRules.{at_the_end}
+use Rattle.ioc_events.specs.declared.event.EventEntry.{EventEntry}
+use Rattle.ioc_events.specs.EventReplay.{at_the_end}
 use Rattle.ioc_events.specs.Holding.{IsCounted, HoldersAwait, holders, one_if_has}
 use Rattle.ioc_set.specs.Awaiting.{one_if_awaits, awaited}
 use Rattle.ioc_set_store.specs.Puts.{Puts, no_puts}
@@ -82,7 +82,7 @@ unfolding awaited
 none_awaited k = ap (total (one_if_awaits k)) no_entries
 
 -- An empty set has nothing.
-pub none_held : {R D : Type 0} (c : Contents R D) (p : Puts) (b t : Tally) (entries : List Entry) → c ≡ nothing → WereNone p → b ≡ no_counts → t ≡ no_counts → entries ≡ [] → held_by c p b t entries ≡ nothing_held
+pub none_held : {R D : Type 0} (c : Contents R D) (p : Puts) (b t : Tally) (entries : List EventEntry) → c ≡ nothing → WereNone p → b ≡ no_counts → t ≡ no_counts → entries ≡ [] → held_by c p b t entries ≡ nothing_held
 none_held c p b t entries none puts before counts forgotten = λ i. record {
   records = (none i).records;
   devices = (none i).devices;
@@ -107,7 +107,7 @@ module _ {R D : Type 0} (k : RecordRules R) (missing : targets k k.missing ≡ [
     short = omega arith;
   }
 
-  pub nothing_is_sound : (c : Contents R D) (p : Puts) (b t : Tally) (entries : List Entry) → c ≡ nothing → WereNone p → b ≡ t → entries ≡ [] → CountsAddUp t 0 → IsSound k (held_by c p b t entries)
+  pub nothing_is_sound : (c : Contents R D) (p : Puts) (b t : Tally) (entries : List EventEntry) → c ≡ nothing → WereNone p → b ≡ t → entries ≡ [] → CountsAddUp t 0 → IsSound k (held_by c p b t entries)
   nothing_is_sound c p b t entries none puts same forgotten counts =
       let is : held_by c p b t entries ≡ held_by {R = R} {D = D} nothing no_puts t t [] = λ i. record {
         records = (none i).records;

@@ -16,10 +16,11 @@ use Rattle.ioc_store.specs.World.{World, IsClosed, Keeps, SameLinks, at, begun, 
 use Rattle.ioc_store.specs.Given.{Answers, answers_of, later_among, listed}
 use Rattle.ioc_process.specs.Rules.{IsSettled}
 use Rattle.ioc_events.specs.declared.event.Event.{Event}
-use Rattle.ioc_events.specs.declared.event.Entry.{Entry}
+use Rattle.ioc_events.specs.declared.event.EventEntry.{EventEntry}
 use Rattle.ioc_events.specs.declared.reply.Reply.{Reply}
-use Rattle.ioc_events.specs.Step.{Stepped, stepped, tallied, completes, calls_since, is_link_change}
-use Rattle.ioc_events.specs.StepRules.{Step, Replay, at_the_end, and_then}
+use Rattle.ioc_events.specs.Step.{Stepped, stepped, tallied, completes, calls_since}
+use Rattle.ioc_events.specs.StepRules.{Step}
+use Rattle.ioc_events.specs.EventReplay.{Replay, at_the_end, and_then}
 use Rattle.ioc_events.specs.Starting.{NoneReady, is_ready}
 use Rattle.ioc_events.specs.Holding.{IsCounted, HoldersAwait, holders}
 use Rattle.ioc_set.specs.Awaiting.{awaited, one_if_completes}
@@ -108,7 +109,7 @@ module _ {R : Type 0} (k : RecordRules R) where
       subst (λ (f : Links). IsPart f) (sym all) part
 
   -- The history with one more event.
-  replay_more : {w v w' : World R} {requests : Requests} (entries : List Entry) (entry : Entry) → Replay k w entries v
+  replay_more : {w v w' : World R} {requests : Requests} (entries : List EventEntry) (entry : EventEntry) → Replay k w entries v
       → Step k (listed entry.answers) (begun_at entry.moment v) entry.event w' entry.reply requests → answers_of w'.calls ≡ entry.answers → Replay k w (entries ++ entry ∷ []) w'
   replay_more [] entry at_the_end step same = and_then step same at_the_end
   replay_more {w = w} {v = v} {w' = w'} {requests = requests} (x ∷ entries) entry (and_then {w' = w''} {requests = first_requests} first used rest) step same =
@@ -140,14 +141,14 @@ module _ {R : Type 0} (k : RecordRules R) where
   module _ (allowed : (answers : Answers) (w : World R) (event : Event) → Step k answers w event (stepped k answers w event).world (stepped k answers w event).reply (stepped k answers w event).requests)
       (alone : (answers : Answers) (w after : World R) (event : Event) (reply : Reply) (requests : Requests) → Step k answers w event after reply requests
       → stepped k answers w event ≡ record { world = after; reply = reply; requests = requests }) where
-    counted_more : (t : Tally) {w v : World R} (entries : List Entry) (entry : Entry) → Replay k w entries v
+    counted_more : (t : Tally) {w v : World R} (entries : List EventEntry) (entry : EventEntry) → Replay k w entries v
         → counted_on k t w (entries ++ entry ∷ []) ≡ tallied (counted_on k t w entries) (begun_at entry.moment v) entry.event (done_by k v entry)
     counted_more t [] entry at_the_end = refl
     counted_more t {w = w} {v = v} (x ∷ entries) entry (and_then {w' = w'} {requests = first_requests} first used rest) =
         let same : (done_by k w x).world ≡ w' = ap (λ z. z.world) (alone _ _ _ _ _ _ first) in
         counted_more (tallied t (begun_at x.moment w) x.event (done_by k w x)) entries entry (subst (λ (z : World R). Replay k z entries v) (sym same) rest)
 
-    module _ (keeps : (answers : Answers) (w after : World R) (event : Event) (reply : Reply) (requests : Requests) → Step k answers w event after reply requests → is_link_change event ≡ false → IsClosed k w → Keeps k w after)
+    module _ (keeps : (answers : Answers) (w after : World R) (event : Event) (reply : Reply) (requests : Requests) → Step k answers w event after reply requests → IsClosed k w → Keeps k w after)
         (settles : (answers : Answers) (w after : World R) (event : Event) (reply : Reply) (requests : Requests) → Step k answers w event after reply requests → IsSettled k w → IsSettled k after)
         (readies : (answers : Answers) (w after : World R) (event : Event) (reply : Reply) (requests : Requests) → Step k answers w event after reply requests → NoneReady k w → NoneReady k after)
         (counts : (answers : Answers) (w after : World R) (event : Event) (reply : Reply) (requests : Requests) → Step k answers w event after reply requests → IsCounted k w → IsCounted k after)
@@ -157,7 +158,7 @@ module _ {R : Type 0} (k : RecordRules R) where
         (awaitings : (answers : Answers) (w after : World R) (event : Event) (reply : Reply) (requests : Requests) → Step k answers w event after reply requests → IsSettled k w
         → awaited k after.records + one_if_completes event reply ≡ awaited k w.records + later_among (calls_since w after))
         {D : Type 0} (h : SetState R D) where
-      pub sound_after : (entry : Entry) (devices : Devices D) → IsSound k h → length h.history < 64 → TellsOf k h entry → IsSound k (held_after k h entry devices)
+      pub sound_after : (entry : EventEntry) (devices : Devices D) → IsSound k h → length h.history < 64 → TellsOf k h entry → IsSound k (held_after k h entry devices)
       sound_after entry devices sound room tells =
           let given = listed entry.answers in
           let m = entry.moment in
@@ -172,7 +173,7 @@ module _ {R : Type 0} (k : RecordRules R) where
           let law = awaitings given w done.world entry.event done.reply done.requests step quiet ∙ ap (λ (n : ℕ). n + later_among (calls_since w done.world)) (awaited_begun h.records h.live h.waiting m) in
           let answers = answers_after each up h.tally w entry.event done (awaited k h.records) (awaited k done.world.records) sound.counts.fits (record { fit = sound.counts.answers_fit; add_up = sound.counts.answers_add_up }) law in
           record {
-            part = part_kept h.records h.live h.waiting m done.world (keeps given w done.world entry.event done.reply done.requests step tells.no_link_change quiet.closed) sound.part;
+            part = part_kept h.records h.live h.waiting m done.world (keeps given w done.world entry.event done.reply done.requests step quiet.closed) sound.part;
             settled = settled_rest done.world (settles given w done.world entry.event done.reply done.requests step quiet);
             none_ready = none_rest done.world (readies given w done.world entry.event done.reply done.requests step (none_begun h.records h.live h.waiting m sound.none_ready));
             counted = counted_rest done.world (counts given w done.world entry.event done.reply done.requests step (counted_begun h.records h.live h.waiting m sound.counted));

@@ -11,12 +11,14 @@ use Rattle.ioc_notify.specs.Living.{is_live}
 use Rattle.ioc_store.specs.World.{World, IsClosed, at, begun, begun_at}
 use Rattle.ioc_store.specs.Given.{Answers, answers_of, listed}
 use Rattle.ioc_events.specs.declared.event.Event.{Event}
-use Rattle.ioc_events.specs.declared.event.Event.TheVariants.{Get, Process, Put, Complete, Link, Notify, Cancel, IsLive}
-use Rattle.ioc_events.specs.declared.event.Entry.{Entry}
+use Rattle.ioc_events.specs.declared.event.Event.TheVariants.{Process, Put, Complete, Notify, Cancel}
+use Rattle.ioc_events.specs.declared.event.EventEntry.{EventEntry}
 use Rattle.ioc_events.specs.declared.reply.Reply.{Reply}
 use Rattle.ioc_events.specs.declared.reply.Reply.TheVariants.{Notify as Notify-reply}
 use Rattle.ioc_events.specs.Step.{stepped}
-use Rattle.ioc_events.specs.StepRules.{Step, Replay, at_the_end, and_then}
+use Rattle.ioc_events.specs.StepRules.{Step}
+use Rattle.ioc_events.specs.EventReplay.{Replay, at_the_end, and_then}
+use Rattle.ioc_events.specs.declared.event.Call.TheVariants as call
 use Rattle.ioc_events.specs.Holding.{IsCounted, IsHeld, EndsExactly, holders}
 use Rattle.ioc_set.specs.SetState.{SetState, NoneIsLive, now_of, done_by}
 use Rattle.ioc_set.specs.Sound.{IsSound}
@@ -25,18 +27,15 @@ use Rattle.ioc_set.specs.Doing.{is_ordinary, with_place, Does}
 use Rattle.ioc_set.proofs.DoneLaws.{now_kept}
 
 ordinary_alone : (event : Event) → is_ordinary event ≡ true → is_put_with_notification event ≡ true → ⊥
-ordinary_alone (Get s field) is put = absurd (let z : false ≡ true = is in cc)
 ordinary_alone (Process s) is put = absurd (let z : false ≡ true = put in cc)
 ordinary_alone (Put s field given) is put = absurd (let z : false ≡ true = put in cc)
 ordinary_alone (Complete s n x) is put = absurd (let z : false ≡ true = put in cc)
-ordinary_alone (Link s field link) is put = absurd (let z : false ≡ true = is in cc)
 ordinary_alone (Notify s n field given) is put = absurd (let z : false ≡ true = is in cc)
 ordinary_alone (Cancel n) is put = absurd (let z : false ≡ true = is in cc)
-ordinary_alone (IsLive n) is put = absurd (let z : false ≡ true = is in cc)
 
 module _ {R D : Type 0} (k : RecordRules R) (gives : D → Ask → ℕ → Answer → D → Type 0)
     (allowed : (answers : Answers) (w : World R) (event : Event) → Step k answers w event (stepped k answers w event).world (stepped k answers w event).reply (stepped k answers w event).requests)
-    (stays : (w after : World R) (entry : Entry) → Replay k w (entry ∷ []) after → IsCounted k w → w.live ≡ [] → ((n : ℕ) → entry.reply ≢ Notify-reply n) → (after.live ≡ []) × (after.waiting ≡ []))
+    (stays : (w after : World R) (entry : EventEntry) → Replay k w (entry ∷ []) after → IsCounted k w → w.live ≡ [] → ((n : ℕ) → entry.reply ≢ Notify-reply n) → (after.live ≡ []) × (after.waiting ≡ []))
     (begin : (answers : Answers) (w after : World R) (event : Event) (reply : Reply) (requests : Requests) (n : ℕ) → Step k answers w event after reply requests → reply ≡ Notify-reply n → is_put_with_notification event ≡ true) where
   pub stays_without : (h after : SetState R D) (moment : ℕ) (event : Event) (reply : Reply) (come_to : World R) → Does k gives h moment event reply after come_to → is_ordinary event ≡ true → IsSound k h → NoneIsLive h → NoneIsLive after
   stays_without h after moment event reply come_to does ordinary sound none =
@@ -87,7 +86,7 @@ module _ {R D : Type 0} (k : RecordRules R) (gives : D → Ask → ℕ → Answe
     (allowed : (answers : Answers) (w : World R) (event : Event) → Step k answers w event (stepped k answers w event).world (stepped k answers w event).reply (stepped k answers w event).requests)
     (begin : (answers : Answers) (w after : World R) (event : Event) (reply : Reply) (requests : Requests) (n : ℕ) → Step k answers w event after reply requests → reply ≡ Notify-reply n → is_put_with_notification event ≡ true)
     (live : (w : World R) (n : ℕ) → IsCounted k w → (is_live n w.live ≡ true) ↔ IsHeld k w n)
-    (ends : (answers : Answers) (w after : World R) (event : Event) (reply : Reply) (requests : Requests) → Step k answers w event after reply requests → IsCounted k w → w.ended ≡ [] → EndsExactly k w event reply after) where
+    (ends : (answers : Answers) (w after : World R) (event : Event) (reply : Reply) (requests : Requests) → Step k answers w event after reply requests → IsCounted k w → w.ended ≡ [] → EndsExactly k w (call.Event event reply) after) where
   pub ends_none : (h after : SetState R D) (moment : ℕ) (event : Event) (reply : Reply) (come_to : World R) → Does k gives h moment event reply after come_to → is_ordinary event ≡ true → IsSound k h → NoneIsLive h → come_to.ended ≡ []
   ends_none h after moment event reply come_to does ordinary sound none =
       let e = does.entry in

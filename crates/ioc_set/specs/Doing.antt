@@ -14,8 +14,8 @@ use Rattle.ioc_set_records.specs.Contents.{Records, Contents}
 use Rattle.ioc_store.specs.World.{World, Keeps, begun_at}
 use Rattle.ioc_store.specs.Given.{DevicesWork, answers_of}
 use Rattle.ioc_events.specs.declared.event.Event.{Event}
-use Rattle.ioc_events.specs.declared.event.Event.TheVariants.{Process, Put, Complete, Notify, Cancel}
-use Rattle.ioc_events.specs.declared.event.Entry.{Entry}
+use Rattle.ioc_events.specs.declared.event.Event.TheVariants.{Process, Put, Complete}
+use Rattle.ioc_events.specs.declared.event.EventEntry.{EventEntry}
 use Rattle.ioc_events.specs.declared.reply.Reply.{Reply}
 use Rattle.ioc_events.specs.Step.{tallied}
 use Rattle.ioc_set_store.specs.declared.set_store.SetStore.{SetStore}
@@ -32,17 +32,8 @@ is_ordinary (Put s field given) = true
 is_ordinary (Complete s number finished) = true
 is_ordinary _ = false
 
--- Holds of an event on a set: one of these, a put with notification or a cancel.
-abbrev pub is_done_on_sets : Event → Bool
-is_done_on_sets (Process s) = true
-is_done_on_sets (Put s field given) = true
-is_done_on_sets (Complete s number finished) = true
-is_done_on_sets (Notify s number field given) = true
-is_done_on_sets (Cancel number) = true
-is_done_on_sets _ = false
-
 -- The state of a set with these records, puts with notification, counts and history.
-abbrev pub held_by : {R D : Type 0} → Contents R D → Puts → Tally → Tally → List Entry → SetState R D
+abbrev pub held_by : {R D : Type 0} → Contents R D → Puts → Tally → Tally → List EventEntry → SetState R D
 held_by c puts before counts entries = record {
   records = c.records;
   devices = c.devices;
@@ -72,7 +63,7 @@ module _ {R D : Type 0} (k : RecordRules R) (gives : D → Ask → ℕ → Answe
   -- the reply, and the state of the event beside what the set keeps. Each device that was called
   -- gave its answer by its own relation, in the order of the calls.
   pub record Does (held : SetState R D) (at_moment : ℕ) (done : Event) (reply : Reply) (held_then : SetState R D) (come_to : World R) : Type 0 where
-    pub entry : Entry
+    pub entry : EventEntry
     pub moment : entry.moment ≡ at_moment
     pub event : entry.event ≡ done
     pub answer : entry.reply ≡ reply
@@ -83,7 +74,7 @@ module _ {R D : Type 0} (k : RecordRules R) (gives : D → Ask → ℕ → Answe
 
   -- An event on the records of a set with these puts with notification: the records, puts and
   -- counts afterwards, and the store on which it was done.
-  pub record Did (before : Contents R D) (was : Puts) (counts : Tally) (entry : Entry) (after : Contents R D) (is : Puts) (counts_then : Tally) (store : SetStore R D) : Type 0 where
+  pub record Did (before : Contents R D) (was : Puts) (counts : Tally) (entry : EventEntry) (after : Contents R D) (is : Puts) (counts_then : Tally) (store : SetStore R D) : Type 0 where
     pub reply : (done_by k (resting before.records was.live was.waiting) entry).reply ≡ entry.reply
     pub answers : answers_of (done_by k (resting before.records was.live was.waiting) entry).world.calls ≡ entry.answers
     pub records : after.records ≡ (done_by k (resting before.records was.live was.waiting) entry).world.records

@@ -3,6 +3,5 @@ pub mod SetState
 pub mod Sound
 pub mod Doing
 pub mod SetStateCode
-pub mod SetEntry
 pub mod Linking
 pub mod NoCalls

@@ -12,7 +12,7 @@ use Rattle.ioc_record.specs.RecordRules.{RecordRules}
 use Rattle.ioc_set_records.specs.Contents.{Records, Devices}
 use Rattle.ioc_store.specs.World.{World, begun_at}
 use Rattle.ioc_store.specs.Given.{listed}
-use Rattle.ioc_events.specs.declared.event.Entry.{Entry}
+use Rattle.ioc_events.specs.declared.event.EventEntry.{EventEntry}
 use Rattle.ioc_events.specs.Step.{Stepped, stepped, tallied}
 use Rattle.ioc_set_store.specs.Resting.{resting}
 
@@ -32,7 +32,7 @@ pub record SetState (R D : Type 0) : Type 0 where
   pub waiting : List Waiting
   pub tally : Tally
   pub base : SetBase R
-  pub history : List Entry
+  pub history : List EventEntry
 
 -- No records, no counts and no history.
 abbrev pub nothing_held : {R D : Type 0} → SetState R D
@@ -54,16 +54,16 @@ folded h = record h { base = record { records = h.records; live = h.live; waitin
 
 module _ {R : Type 0} (k : RecordRules R) where
   -- An event of a history, done on this database.
-  abbrev pub done_by : World R → Entry → Stepped R
+  abbrev pub done_by : World R → EventEntry → Stepped R
   done_by w entry = stepped k (listed entry.answers) (begun_at entry.moment w) entry.event
 
   -- The counts after these events.
-  abbrev pub counted_on : Tally → World R → List Entry → Tally
+  abbrev pub counted_on : Tally → World R → List EventEntry → Tally
   counted_on t w [] = t
   counted_on t w (entry ∷ entries) = let done = done_by w entry in counted_on (tallied t (begun_at entry.moment w) entry.event done) done.world entries
 
   -- The set after an event, with its devices afterwards.
-  abbrev pub held_after : {D : Type 0} → SetState R D → Entry → Devices D → SetState R D
+  abbrev pub held_after : {D : Type 0} → SetState R D → EventEntry → Devices D → SetState R D
   held_after h entry devices =
       let done = done_by (now_of h) entry in
       record h {

@@ -8,8 +8,8 @@ use Rattle.ioc_notify.specs.declared.live_numbers.Live.{Live}
 use Rattle.ioc_notify.specs.contracts.live_numbers.Live as live_row
 use Rattle.ioc_notify.specs.declared.waiting_lists.Waiting.{Waiting}
 use Rattle.ioc_notify.specs.contracts.waiting_lists.Waiting as waiting_row
-use Rattle.ioc_events.specs.declared.event.Entry.{Entry}
-use Rattle.ioc_events.specs.contracts.event.Entry as entry_row
+use Rattle.ioc_events.specs.declared.event.EventEntry.{EventEntry}
+use Rattle.ioc_events.specs.contracts.event.EventEntry as entry_row
 use Rattle.ioc_set_records.specs.Contents.{Records, Devices}
 use Rattle.ioc_set.specs.SetState.{SetState}
 
@@ -19,7 +19,7 @@ held_code {R} {D} r d =
     let lives = coded_list live_row.the_row.coded in
     let waits = coded_list waiting_row.the_row.coded in
     let counts = tally_row.the_row.coded in
-    code_by (Records R × (Devices D × (List Live × (List Waiting × (Tally × (Records R × (List Live × (List Waiting × (Tally × List Entry)))))))))
+    code_by (Records R × (Devices D × (List Live × (List Waiting × (Tally × (Records R × (List Live × (List Waiting × (Tally × List EventEntry)))))))))
     (coded× records (coded× (map.code coded_ℕ d) (coded× lives (coded× waits (coded× counts (coded× records (coded× lives (coded× waits (coded× counts (coded_list entry_row.the_row.coded))))))))))
     (λ h. (h.records, (h.devices, (h.live, (h.waiting, (h.tally, (h.base.records, (h.base.live, (h.base.waiting, (h.base.tally, h.history))))))))))
     (λ p. record {

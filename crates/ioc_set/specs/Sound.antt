@@ -2,7 +2,7 @@
 --
 -- Application Developer's Guide, "Database Locking, Scanning, and Processing": records that links
 -- join are in one lock set.
-use Rattle.std.specs.Prelude.{◌≡◌, ◌⊎◌, ℕ, ◌+◌, ◌-◌, ◌^◌, ◌<◌, ◌≤◌, false, length}
+use Rattle.std.specs.Prelude.{◌≡◌, ◌⊎◌, ℕ, ◌+◌, ◌-◌, ◌^◌, ◌<◌, ◌≤◌, length}
 use Rattle.ioc_ledger.specs.declared.tally.Tally.{Tally}
 use Rattle.ioc_ledger.specs.Requests.{Fits, AddsUp}
 use Rattle.ioc_record.specs.RecordRules.{RecordRules}
@@ -10,9 +10,8 @@ use Rattle.ioc_set_records.specs.Joined.{links_of, IsPart}
 use Rattle.ioc_store.specs.World.{World}
 use Rattle.ioc_store.specs.Given.{answers_of}
 use Rattle.ioc_process.specs.Rules.{IsSettled}
-use Rattle.ioc_events.specs.declared.event.Entry.{Entry}
-use Rattle.ioc_events.specs.Step.{is_link_change}
-use Rattle.ioc_events.specs.StepRules.{Replay}
+use Rattle.ioc_events.specs.declared.event.EventEntry.{EventEntry}
+use Rattle.ioc_events.specs.EventReplay.{Replay}
 use Rattle.ioc_events.specs.Starting.{NoneReady}
 use Rattle.ioc_events.specs.Holding.{IsCounted, HoldersAwait}
 use Rattle.ioc_set.specs.Awaiting.{awaited}
@@ -56,7 +55,6 @@ module _ {R D : Type 0} (k : RecordRules R) where
 
   -- An entry describes what its event did on the set: all its answers were used, and its reply was
   -- given.
-  pub record TellsOf (h : SetState R D) (entry : Entry) : Type 0 where
-    pub no_link_change : is_link_change entry.event ≡ false
+  pub record TellsOf (h : SetState R D) (entry : EventEntry) : Type 0 where
     pub reply : (done_by k (now_of h) entry).reply ≡ entry.reply
     pub answers : answers_of (done_by k (now_of h) entry).world.calls ≡ entry.answers

@@ -15,14 +15,15 @@ ghost use Rattle.ioc_events.specs.declared.event.Event.{Event};
 ghost use Rattle.ioc_events.specs.declared.reply.Reply.{Reply};
 ghost use Rattle.ioc_store.specs.World.{World, common_at};
 ghost use Rattle.ioc_store.specs.Scanning.{with_link_changed};
-ghost use Rattle.ioc_events.specs.declared.event.Event.TheVariants.{Link};
 ghost use Rattle.ioc_events.specs.declared.reply.Reply.TheVariants.{Notify, Plain};
-ghost use Rattle.ioc_events.specs.Step.{stepped, all_there};
+ghost use Rattle.std.specs.Prelude.{None as Nothing_};
+ghost use Rattle.ioc_events.specs.Step.{link_refusal, all_there};
 ghost use Rattle.ioc_events.specs.Holding.{IsCounted, IsHeld};
-ghost use Rattle.ioc_events.specs.StepRules.{Replay, Step};
+ghost use Rattle.ioc_events.specs.StepRules.{Step};
+ghost use Rattle.ioc_events.specs.EventReplay.{Replay};
 ghost use Rattle.ioc_set_records.specs.Contents.{Records, Devices};
 ghost use Rattle.ioc_set_records.specs.Joined.{links_of, IsPart, HasLink};
-ghost use Rattle.ioc_events.specs.declared.event.Entry.{Entry};
+ghost use Rattle.ioc_events.specs.declared.event.EventEntry.{EventEntry};
 ghost use Rattle.ioc_set.specs.Awaiting.{awaited};
 ghost use Rattle.ioc_set.specs.SetState.{SetState, NoneIsLive, now_of, folded, held_after};
 ghost use Rattle.ioc_set.specs.Doing.{is_ordinary, Does};
@@ -44,7 +45,7 @@ use ioc_record::RecordKind;
 /// After any event except a link change is done on a sound lock set and appended to its history,
 /// the set is sound. It also is after its history is cleared.
 pub fn events_leave_sound<K: RecordKind, D>()
-    ensures event { (h : SetState K D) (entry : Entry) (devices : Devices D) → IsSound K.rules h → length h.history < 64
+    ensures event { (h : SetState K D) (entry : EventEntry) (devices : Devices D) → IsSound K.rules h → length h.history < 64
         → TellsOf K.rules h entry →
         IsSound K.rules (held_after K.rules h entry devices) }
     ensures folded { (h : SetState K D) → IsSound K.rules h → IsSound K.rules (folded h) }
@@ -64,7 +65,7 @@ pub fn events_leave_sound<K: RecordKind, D>()
 /// reports that one has begun. So a set needs room for them only from its first put with
 /// notification on.
 pub fn none_live_stays_so<K: RecordKind>()
-    ensures { (w after : World K) (entry : Entry) → Replay K.rules w (entry ∷ []) after → IsCounted K.rules w → w.live ≡ [] →
+    ensures { (w after : World K) (entry : EventEntry) → Replay K.rules w (entry ∷ []) after → IsCounted K.rules w → w.live ≡ [] →
         ((n : ℕ) → entry.reply ≢ Notify n) → (after.live ≡ []) × (after.waiting ≡ []) }
 {
     events_count_holders::<K>();
@@ -122,13 +123,10 @@ pub fn held_records_are_sound<K: RecordKind, D>()
     events_count_holders::<K>();
 }
 
-/// A link change that isn't refused is this event: the link is changed, and a change of the
-/// record's scan list is sent if its device link differs. The reply is plain.
-pub fn link_changes_are_events<K: RecordKind>()
-    ensures { (answers : Answers) (w : World K) (s : ℕ) (field : FieldNo) (link : LinkField) →
+/// A link change of such a field isn't refused.
+#[tactic(auto, unfolding(ioc_events::specs::Step::link_refusal, ioc_store::specs::World::at))]
+pub fn link_changes_are_calls<K: RecordKind>()
+    ensures { (w : World K) (s : ℕ) (field : FieldNo) (link : LinkField) →
         HasLink K.rules w.records s field → stops_put (common_at K.rules w s) field ≡ false → all_there w (named_by (use_of link)) ≡ true →
-        stepped K.rules answers w (Link s field link)
-        ≡ record { world = with_link_changed K.rules w s field link; reply = Plain; requests = None } }
-{
-    rules_are_steps::<K>();
-}
+        link_refusal K.rules w s field link ≡ Nothing_ }
+{}

@@ -11,10 +11,9 @@ pub mod linking;
 pub mod lock_set;
 mod no_calls;
 pub mod running;
-pub mod set_entry;
 
 pub use laws::{
-    calm_records_are_sound, events_leave_sound, held_records_are_sound, link_changes_are_events,
+    calm_records_are_sound, events_leave_sound, held_records_are_sound, link_changes_are_calls,
     none_live_stays_so, notifications_begin_by_notify, sets_stay_without_puts,
 };
 pub use link_change::LinkChange;

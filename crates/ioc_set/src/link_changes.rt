@@ -129,19 +129,19 @@ impl<K: RecordKind + Drop, D: Device> LockSet<K, D> {
     /// link is no longer `before`. The history is cleared.
     pub fn rescan(
         &mut self,
-        place: &mut EventBuffers<K, D>,
+        buffers: &mut EventBuffers<K, D>,
         number: RecordNo,
         before: Short<MAX_DEVICE_BYTES>,
         moment: u64,
     )
         requires there { Has (now_of self.old) number }
-        ensures left { with_kept self.new.records self.old.live self.old.waiting (world_of place.new.store)
+        ensures left { with_kept self.new.records self.old.live self.old.waiting (world_of buffers.new.store)
             ≡ rewired K.rules before (begun_at moment (now_of self.old)) number }
         ensures held { self.new ≡ with_empty_history self.new.records self.old.devices self.old.live self.old.waiting self.old.tally }
     {
         held_records_are_sound::<K, D>();
         self.puts.are_few();
-        rescan_on(place, &mut self.members, moment, number, before);
+        rescan_on(buffers, &mut self.members, moment, number, before);
         clear_history(
             &mut self.members,
             &mut self.puts,
@@ -163,7 +163,7 @@ impl<K: RecordKind + Drop, D: Device> LockSet<K, D> {
     /// cleared.
     pub fn part(
         &mut self,
-        place: &mut EventBuffers<K, D>,
+        buffers: &mut EventBuffers<K, D>,
         alloc: Global,
         change: LinkChange,
     ) -> Result<LockSet<K, D>, AllocError>
@@ -172,7 +172,7 @@ impl<K: RecordKind + Drop, D: Device> LockSet<K, D> {
             (link_change_of K.rules self.old change.moment change.number change.field change.link).records change.number self.new rest) }
         ensures left { OnOk result (with_kept
             (link_change_of K.rules self.old change.moment change.number change.field change.link).records self.old.live
-            self.old.waiting (world_of place.new.store)
+            self.old.waiting (world_of buffers.new.store)
             ≡ link_change_of K.rules self.old change.moment change.number change.field change.link) }
         ensures err { OnErr result (self.new ≡ folded self.old) }
     {
@@ -180,7 +180,7 @@ impl<K: RecordKind + Drop, D: Device> LockSet<K, D> {
         let moment = change.moment;
         let before = self.device_text(number);
         let rest = self.split(alloc, change)?;
-        self.rescan(place, number, before, moment);
+        self.rescan(buffers, number, before, moment);
         Ok(rest)
     }
 
@@ -198,7 +198,7 @@ impl<K: RecordKind + Drop, D: Device> LockSet<K, D> {
     pub fn lead_into(
         &mut self,
         other: &mut LockSet<K, D>,
-        place: &mut EventBuffers<K, D>,
+        buffers: &mut EventBuffers<K, D>,
         alloc: Global,
         change: LinkChange,
     ) -> Result<LockSet<K, D>, AllocError>
@@ -208,7 +208,7 @@ impl<K: RecordKind + Drop, D: Device> LockSet<K, D> {
         requires field { HasLink K.rules self.old.records change.number change.field }
         requires to { (t : ℕ) × (named_by (use_of change.link) ≡ t ∷ []) × IsSome (map.get other.old.records t) }
         ensures led { IfOk result (λ rest. LeadsInto K.rules self.old other.old change.moment change.number change.field change.link
-            self.new other.new rest (world_of place.new.store)) }
+            self.new other.new rest (world_of buffers.new.store)) }
         ensures err { OnErr result ((self.new ≡ folded self.old) × (other.new ≡ other.old)) }
     {
         held_records_are_sound::<K, D>();
@@ -233,7 +233,7 @@ impl<K: RecordKind + Drop, D: Device> LockSet<K, D> {
         self.is_sound();
         self.unite(alloc, room, puts_room, other, change);
         self.is_sound();
-        self.rescan(place, number, before, moment);
+        self.rescan(buffers, number, before, moment);
         Ok(rest)
     }
 }

@@ -10,8 +10,8 @@ ghost use Rattle.ioc_ledger.specs.Requests.{added};
 ghost use Rattle.ioc_set_store.specs.Puts.{begun_with};
 ghost use Rattle.ioc_set_store.specs.SetStore.{world_of};
 
-use crate::set_entry::SetEntry;
 use ioc_device::Device;
+use ioc_events::EventEntry;
 use ioc_ledger::Tally;
 use ioc_links::MAX_DEVICE_BYTES;
 use ioc_names::RecordNo;
@@ -30,7 +30,7 @@ pub fn clear_history<K: RecordKind, D>(
     puts: &mut LivePuts,
     tally: &Tally,
     base_tally: &mut Tally,
-    history: &mut Vec<SetEntry>,
+    history: &mut Vec<EventEntry>,
 )
     requires like { RecordsAreLikeTheirBase K.rules members.old }
     requires fits { length puts.old.waiting ≤ 256 }
@@ -62,22 +62,22 @@ pub fn add_counts(tally: &mut Tally, other: &Tally)
 /// Sends a change of the scan list of a record, if the text of its device link is no longer
 /// `before`.
 pub fn rescan_on<K: RecordKind + Drop, D: Device>(
-    place: &mut EventBuffers<K, D>,
+    buffers: &mut EventBuffers<K, D>,
     members: &mut Members<K, D>,
     moment: u64,
     number: RecordNo,
     before: Short<MAX_DEVICE_BYTES>,
 )
     requires there { IsSome (get members.old.records number) }
-    ensures left { with_records members.new.records (world_of place.new.store)
+    ensures left { with_records members.new.records (world_of buffers.new.store)
         ≡ rewired K.rules before (begun_at moment (resting members.old.records [] [])) number }
     ensures devices { members.new.devices ≡ members.old.devices }
     ensures base { members.new.base ≡ members.old.base }
 {
     members.devices_are_owned();
-    mem::swap(&mut place.store.members, members);
-    place.store.begin_at(moment);
-    rewire(&mut place.store, number, before);
-    mem::swap(members, &mut place.store.members);
+    mem::swap(&mut buffers.store.members, members);
+    buffers.store.begin_at(moment);
+    rewire(&mut buffers.store, number, before);
+    mem::swap(members, &mut buffers.store.members);
     members.devices_are_owned();
 }

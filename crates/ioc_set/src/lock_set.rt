@@ -3,8 +3,8 @@ ghost use Rattle.std.specs.Prelude.{◌≡◌, ◌<◌, ◌≤◌, ◌^◌, ◌�
 ghost use Rattle.std.specs.FinMap as map;
 ghost use Rattle.ioc_notify.specs.declared.live_numbers.Live.{Live};
 ghost use Rattle.ioc_notify.specs.declared.waiting_lists.Waiting.{Waiting};
-ghost use Rattle.ioc_events.specs.declared.event.Event.TheVariants.{Put, Get, IsLive};
-ghost use Rattle.ioc_events.specs.Step.{stepped, names, refused};
+ghost use Rattle.ioc_events.specs.declared.event.Event.TheVariants.{Put};
+ghost use Rattle.ioc_events.specs.Step.{shown, stepped, names, refused};
 ghost use Rattle.ioc_set.specs.NoCalls.{no_call};
 ghost use Rattle.std.specs.Option.{IfSome};
 ghost use Rattle.ioc_ledger.specs.Requests.{no_counts};
@@ -23,17 +23,16 @@ ghost use Rattle.ioc_set.specs.Doing.{held_by};
 
 use crate::laws::{calm_records_are_sound, held_records_are_sound};
 use crate::linking::clear_history;
-use crate::no_calls::{why_not_put, why_not_shown};
-use crate::set_entry::SetEntry;
+use crate::no_calls::why_not_put;
 use ioc_dbcommon::LinkBox;
-use ioc_events::{Event, Reply};
+use ioc_events::{Event, EventEntry};
 use ioc_fields::{FieldNo, row_of};
 use ioc_ledger::Tally;
 use ioc_links::MAX_DEVICE_BYTES;
 use ioc_names::RecordNo;
 use ioc_notify::{Live, NotifyId, Waiting};
 use ioc_process::scanning::device_of;
-use ioc_record::{RecordKind, stops_put, text_of};
+use ioc_record::{FieldText, RecordKind, stops_put, text_of};
 use ioc_set_records::Members;
 use ioc_set_store::LivePuts;
 use ioc_set_store::live_puts::PutsRoom;
@@ -50,7 +49,7 @@ pub struct LockSet<K: RecordKind, D> {
     pub(crate) tally: Tally,
     // The counts before the first event of the history.
     pub(crate) base_tally: Tally,
-    pub(crate) history: Vec<SetEntry>,
+    pub(crate) history: Vec<EventEntry>,
 }
 
 impl<K: RecordKind, D> Model for LockSet<K, D> {
@@ -72,18 +71,22 @@ impl<K: RecordKind, D> Model for LockSet<K, D> {
 }
 
 // Returns the text of a field of one of these records.
-#[tactic(auto, unfolding(ioc_events::specs::Step::stepped, ioc_events::specs::Step::done_alone, ioc_events::specs::Step::done_there, ioc_store::specs::World::at))]
-fn text_in<K: RecordKind, D>(members: &Members<K, D>, number: RecordNo, field: FieldNo) -> Reply
-    ensures { (answers : Answers) (live : List Live) (waiting : List Waiting)
-        → result ≡ (stepped K.rules answers (resting members.now.records live waiting) (Get number field)).reply }
+#[tactic(auto, unfolding(ioc_events::specs::Step::shown, ioc_store::specs::World::at))]
+fn text_in<K: RecordKind, D>(
+    members: &Members<K, D>,
+    number: RecordNo,
+    field: FieldNo,
+) -> Result<FieldText, IocError>
+    ensures { (live : List Live) (waiting : List Waiting)
+        → result ≡ shown K.rules (resting members.now.records live waiting) number field }
 {
     if !members.has(number) {
-        return Reply::Refused(IocError::NoRecord);
+        return Err(IocError::NoRecord);
     }
     let record = members.record(number);
     match row_of(record.record_type(), field) {
-        Some(_) => Reply::Shown(text_of(record, field)),
-        None => Reply::Refused(IocError::NoField),
+        Some(_) => Ok(text_of(record, field)),
+        None => Err(IocError::NoField),
     }
 }
 
@@ -173,17 +176,17 @@ impl<K: RecordKind, D> LockSet<K, D> {
     ///
     /// # Errors
     ///
-    /// The reply is a refusal, [`IocError::NoRecord`] or [`IocError::NoField`] in this order, if
-    /// there is no such record or field.
-    pub fn get(&self, number: RecordNo, field: FieldNo) -> Reply
-        ensures { (answers : Answers) → result ≡ (stepped K.rules answers (now_of self.now) (Get number field)).reply }
+    /// [`IocError::NoRecord`] or [`IocError::NoField`] in this order, if there is no such record or
+    /// field.
+    pub fn get(&self, number: RecordNo, field: FieldNo) -> Result<FieldText, IocError>
+        ensures { result ≡ shown K.rules (now_of self.now) number field }
     {
         text_in(&self.members, number, field)
     }
 
-    /// Returns the error of a get or a put on a record of this set that is no call: the record's
-    /// type has no such field, or the field can't be put. It would be refused with this error and
-    /// change nothing.
+    /// Returns the error of a put on a record of this set that is no call: the record's type has no
+    /// such field, or the field can't be put. It would be refused with this error and change
+    /// nothing.
     #[tactic(auto, unfolding(crate::specs::NoCalls::no_call, ioc_store::specs::World::at), using(crate::proofs::NoCalls::no_call_is_refused))]
     pub fn no_call(&self, event: &Event) -> Option<IocError>
         requires there { (n : ℕ) → Contains (names event.now) n → Has (now_of self.now) n }
@@ -192,28 +195,11 @@ impl<K: RecordKind, D> LockSet<K, D> {
             → stepped K.rules answers (now_of self.now) event.now ≡ refused (now_of self.now) e) }
     {
         match event {
-            Event::Get(number, field) => {
-                let record = self.members.record(*number);
-                why_not_shown(record.record_type(), *field)
-            }
-            Event::Put(number, field, _) => {
-                let record = self.members.record(*number);
-                why_not_put(record.record_type(), *field)
-            }
-            Event::Notify(number, _, field, _) => {
-                let record = self.members.record(*number);
-                why_not_put(record.record_type(), *field)
+            Event::Put { record, field, .. } | Event::Notify { record, field, .. } => {
+                why_not_put(self.members.record(*record).record_type(), *field)
             }
             _ => None,
         }
-    }
-
-    /// Returns whether a put with notification is live.
-    #[tactic(auto, unfolding(ioc_events::specs::Step::stepped, ioc_events::specs::Step::done_alone, ioc_events::specs::Step::done_there))]
-    pub fn live(&self, number: NotifyId) -> Reply
-        ensures { (answers : Answers) → result ≡ (stepped K.rules answers (now_of self.now) (IsLive number)).reply }
-    {
-        Reply::Live(self.puts.is_live(number))
     }
 
     /// Returns the live puts with notification of the set, with the number of its records and

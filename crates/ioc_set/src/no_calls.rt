@@ -1,21 +1,10 @@
-//! Gets and puts that are no calls.
+//! Puts that are no calls.
 ghost use Rattle.std.specs.Prelude.{◌≡◌};
-ghost use Rattle.ioc_fields.specs.Table.{row_of};
 ghost use Rattle.ioc_record.specs.Values.{kind_to_put};
-ghost use Rattle.ioc_set.specs.NoCalls.{why_not_shown, why_not_put};
+ghost use Rattle.ioc_set.specs.NoCalls.{why_not_put};
 
 use ioc_fields::{FieldNo, RecordType, row_of};
 use ioc_values::IocError;
-
-/// Returns why a field can't be read: the type has no such field.
-pub fn why_not_shown(record_type: RecordType, field: FieldNo) -> Option<IocError>
-    ensures { result ≡ why_not_shown (row_of record_type field) }
-{
-    match row_of(record_type, field) {
-        Some(_) => None,
-        None => Some(IocError::NoField),
-    }
-}
 
 /// Returns why a field can't be put: the type has no such field, or it can't be put.
 #[tactic(auto, unfolding(ioc_record::specs::Values::kind_to_put))]

@@ -4,7 +4,6 @@ ghost use Rattle.std.specs.FinMap.{len};
 ghost use Rattle.std.specs.Vec.{vec_capacity};
 ghost use Rattle.ioc_notify.specs.Living.{is_live};
 ghost use Rattle.ioc_events.specs.Holding.{how_many, HoldersCounted};
-ghost use Rattle.ioc_events.specs.SetReply.{event_by};
 ghost use Rattle.ioc_set_store.specs.Resting.{resting};
 ghost use Rattle.ioc_set_store.specs.Puts.{no_puts, now_with, begun_with, AreNone, HasBegun, is_put_with_notification};
 ghost use Rattle.ioc_set_store.specs.Recounting.{begun_each, own_waiting, together, AreBegun, AreLive};
@@ -13,7 +12,7 @@ use crate::recount::{
     begin_each, copy_live, copy_waiting, count_records, count_waiting, let_go_each, queue_all,
     queue_own,
 };
-use ioc_events::SetEvent;
+use ioc_events::Event;
 use ioc_notify::{Live, NotifyId, Waiting};
 use ioc_record::RecordKind;
 use ioc_set_records::Members;
@@ -78,10 +77,10 @@ impl PutsRoom {
 }
 
 // Returns whether an event is a put with notification.
-fn is_put(event: &SetEvent) -> bool
-    ensures { result ≡ is_put_with_notification (event_by event.now) }
+fn is_put(event: &Event) -> bool
+    ensures { result ≡ is_put_with_notification event.now }
 {
-    matches!(event, SetEvent::Notify(_, _, _, _))
+    matches!(event, Event::Notify { .. })
 }
 
 // Returns whether both lists are empty.
@@ -156,8 +155,8 @@ impl LivePuts {
     ///
     /// [`AllocError`] if allocation fails.
     #[inline(always)]
-    pub fn make_room_for(&mut self, event: &SetEvent, alloc: Global) -> Result<(), AllocError>
-        ensures room { OnOk result (is_put_with_notification (event_by event.now) ≡ true → self.new.has_room ≡ true) }
+    pub fn make_room_for(&mut self, event: &Event, alloc: Global) -> Result<(), AllocError>
+        ensures room { OnOk result (is_put_with_notification event.now ≡ true → self.new.has_room ≡ true) }
         ensures live { self.new.live ≡ self.old.live }
         ensures waiting { self.new.waiting ≡ self.old.waiting }
         ensures base_live { self.new.base_live ≡ self.old.base_live }

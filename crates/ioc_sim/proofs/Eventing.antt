@@ -1,5 +1,6 @@
 -- The effect of an event's code on the machine of a script.
-use Rattle.std.proofs.Common.{◌≡◌, ◌≤◌, ℕ, false, [], List, Option, refl, sym, ap, subst, ◌∙◌}
+use Rattle.std.proofs.Common.{◌≡◌, ◌≤◌, ℕ, [], List, Option, Some, None as None-reason, refl, sym, ap, subst, ◌∙◌}
+use Rattle.std.specs.Prelude.{Result, Ok, Err, OnOk, OnErr, IfErr}
 use Rattle.std.specs.FinMap.{len}
 use Rattle.std.specs.Global.{Vec}
 use Rattle.std.specs.Vec.{vec_capacity}
@@ -13,18 +14,21 @@ use Rattle.ioc_store.specs.Given.{Given, Answers, Begins}
 use Rattle.ioc_process.specs.Runs.{ForAnswers}
 use Rattle.ioc_process.specs.Rules.{IsSettled}
 use Rattle.ioc_events.specs.Events.{Tells}
-use Rattle.ioc_events.specs.Step.{Stepped, stepped, tallied, completes}
-use Rattle.ioc_ledger.specs.Requests.{None, no_counts}
-use Rattle.ioc_process.specs.Answering.{begins_same}
+use Rattle.ioc_events.specs.declared.reply.Reply.TheVariants.{Plain, Refused}
+use Rattle.ioc_values.specs.declared.error.IocError.{IocError}
+use Rattle.ioc_fields.specs.declared.field_no.FieldNo.{FieldNo}
+use Rattle.ioc_dbcommon.specs.declared.link_field.LinkField.{LinkField}
+use Rattle.ioc_events.specs.Step.{stepped, link_refusal, relinked}
+use Rattle.ioc_ledger.specs.Requests.{no_counts}
 use Rattle.ioc_store.specs.declared.one_map.OneMap.{OneMap}
 use Rattle.ioc_store.specs.OneMap.{world_of, given_of, device_at}
 use Rattle.rec_types.specs.Record.{Record, record_rules}
 use Rattle.ioc_sim.specs.declared.machine.Machine.{Machine as Kept}
 use Rattle.ioc_sim.specs.SeenMachine.{machine_of}
-use Rattle.ioc_sim.proofs.Closing.{begun-none, none_yet, settled_same, room_same}
+use Rattle.ioc_sim.proofs.Closing.{none_yet, settled_same, room_same}
 use Rattle.ioc_dbfile.specs.Finished.{Owner}
 use Rattle.ioc_dbfile.specs.OwnerTable.{owner_in}
-use Rattle.ioc_sim.specs.Machine.{Machine, Gives, Queued, TakesAnswer, answers_from, left_after, stepped_on}
+use Rattle.ioc_sim.specs.Machine.{Machine, Gives, Queued, TakesAnswer, answers_from, left_after, stepped_on, relinked_on}
 use Rattle.ioc_sim.specs.Scanner.{Scanner}
 use Rattle.ioc_sim.proofs.Scripting.{left_is, accords}
 
@@ -71,25 +75,6 @@ event_is {R} k m event start w before after t reply begins devices none work cal
       settled = λ leaves is. subst (IsSettled k) (sym told.world) (leaves answers (begun m.world) event is);
     }
 
--- An event without requests and calls of devices counts nothing.
-counts_nothing : {R : Type 0} (t : Tally) (w after : World R) (event : Event) (reply : Reply) → completes event reply ≡ false → w.calls ≡ [] → after.calls ≡ []
-    → tallied t w event (record { world = after; reply = reply; requests = None }) ≡ t
-unfolding tallied
-counts_nothing t w after event reply none before called = rw (none, before, called) refl
-
--- The machine after the code of such an event.
-event_alone : {R : Type 0} (k : RecordRules R) (m : Machine R) (event : Event) (start w : World R) (before after : Given (List Answer)) (t : Tally) (reply : Reply)
-    → start ≡ begun m.world → before.devices ≡ m.queued → before.calls ≡ [] → after ≡ before → after.calls ≡ w.calls → completes event reply ≡ false → t ≡ m.tally
-    → ((answers : Answers) → stepped k answers start event ≡ record { world = w; reply = reply; requests = None })
-    → IsDone k m (record { world = w; queued = after.devices; tally = t; scanner = m.scanner; owner = m.owner; next = m.next; ended = m.ended }) reply event
-event_alone {R} k m event start w before after t reply begins devices none same calls completed kept step =
-    event_is k m event start w before after t reply begins devices none (begins_same same) calls
-    (λ answers accords. record {
-      world = sym (ap (λ (s : Stepped R). s.world) (step answers));
-      reply = sym (ap (λ (s : Stepped R). s.reply) (step answers));
-      tally = kept ∙ sym (ap (tallied m.tally start event) (step answers) ∙ counts_nothing m.tally start w event reply completed (begun-none m.world start begins) (sym calls ∙ ap (λ (g : Given (List Answer)). g.calls) same ∙ none));
-    })
-
 -- The machine of the code with these records and devices, and these counts.
 abbrev run_on : Kept → OneMap Record (List Answer) → Tally → Machine Record
 run_on m after t =
@@ -134,9 +119,48 @@ module _ (m : Kept) (event : Event) (start after : OneMap Record (List Answer)) 
       left_by t reply
       (event_is record_rules (machine_of m) event (world_of start) (world_of after) (given_of start) (given_of after) t reply begins devices_same (none_yet start (world_of m.map) begins) work refl step)
 
-  pub event_alone_on : (reply : Reply) → given_of after ≡ given_of start → completes event reply ≡ false
-      → ((answers : Answers) → stepped record_rules answers (world_of start) event ≡ record { world = world_of after; reply = reply; requests = None })
-      → Leaves m event after m.tally reply
-  event_alone_on reply kept completed step =
-      left_by m.tally reply
-      (event_alone record_rules (machine_of m) event (world_of start) (world_of after) (given_of start) (given_of after) m.tally reply begins devices_same (none_yet start (world_of m.map) begins) kept refl completed refl step)
+-- A machine after the code of a link change, with the same devices and counts.
+module _ (m : Kept) (start after : OneMap Record (List Answer)) (begins : world_of start ≡ begun (world_of m.map)) (same : start.devices ≡ m.map.devices) (kept : given_of after ≡ given_of start) (n : ℕ) (field : FieldNo) (link : LinkField) where
+  devices_kept : device_at after.devices.items ≡ device_at m.map.devices.items
+  devices_kept = ap (λ (g : Given (List Answer)). g.devices) kept ∙ ap (λ (v : Vec (Option (List Answer))). device_at v.items) same
+
+  refused_on : (e : Option IocError) → link_refusal record_rules (world_of start) n field link ≡ e → link_refusal record_rules (begun (world_of m.map)) n field link ≡ e
+  refused_on e is = subst (λ (w : World Record). link_refusal record_rules w n field link ≡ e) begins is
+
+  pub link_on : link_refusal record_rules (world_of start) n field link ≡ None-reason → world_of after ≡ relinked record_rules (world_of start) n field link
+      → Gives (relinked_on record_rules (machine_of m) n field link) (run_on m after m.tally) Plain
+  unfolding relinked_on
+  link_on taken is =
+      rw (refused_on None-reason taken)
+      (same_machine m.next m.ended.items _ _ _ _ _ _ _ _ _ _ refl (is ∙ ap (λ (w : World Record). relinked record_rules w n field link) begins) devices_kept refl refl, refl)
+
+  pub no_link_on : (e : IocError) → link_refusal record_rules (world_of start) n field link ≡ Some e → world_of after ≡ world_of start
+      → Gives (relinked_on record_rules (machine_of m) n field link) (run_on m after m.tally) (Refused e)
+  unfolding relinked_on
+  no_link_on e refused is =
+      rw (refused_on (Some e) refused) (same_machine m.next m.ended.items _ _ _ _ _ _ _ _ _ _ refl (is ∙ begins) devices_kept refl refl, refl)
+
+-- What is true of a successful result, and of one that fails.
+pub on_ok : {T E : Type 0} (r : Result T E) (x : T) (P : Type 0) → r ≡ Ok x → OnOk r P → P
+on_ok r x P is p = subst (λ (s : Result _ _). OnOk s P) is p
+
+pub on_err : {T E : Type 0} (r : Result T E) (e : E) (P : Type 0) → r ≡ Err e → OnErr r P → P
+on_err r e P is p = subst (λ (s : Result _ _). OnErr s P) is p
+
+pub if_err : {T E : Type 0} (r : Result T E) (e : E) (P : E → Type 0) → r ≡ Err e → IfErr r P → P e
+if_err r e P is p = subst (λ (s : Result _ _). IfErr s P) is p
+
+-- After a link change, refused or not, no link leaves the records and their number is the same.
+module _ {T E : Type 0} (n : ℕ) (field : FieldNo) (link : LinkField) (w after : World Record) where
+  pub link_settled : (r : Result T E)
+      → ((v : World Record) (m : ℕ) (f : FieldNo) (l : LinkField) → link_refusal record_rules v m f l ≡ None-reason → IsSettled record_rules v → IsSettled record_rules (relinked record_rules v m f l))
+      → OnOk r (link_refusal record_rules w n field link ≡ None-reason) → OnOk r (after ≡ relinked record_rules w n field link) → OnErr r (after ≡ w) → IsSettled record_rules w → IsSettled record_rules after
+  link_settled (Ok x) keeps taken is same settled = subst (λ (v : World Record). IsSettled record_rules v) (sym is) (keeps w n field link taken settled)
+  link_settled (Err e) keeps taken is same settled = subst (λ (v : World Record). IsSettled record_rules v) (sym same) settled
+
+  pub link_count : (r : Result T E)
+      → ((v : World Record) (m : ℕ) (f : FieldNo) (l : LinkField) → link_refusal record_rules v m f l ≡ None-reason → IsClosed record_rules v → len (relinked record_rules v m f l).records ≡ len v.records)
+      → OnOk r (link_refusal record_rules w n field link ≡ None-reason) → OnOk r (after ≡ relinked record_rules w n field link) → OnErr r (after ≡ w) → IsClosed record_rules w
+      → len after.records ≡ len w.records
+  link_count (Ok x) keeps taken is same closed = ap (λ (v : World Record). len v.records) is ∙ keeps w n field link taken closed
+  link_count (Err e) keeps taken is same closed = ap (λ (v : World Record). len v.records) same

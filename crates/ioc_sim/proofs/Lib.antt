@@ -3,4 +3,3 @@ pub mod Eventing
 pub mod Serving
 pub mod Closing
 pub mod Joining
-pub mod Starting

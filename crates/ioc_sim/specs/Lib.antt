@@ -1,5 +1,4 @@
 pub mod Scanner
-pub mod FirstLists
 pub mod Machine
 pub mod SeenMachine
 pub mod Leads

@@ -26,13 +26,14 @@ use Rattle.ioc_events.specs.declared.reply.Reply.TheVariants.{Plain, Refused}
 use Rattle.ioc_store.specs.Given.{Answers, Devices, with_device}
 use Rattle.ioc_store.specs.OneMap.{device_at}
 use Rattle.ioc_store.specs.World.{World, begun, begun_at}
-use Rattle.ioc_events.specs.Step.{stepped, tallied, is_refusal}
+use Rattle.ioc_dbcommon.specs.declared.link_field.LinkField.{LinkField}
+use Rattle.ioc_events.specs.Step.{stepped, tallied, is_refusal, link_refusal, relinked}
+use Rattle.ioc_scanner.specs.declared.places.Occasion.TheVariants.{Scanning as When-scanned}
+use Rattle.ioc_scanner.specs.FirstLists.{first_lists, starters}
 use Rattle.ioc_dbfile.specs.FirstWorld.{first_world}
 use Rattle.ioc_dbfile.specs.Finished.{Owner}
 use Rattle.ioc_dbfile.specs.Owners.{owner_of, owns_device}
-use Rattle.ioc_sim.specs.declared.first_lists.Occasion.TheVariants.{Scanning as When-scanned}
 use Rattle.ioc_sim.specs.Scanner.{Scanner, called_on, with_outbox}
-use Rattle.ioc_sim.specs.FirstLists.{first_lists, starters}
 
 -- The answers that are queued for the device of each record that has one.
 abbrev pub Queued : Type 0
@@ -160,9 +161,25 @@ module _ {R : Type 0} (k : RecordRules R) where
         reply = step.reply;
       }
 
+  -- A change of a link, unless it is refused, without what it sent.
+  abbrev pub relinked_unless : Option IocError → Machine R → ℕ → FieldNo → LinkField → MachineReply R
+  relinked_unless (Some e) m n field link = refused (record m { world = begun m.world }) e
+  relinked_unless Nothing_ m n field link = record { machine = record m { world = relinked k (begun m.world) n field link }; reply = Plain }
+
+  unfoldable pub relinked_on : Machine R → ℕ → FieldNo → LinkField → MachineReply R
+  relinked_on m n field link = relinked_unless (link_refusal k (begun m.world) n field link) m n field link
+
+  -- A machine and a reply, with what was sent.
+  abbrev pub after_sent : MachineReply R → MachineReply R
+  after_sent told = record { machine = with_sent told.machine; reply = told.reply }
+
   -- An event, with what it sent.
   abbrev pub done : Machine R → Event → MachineReply R
-  done m event = let told = stepped_on m event in record { machine = with_sent told.machine; reply = told.reply }
+  done m event = after_sent (stepped_on m event)
+
+  -- A change of a link, with what it sent.
+  abbrev pub linked : Machine R → ℕ → FieldNo → LinkField → MachineReply R
+  linked m n field link = after_sent (relinked_on m n field link)
 
   -- A put with notification, under the next number.
   abbrev pub notified : Machine R → ℕ → FieldNo → Input → MachineReply R

@@ -2,7 +2,6 @@
 //! effects of events on them.
 #![tactic(auto)]
 
-pub mod first_lists;
 mod leads;
 pub mod machine;
 pub mod scanner;
@@ -12,6 +11,6 @@ pub mod sets;
 pub mod settled;
 
 pub use machine::Machine;
-pub use scanner::{Scanner, event_list, interrupt_list};
+pub use scanner::Scanner;
 pub use scripted::Scripted;
 pub use settled::event_leaves_settled;

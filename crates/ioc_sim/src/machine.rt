@@ -11,23 +11,24 @@ ghost use Rattle.ioc_store.specs.Given.{Answers};
 ghost use Rattle.ioc_store.specs.OneMap.{world_of};
 ghost use Rattle.ioc_store.specs.World.{World, begun};
 ghost use Rattle.ioc_callback.specs.Serving.{no_items};
-ghost use Rattle.ioc_sim.specs.declared.first_lists.Occasion.TheVariants.{Scanning};
-ghost use Rattle.ioc_sim.specs.FirstLists.{first_lists};
+ghost use Rattle.ioc_scanner.specs.declared.places.Occasion.TheVariants.{Scanning};
+ghost use Rattle.ioc_scanner.specs.FirstLists.{first_lists};
 ghost use Rattle.ioc_sim.specs.Machine.{first_queue};
 
-use crate::first_lists::{Occasion, first_lists, starters};
 use crate::leads::lead_among;
 use crate::scanner::Scanner;
 use crate::scripted::Scripted;
-use crate::settled::{event_keeps_count, event_leaves_settled};
+use crate::settled::{event_leaves_settled, link_change_keeps};
 use ioc_dbcommon::{LinkBox, LinkField};
 use ioc_dbfile::{Owners, owners_of, owns_device};
-use ioc_events::{Effect, Reply, SetEvent, make_request, make_spelled_put, run_event, run_link};
+use ioc_events::{Event, Reply, make_spelled_put, run_event, run_link};
 use ioc_fields::FieldNo;
 use ioc_ledger::Tally;
 use ioc_links::Link;
 use ioc_names::{Names, RecordNo};
 use ioc_notify::NotifyId;
+use ioc_scanner::first_lists::{first_lists, starters};
+use ioc_scanner::places::Occasion;
 use ioc_store::{EventStore, Frame, OneMap};
 use ioc_values::{Finished, Input};
 use rec_types::Record;
@@ -120,13 +121,12 @@ fn map_of(
 }
 
 impl Machine {
-    ghost use Rattle.ioc_events.specs.declared.event.Event.TheVariants.{Process, Put, Complete, Link as Link_event};
-    ghost use Rattle.ioc_events.specs.Events.{reply_of};
-    ghost use Rattle.ioc_events.specs.SetReply.{event_by};
+    ghost use Rattle.ioc_events.specs.declared.event.Event.TheVariants.{Process, Put, Complete};
     ghost use Rattle.ioc_values.specs.Conversion.{input_of};
-    ghost use Rattle.ioc_sim.specs.FirstLists.{starters};
+    ghost use Rattle.ioc_scanner.specs.FirstLists.{starters};
     ghost use Rattle.ioc_sim.specs.Leads.{field_of_link};
     ghost use Rattle.ioc_sim.specs.Machine.{loaded_machine, first_machine, Gives, stepped_on, done, notified, given_up};
+    ghost use Rattle.ioc_sim.specs.Machine.{relinked_on, linked};
     ghost use Rattle.ioc_sim.specs.Machine.{with_ended_kept, with_sent, with_none_ended};
     ghost use Rattle.ioc_sim.specs.SeenMachine.{machine_of};
 
@@ -160,7 +160,7 @@ impl Machine {
     /// # Errors
     ///
     /// [`AllocError`] if allocation fails.
-    #[tactic(auto, unfolding(crate::specs::FirstLists::starters))]
+    #[tactic(auto, unfolding(ioc_scanner::specs::FirstLists::starters))]
     pub fn new(alloc: Global, records: Vec<Record>) -> Result<Self, AllocError>
         requires { IsSettled record_rules (first_world records.items) }
         ensures { IfOk result (λ m. machine_of m ≡ first_machine record_rules records.items) }
@@ -193,20 +193,11 @@ impl Machine {
         self.scanner.dropped()
     }
 
-    // Requests a record, without taking what the event sends.
-    #[tactic(auto, using(crate::proofs::Eventing::closed_on, crate::proofs::Eventing::room_on))]
-    fn request(&mut self, number: RecordNo) -> Effect
-        ensures { Gives (stepped_on record_rules (machine_of self.old) (Process number)) (machine_of self.new) (reply_of result) }
-    {
-        begin_event(&mut self.map);
-        make_request(&mut self.map, &mut self.frames, number, &mut self.tally)
-    }
-
     // Puts the value of a text into a field, without taking what the event sends.
     #[tactic(auto, using(crate::proofs::Eventing::closed_on, crate::proofs::Eventing::room_on))]
-    fn store(&mut self, number: RecordNo, field: FieldNo, text: &[u8]) -> Effect
+    fn store(&mut self, number: RecordNo, field: FieldNo, text: &[u8]) -> Reply
         ensures { Gives (stepped_on record_rules (machine_of self.old) (Put number field (input_of text.now)))
-            (machine_of self.new) (reply_of result) }
+            (machine_of self.new) result }
     {
         let map = &mut self.map;
         begin_event(map);
@@ -217,21 +208,23 @@ impl Machine {
     // of its event.
     #[inline(always)]
     #[tactic(auto, using(crate::proofs::Eventing::closed_on, crate::proofs::Eventing::room_on))]
-    fn do_event(&mut self, event: &SetEvent) -> Reply
-        ensures { Gives (stepped_on record_rules (machine_of self.old) (event_by event.now)) (machine_of self.new) result }
+    fn do_event(&mut self, event: &Event) -> Reply
+        ensures { Gives (stepped_on record_rules (machine_of self.old) event.now) (machine_of self.new) result }
     {
         begin_event(&mut self.map);
-        run_event(&mut self.map, &mut self.frames, event, &mut self.tally).reply()
+        run_event(&mut self.map, &mut self.frames, event, &mut self.tally)
     }
 
-    // Changes a link, without taking what the event sends.
+    // Changes a link, without taking what the change sends.
     fn relink(&mut self, number: RecordNo, field: FieldNo, link: LinkBox) -> Reply
-        ensures { Gives (stepped_on record_rules (machine_of self.old) (Link_event number field link))
-            (machine_of self.new) result }
+        ensures { Gives (relinked_on record_rules (machine_of self.old) number field link) (machine_of self.new) result }
     {
-        event_keeps_count();
+        link_change_keeps();
         begin_event(&mut self.map);
-        run_link(&mut self.map, number, field, link)
+        match run_link(&mut self.map, number, field, link) {
+            Ok(()) => Reply::Plain,
+            Err(refused) => Reply::Refused(refused),
+        }
     }
 
     // Keeps the puts with notification that ended in an event. Not inlined, because in most events
@@ -256,30 +249,30 @@ impl Machine {
         self.keep_ended()
     }
 
-    /// Requests a record, and returns the effect.
+    /// Requests a record, and returns the reply.
     ///
     /// # Errors
     ///
     /// [`AllocError`] if allocation fails; not all that the event has sent is taken then.
-    pub fn process(&mut self, number: RecordNo) -> Result<Effect, AllocError>
-        ensures { IfOk result (λ effect. Gives (done record_rules (machine_of self.old) (Process number))
-            (machine_of self.new) (reply_of effect)) }
+    pub fn process(&mut self, number: RecordNo) -> Result<Reply, AllocError>
+        ensures { IfOk result (λ reply. Gives (done record_rules (machine_of self.old) (Process number))
+            (machine_of self.new) reply) }
     {
-        let effect = self.request(number);
+        let reply = self.do_event(&Event::Process { record: number });
         self.send()?;
-        Ok(effect)
+        Ok(reply)
     }
 
-    // Requests a record without returning the effect.
+    // Requests a record without returning the reply.
     #[inline(never)]
     pub(crate) fn process_untold(&mut self, number: RecordNo) -> Result<(), AllocError>
         ensures { OnOk result (machine_of self.new ≡ (done record_rules (machine_of self.old) (Process number)).machine) }
     {
-        let _effect = self.process(number)?;
+        let _reply = self.process(number)?;
         Ok(())
     }
 
-    /// Puts the value of a text into a field, and returns the effect.
+    /// Puts the value of a text into a field, and returns the reply.
     ///
     /// # Errors
     ///
@@ -289,13 +282,13 @@ impl Machine {
         number: RecordNo,
         field: FieldNo,
         text: &[u8],
-    ) -> Result<Effect, AllocError>
-        ensures { IfOk result (λ effect. Gives (done record_rules (machine_of self.old) (Put number field (input_of text.now)))
-            (machine_of self.new) (reply_of effect)) }
+    ) -> Result<Reply, AllocError>
+        ensures { IfOk result (λ reply. Gives (done record_rules (machine_of self.old) (Put number field (input_of text.now)))
+            (machine_of self.new) reply) }
     {
-        let effect = self.store(number, field, text);
+        let reply = self.store(number, field, text);
         self.send()?;
-        Ok(effect)
+        Ok(reply)
     }
 
     /// Completes a record with the asynchronous answer of its device.
@@ -312,7 +305,11 @@ impl Machine {
         ensures { IfOk result (λ reply. Gives (done record_rules (machine_of self.old) (Complete number wait finished))
             (machine_of self.new) reply) }
     {
-        let reply = self.do_event(&SetEvent::Complete(number, wait, finished));
+        let reply = self.do_event(&Event::Complete {
+            record: number,
+            wait,
+            finished,
+        });
         self.send()?;
         Ok(reply)
     }
@@ -331,9 +328,9 @@ impl Machine {
         field: FieldNo,
         link: &Link,
     ) -> Result<Reply, AllocError>
-        ensures { IfOk result (λ reply. Gives (done record_rules (machine_of self.old)
-            (Link_event number field (field_of_link record_rules names.now (machine_of self.old).owner
-            (machine_of self.old).world number link.now)))
+        ensures { IfOk result (λ reply. Gives (linked record_rules (machine_of self.old) number field
+            (field_of_link record_rules names.now (machine_of self.old).owner
+            (machine_of self.old).world number link.now))
             (machine_of self.new) reply) }
     {
         let lead = lead_among(names, &self.map, &self.owners, number, link);
@@ -359,7 +356,12 @@ impl Machine {
             (machine_of self.new) reply) }
     {
         let notification = NotifyId::new(self.next);
-        let reply = self.do_event(&SetEvent::Notify(number, notification, field, given));
+        let reply = self.do_event(&Event::Notify {
+            record: number,
+            notification,
+            field,
+            value: given,
+        });
         self.send()?;
         if !matches!(reply, Reply::Refused(_)) {
             self.next = self.next.saturating_add(1);
@@ -376,7 +378,7 @@ impl Machine {
         ensures { IfOk result (λ reply. Gives (given_up record_rules (machine_of self.old) notification)
             (machine_of self.new) reply) }
     {
-        let reply = self.do_event(&SetEvent::Cancel(notification));
+        let reply = self.do_event(&Event::Cancel { notification });
         self.send()?;
         Ok(reply)
     }

@@ -1,18 +1,16 @@
 //! The scan lists and the queues of a database.
 ghost use Rattle.std.specs.Prelude.{◌≡◌, ◌≤◌, ◌+◌, ◌∷◌, [], length, IfOk, OnOk};
-ghost use Rattle.rec_types.specs.Record.{record_rules};
 ghost use Rattle.ioc_callback.specs.Serving.{no_items};
 ghost use Rattle.ioc_store.specs.Outbox.{items_of};
-ghost use Rattle.ioc_sim.specs.Scanner.{with_each_called, count_called, called_on, event_list, interrupt_list};
-ghost use Rattle.ioc_sim.specs.Scanner.{with_change, with_item, with_items, with_more_dropped};
+ghost use Rattle.ioc_scanner.specs.Asked.{callbacks_of, drops, requests_of};
+ghost use Rattle.ioc_sim.specs.Scanner.{with_requests, count_called, called_on, with_dropped_if, with_item, with_items, with_more_dropped};
 
-use crate::first_lists::place_by;
 use ioc_callback::Queues;
 use ioc_names::RecordNo;
-use ioc_scan::{ListName, Listed, ScanLists, event_word, given_word};
+use ioc_scan::{ListName, Listed, ScanLists};
+use ioc_scanner::{Asked, calls, take_item};
+use ioc_store::OutboxItem;
 use ioc_store::outbox::Outbox;
-use ioc_store::{OutboxItem, ScanChange};
-use ioc_values::Text;
 use std::alloc::{AllocError, Global};
 use std::marker::Model;
 
@@ -33,9 +31,10 @@ impl Model for Scanner {
     ghost view = { λ s. record { lists = s.lists; queues = s.queues } };
 }
 
-// Puts each record on the callback queue of its priority, and returns how many found room.
-fn call_each(queues: &mut Queues<RecordNo>, listed: &[Listed]) -> u64
-    ensures queues { queues.new ≡ with_each_called queues.old listed.now }
+// Puts a request of each record on the callback queue of its priority, and returns how many found
+// room.
+fn push_each(queues: &mut Queues<RecordNo>, listed: &[Listed]) -> u64
+    ensures queues { queues.new ≡ with_requests queues.old (callbacks_of listed.now) }
     ensures count { result ≡ count_called queues.old listed.now }
 {
     let mut count = 0;
@@ -49,24 +48,27 @@ fn call_each(queues: &mut Queues<RecordNo>, listed: &[Listed]) -> u64
     count
 }
 
-/// Returns the list of the records that wait for an event with this name.
-pub fn event_list(name: Text) -> Option<ListName>
-    ensures { result ≡ event_list name }
+// Puts the requests that an item asks for on their queues; `walked` are the records of the list of
+// the event that it posts.
+fn push_asked(queues: &mut Queues<RecordNo>, asked: Asked, walked: &[Listed])
+    ensures { queues.new ≡ with_requests (with_dropped_if (drops asked) queues.old) (requests_of asked walked.now) }
 {
-    Some(ListName::Event(event_word(name)?))
-}
-
-/// Returns the list of the records with a device link whose first word is this.
-pub fn interrupt_list(word: &[u8]) -> Option<ListName>
-    ensures { result ≡ interrupt_list word.now }
-{
-    Some(ListName::Interrupt(given_word(word)?))
+    match asked {
+        Asked::Once(number) => {
+            // The queues count a request that finds no room.
+            let _dropped = queues.push_once(number);
+        }
+        Asked::Calls => {
+            let _queued = push_each(queues, walked);
+        }
+        Asked::Change => {}
+        Asked::Dropped => queues.dropped = queues.dropped.saturating_add(1),
+    }
 }
 
 impl Scanner {
     ghost use Rattle.std.specs.Prelude.{◌++◌, option_to_list, IsSome, ◌↔◌, ◌<◌};
     ghost use Rattle.ioc_callback.specs.Serving.{in_turn, served};
-    ghost use Rattle.ioc_store.specs.declared.outbox.OutboxItem.TheVariants.{Once};
     ghost use Rattle.ioc_scan.specs.Walked.{walked};
 
     /// Creates a scanner with these lists and no waiting requests.
@@ -122,49 +124,16 @@ impl Scanner {
         ensures scanner { OnOk result (self.new ≡ (called_on self.old list).scanner) }
         ensures count { IfOk result (λ count. count ≡ (called_on self.old list).count) }
     {
-        match list {
-            Some(list) => {
-                self.lists.walk(&list, &mut self.walked)?;
-                Ok(call_each(&mut self.queues, self.walked.as_slice()))
-            }
-            None => Ok(0),
-        }
+        calls(&self.lists, list, &mut self.walked)?;
+        Ok(push_each(&mut self.queues, self.walked.as_slice()))
     }
 
-    // Queues a once request, or drops it.
-    fn wait_once(&mut self, number: RecordNo)
-        ensures { self.new ≡ with_item self.old (Once number) }
-    {
-        // The queues count a request that finds no room.
-        let _dropped = self.queues.push_once(number);
-    }
-
-    // Moves a record to another list, or takes it off its list.
-    fn change(&mut self, change: &ScanChange) -> Result<(), AllocError>
-        ensures { OnOk result (self.new ≡ with_change self.old change.now) }
-    {
-        if change.target.index() >= self.lists.len() {
-            return Ok(());
-        }
-        if !self.lists.can_change() {
-            self.queues.dropped = self.queues.dropped.saturating_add(1);
-            return Ok(());
-        }
-        let place = place_by(&change.scanning, change.device);
-        self.lists.change(change.target, change.number, place)
-    }
-
-    // Takes an item that an event has sent.
+    // Takes an item that an event has sent: queues what it asks for.
     fn do_item(&mut self, item: &OutboxItem) -> Result<(), AllocError>
         ensures { OnOk result (self.new ≡ with_item self.old item.now) }
     {
-        match item {
-            OutboxItem::Once(number) => self.wait_once(*number),
-            OutboxItem::Post(name) => {
-                let _queued = self.call(event_list(*name))?;
-            }
-            OutboxItem::Change(change) => self.change(change)?,
-        }
+        let asked = take_item(&mut self.lists, item, &mut self.walked)?;
+        push_asked(&mut self.queues, asked, self.walked.as_slice());
         Ok(())
     }
 

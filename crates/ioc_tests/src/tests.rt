@@ -14,6 +14,7 @@ mod notifications;
 mod numbers;
 mod parts;
 mod programs;
+mod queues;
 mod relinks;
 mod rows;
 mod scans;

@@ -4,7 +4,7 @@ ghost use Rattle.std.specs.Sync.Mutex.{mutex_guard_value};
 ghost use Rattle.ioc_values.specs.declared.error.IocError.TheVariants.{NoRecord};
 ghost use Rattle.ioc_topology.specs.Change.{IsRefused};
 
-use crate::free_cells::FreeCells;
+use crate::cell_keys::CellKeys;
 use crate::locked::Locked;
 use crate::marks::Marks;
 use crossbeam_utils::CachePadded;
@@ -53,8 +53,8 @@ pub struct Directory<S: Locked> {
     pub(crate) homes: Vec<AtomicU64>,
     pub(crate) cells: Vec<SetCell<S>>,
     pub(crate) flags: Vec<AtomicBool>,
-    // Used only under the topology guard.
-    pub(crate) free: Mutex<FreeCells<S>>,
+    // The keys of the cells that have a set. Used only under the topology guard.
+    pub(crate) keys: Mutex<CellKeys<S>>,
     pub(crate) topology: Mutex<()>,
     // Used only by `gather`.
     pub(crate) marks: Marks,
@@ -90,7 +90,7 @@ impl<S: Locked> Directory<S> {
             homes,
             cells,
             flags,
-            free: Mutex::new(FreeCells::new(alloc, most)?),
+            keys: Mutex::new(CellKeys::new(alloc)),
             topology: Mutex::new(()),
             marks: Marks::new(alloc, count)?,
         })
@@ -104,7 +104,7 @@ impl<S: Locked> Directory<S> {
         self.homes.len()
     }
 
-    /// Adds a set, in a new cell that becomes the home of its records. The room that
+    /// Adds a set, in a cell that has none and becomes the home of its records. The room that
     /// [`gather`](Directory::gather) needs for it is allocated first.
     ///
     /// # Errors
@@ -114,11 +114,12 @@ impl<S: Locked> Directory<S> {
     pub fn add(&mut self, alloc: Global, set: S) -> Result<(), AllocError>
         ensures { self.new ≡ self.old }
     {
-        let place = self.free.get_mut().make(alloc, self.cells.as_slice(), set)?;
+        let place = self.keys.get_mut().take(alloc, self.cells.as_slice())?;
         let key = place.key;
-        if let Some(set) = set_in(self.cells.as_mut_slice(), key) {
-            set_homes(&self.homes, set, key);
-            let may_be_taken = set.may_be_taken();
+        if let Some(cell) = set_in(self.cells.as_mut_slice(), key) {
+            *cell = set;
+            set_homes(&self.homes, cell, key);
+            let may_be_taken = cell.may_be_taken();
             self.set_flag(key, may_be_taken);
         }
         Ok(())

@@ -38,9 +38,9 @@ impl<S: Locked> Directory<S> {
         rt: &R,
         alloc: Global,
     ) -> Result<Vec<KeyedCell<'_, S>>, AllocError> {
-        let made = self.free.lock(rt).made();
+        let bound = self.keys.lock(rt).bound();
         let mut flagged = Vec::new(alloc);
-        for (key, flag) in self.flags.iter().enumerate().take(made) {
+        for (key, flag) in self.flags.iter().enumerate().take(bound) {
             if flag.load(Ordering::SeqCst) {
                 if let Some(lock) = self.lock_at(key) {
                     flagged.push(KeyedCell { key, lock })?;

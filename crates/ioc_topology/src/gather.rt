@@ -19,9 +19,9 @@ impl<S: Locked> Directory<S> {
     {
         let count = self.homes.len();
         let mut marks = self.marks.take(alloc);
-        let (made, mut sets) = self.free.get_mut().take_room(alloc);
+        let (keys, mut sets) = self.keys.get_mut().take_room(alloc);
         self.homes.clear();
-        for key in 0..made {
+        for (key, ()) in keys {
             if let Some(set) = take_set(alloc, self.cells.as_mut_slice(), key) {
                 sets.push_reserved(set);
             }

@@ -6,9 +6,9 @@
 //! Developer's Guide, "Database Locking, Scanning, and Processing", lock sets.
 #![tactic(auto)]
 
+mod cell_keys;
 pub mod directory;
 mod flags;
-mod free_cells;
 pub mod gather;
 pub mod link_cells;
 pub mod locked;

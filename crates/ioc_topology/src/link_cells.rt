@@ -1,22 +1,35 @@
 //! The parts of a link change: the places of the sets of two records, their locks, and the homes of
 //! the records afterwards.
-ghost use Rattle.std.specs.Prelude.{◌↔◌, ◌<◌, IsTrue, IfSome, IfOk, IfErr, OnOk};
+ghost use Rattle.std.specs.Prelude.{◌≢◌, ◌↔◌, ◌<◌, IsTrue, IfSome, IfOk, IfErr, OnOk};
 ghost use Rattle.ioc_topology.specs.Change.{AreKnown, AreLent, AreSound, OtherIsRefused, LinkIsRefused};
+ghost use Rattle.ioc_topology.specs.Keys.{AllDiffer};
 
 use crate::directory::{Directory, KeyedCell, set_homes};
 use crate::locked::Locked;
 use ioc_names::RecordNo;
 use ioc_values::IocError;
 use std::alloc::{AllocError, Global};
+use std::marker::Model;
 use std::sync::{MutexGuard, Wait};
 
-/// Two cells with sets without records. They are the home of no record yet.
+/// Two cells with sets without records. They are the home of no record yet. Contracts see their
+/// keys, which differ.
 #[derive(Drop)]
 pub struct NewCells<'a, S: Locked> {
     // The place of the second set, if no other set is concerned.
-    beside: KeyedCell<'a, S>,
+    pub(crate) beside: KeyedCell<'a, S>,
     // The place of the spare set.
-    spare: KeyedCell<'a, S>,
+    pub(crate) spare: KeyedCell<'a, S>,
+}
+
+impl<'a, S: Locked> Model for NewCells<'a, S> {
+    ghost use Rattle.std.specs.Prelude.{ℕ, ◌≢◌};
+
+    ghost Value = { ℕ × ℕ };
+
+    ghost view = { λ n. (n.beside.key, n.spare.key) };
+
+    ghost invariant = { λ n. n.beside.key ≢ n.spare.key };
 }
 
 impl<'a, S: Locked> NewCells<'a, S> {
@@ -26,11 +39,22 @@ impl<'a, S: Locked> NewCells<'a, S> {
     }
 }
 
-/// The places of the two sets of a link change.
+/// The places of the two sets of a link change. Contracts see the keys of their cells, which
+/// differ.
 #[derive(Drop)]
 pub struct LinkCells<'a, S: Locked> {
     first: KeyedCell<'a, S>,
     second: KeyedCell<'a, S>,
+}
+
+impl<'a, S: Locked> Model for LinkCells<'a, S> {
+    ghost use Rattle.std.specs.Prelude.{ℕ, ◌≢◌};
+
+    ghost Value = { ℕ × ℕ };
+
+    ghost view = { λ l. (l.first.key, l.second.key) };
+
+    ghost invariant = { λ l. l.first.key ≢ l.second.key };
 }
 
 impl<'a, S: Locked> LinkCells<'a, S> {
@@ -54,24 +78,22 @@ impl<S: Locked> Directory<S> {
         self.topology.lock(rt)
     }
 
-    /// Returns the cells that a link change may need, which were left or are made now.
+    /// Returns the cells that a link change may need, which were left or are made now. Their keys
+    /// are those of no other set.
     ///
     /// # Errors
     ///
     /// [`AllocError`] if allocation fails; nothing has changed then.
-    pub fn new_cells<R: Wait>(&self, rt: &R, alloc: Global) -> Result<NewCells<'_, S>, AllocError> {
-        let beside = self.new_place(rt, alloc)?;
-        match self.new_place(rt, alloc) {
-            Ok(spare) => Ok(NewCells { beside, spare }),
-            Err(refused) => {
-                self.leave(rt, beside.key);
-                Err(refused)
-            }
-        }
+    pub fn new_cells<R: Wait>(&self, rt: &R, alloc: Global) -> Result<NewCells<'_, S>, AllocError>
+        ensures apart { IfOk result (λ new. new.0 ≢ new.1) }
+    {
+        let mut keys = self.keys.lock(rt);
+        keys.take_two(alloc, self.cells.as_slice())
     }
 
     /// Returns the places of both records, or `None` if one of them is in no set. If there is no
-    /// other record, or both are in the same set, the second place is a new one.
+    /// other record, or both are in the same set, the second place is a new one. The cells of both
+    /// places and of the spare set have different keys, so a link change locks none of them twice.
     ///
     /// # Errors
     ///
@@ -83,6 +105,7 @@ impl<S: Locked> Directory<S> {
         other: &Option<RecordNo>,
     ) -> Result<Option<LinkCells<'a, S>>, IocError>
         ensures known { IfOk result (λ both. IfSome both (λ _. AreKnown self.now number other.now)) }
+        ensures apart { IfOk result (λ both. IfSome both (λ b. AllDiffer b.0 b.1 new.now.1)) }
         ensures refused { IfErr result (LinkIsRefused self.now number other.now) }
     {
         let Some(first) = self.place_of(number)? else {
@@ -91,6 +114,11 @@ impl<S: Locked> Directory<S> {
         let Some(second) = self.second_place(&first, &new.beside, other)? else {
             return Ok(None);
         };
+        // The new cells are the home of no record.
+        let spare = new.spare.key;
+        if first.key == second.key || first.key == spare || second.key == spare {
+            return Ok(None);
+        }
         Ok(Some(LinkCells { first, second }))
     }
 
@@ -143,17 +171,6 @@ impl<S: Locked> Directory<S> {
         }))
     }
 
-    // Returns a cell with a set without records: one that was left, or the next one.
-    fn new_place(&self, rt: &impl Wait, alloc: Global) -> Result<KeyedCell<'_, S>, AllocError> {
-        let mut free = self.free.lock(rt);
-        if let Some(key) = free.take() {
-            if let Some(lock) = self.lock_at(key) {
-                return Ok(KeyedCell { key, lock });
-            }
-        }
-        free.make(alloc, self.cells.as_slice(), S::empty(alloc))
-    }
-
     // Makes a cell the home of the records of its set, which is locked, or leaves the cell if there
     // are none. Its flag is as the set says.
     fn settle(&self, rt: &impl Wait, set: &S, key: usize) {
@@ -167,7 +184,7 @@ impl<S: Locked> Directory<S> {
 
     // Leaves a cell, whose set has no records. Callers that wait for it will look again.
     fn leave(&self, rt: &impl Wait, key: usize) {
-        self.free.lock(rt).leave(key);
+        self.keys.lock(rt).leave(key);
     }
 }
 

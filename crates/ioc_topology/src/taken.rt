@@ -60,10 +60,10 @@ impl<S: Locked> Directory<S> {
     pub fn take_all<R: Wait>(&self, rt: &R, alloc: Global) -> Result<Taken<'_, S>, AllocError>
         ensures sound { IfOk result (λ t. All S.sound t.sets.items) }
     {
-        let made = self.free.lock(rt).made();
-        let mut sets = Vec::with_capacity(alloc, made)?;
-        let mut cells = Vec::with_capacity(alloc, made)?;
-        for key in 0..made {
+        let bound = self.keys.lock(rt).bound();
+        let mut sets = Vec::with_capacity(alloc, bound)?;
+        let mut cells = Vec::with_capacity(alloc, bound)?;
+        for key in 0..bound {
             let Some(lock) = self.lock_at(key) else {
                 continue;
             };

@@ -1,7 +1,7 @@
 //! Calls of a desk. The calls of a test are data.
 use ioc_engine::{
-    Channel, Clock, Desk, Device, Engine, EngineName, Finished, Input, IocError, NotifyId, Receipt,
-    RecordNo, Reply, Value,
+    Channel, Clock, Desk, Device, Engine, EngineName, FieldText, Finished, Input, IocError,
+    NotifyId, Receipt, RecordNo, Reply, Value,
 };
 use std::sync::Wait;
 
@@ -35,24 +35,48 @@ pub enum Addressed<'a> {
     Complete(RecordNo, u64, i32),
 }
 
+/// The reply to a call.
+#[derive(Clone, Copy, PartialEq, Eq)]
+pub enum Told {
+    /// The reply of an event, or of a link change.
+    Reply(Reply),
+    /// The text of a field.
+    Text(FieldText),
+    /// Whether a put with notification is live.
+    Live(bool),
+}
+
 /// The reply to a call, its place in the journal, and the number of records that it moved to other
 /// sets.
 #[derive(Clone, Copy)]
 pub struct Answered {
-    pub reply: Reply,
+    pub reply: Told,
     pub place: u64,
     pub moved: usize,
 }
 
-// Returns the outcome of a call that moves no records.
-fn outcome_of<B: EngineName<D>, D: Device>(
-    told: Result<(Reply, Receipt<B>), IocError>,
-) -> Result<Answered, IocError> {
-    let (reply, receipt) = told?;
-    Ok(Answered {
+// Returns the answer to a call that moves no records.
+fn without_moves<B: EngineName<D>, D: Device>(reply: Told, receipt: &Receipt<B>) -> Answered {
+    Answered {
         reply,
         place: receipt.place(),
         moved: 0,
+    }
+}
+
+// Returns the answer to a call with an event.
+fn event_answered<B: EngineName<D>, D: Device>(
+    told: Result<(Reply, Receipt<B>), IocError>,
+) -> Result<Answered, IocError> {
+    let (reply, receipt) = told?;
+    Ok(without_moves::<B, D>(Told::Reply(reply), &receipt))
+}
+
+/// Returns the reply of a link change.
+pub fn link_reply(told: Result<(), IocError>) -> Told {
+    Told::Reply(match told {
+        Ok(()) => Reply::Plain,
+        Err(refused) => Reply::Refused(refused),
     })
 }
 
@@ -64,10 +88,10 @@ fn set_link<B: EngineName<D>, D: Device, C: Clock + Drop, R: Wait>(
     channel: Channel,
     text: &[u8],
 ) -> Result<Answered, IocError> {
-    let told = outcome_of::<B, D>(engine.set_link(rt, desk, channel, text))?;
+    let (told, receipt) = engine.set_link(rt, desk, channel, text)?;
     Ok(Answered {
         moved: desk.moved(),
-        ..told
+        ..without_moves::<B, D>(link_reply(told), &receipt)
     })
 }
 
@@ -80,19 +104,27 @@ pub fn make<B: EngineName<D>, D: Device, C: Clock + Drop, R: Wait>(
 ) -> Result<Answered, IocError> {
     match call {
         Addressed::Put(channel, text) => {
-            outcome_of::<B, D>(engine.put(rt, desk, channel, Input::from_text(text)))
+            event_answered::<B, D>(engine.put(rt, desk, channel, Input::from_text(text)))
         }
-        Addressed::Get(channel) => outcome_of::<B, D>(engine.get(rt, desk, channel)),
-        Addressed::Process(number) => outcome_of::<B, D>(engine.process(rt, desk, number)),
+        Addressed::Get(channel) => {
+            let (text, receipt) = engine.get(rt, desk, channel)?;
+            Ok(without_moves::<B, D>(Told::Text(text), &receipt))
+        }
+        Addressed::Process(number) => event_answered::<B, D>(engine.process(rt, desk, number)),
         Addressed::SetLink(channel, text) => set_link(rt, engine, desk, channel, text),
         Addressed::PutNotify(channel, text) => {
-            outcome_of::<B, D>(engine.put_notify(rt, desk, channel, Input::from_text(text)))
+            event_answered::<B, D>(engine.put_notify(rt, desk, channel, Input::from_text(text)))
         }
-        Addressed::Cancel(put) => outcome_of::<B, D>(engine.cancel(rt, desk, NotifyId::new(put))),
-        Addressed::Live(put) => outcome_of::<B, D>(engine.live(rt, desk, NotifyId::new(put))),
+        Addressed::Cancel(put) => {
+            event_answered::<B, D>(engine.cancel(rt, desk, NotifyId::new(put)))
+        }
+        Addressed::Live(put) => {
+            let (is_live, receipt) = engine.live(rt, desk, NotifyId::new(put))?;
+            Ok(without_moves::<B, D>(Told::Live(is_live), &receipt))
+        }
         Addressed::Complete(number, wait, value) => {
             let given = Finished::Done(Value::Long(value));
-            outcome_of::<B, D>(engine.complete(rt, desk, number, wait, given))
+            event_answered::<B, D>(engine.complete(rt, desk, number, wait, given))
         }
     }
 }

@@ -46,6 +46,7 @@ fn is_found(ended: &Ended, wanted: AtEnd) -> bool {
         AtEnd::Active(count) => ended.active == count,
         AtEnd::FirstPlace(place) => ended.first_place == place,
         AtEnd::Base(text, waiting) => ended.base == Some((FieldText::cut(text), waiting)),
+        AtEnd::Dropped(dropped, once) => ended.dropped == dropped && ended.once_dropped == once,
         AtEnd::Tickets(sent, spent, handed_back) => {
             ended.tickets
                 == TicketTally {

@@ -1,5 +1,5 @@
 //! Eight threads on one engine, each with a desk of its own.
-use crate::tests::calling::{self, Addressed, Answered};
+use crate::tests::calling::{self, Addressed, Answered, Told};
 use crate::tests::replayed::{Call, Kept, OneThread, replayed};
 use crate::tests::walk::{are_walked, least_joined};
 use ioc_engine::{Channel, Clock, Desk, Device, Engine, EngineName, IocError, Reply};
@@ -145,7 +145,7 @@ fn calls<B: EngineName<D>, D: Device, C: Clock + Drop, R: Wait>(
         seed = next_of(seed);
         let call = drawn(seed, thread, wait);
         let answered = make_or_get(rt, engine, &mut desk, targets.as_slice(), call)?;
-        if matches!(call, Call::Complete(_, _)) && answered.reply == Reply::Plain {
+        if matches!(call, Call::Complete(_, _)) && answered.reply == Told::Reply(Reply::Plain) {
             wait = wait.saturating_add(1);
         }
         kept.push(answered)?;
@@ -186,8 +186,8 @@ fn is_shown_alike<B: EngineName<D>, D: Device, C: Clock + Drop, R: Wait>(
 }
 
 // Returns the record that a link leads to, by the text of the link.
-fn leads_to(shown: Reply) -> Option<usize> {
-    let Reply::Shown(text) = shown else {
+fn leads_to(shown: Told) -> Option<usize> {
+    let Told::Text(text) = shown else {
         return None;
     };
     let mut record = None;

@@ -1,8 +1,9 @@
 //! The calls of many threads, made again by one thread on one map in the order of the journal.
+use crate::tests::calling::Told;
 use ioc_engine::{
     Database, Finished, Input, IocError, Macros, NotifyId, RecordNo, Reply, Value, load,
 };
-use ioc_events::{Effect, SetReply, run_get};
+use ioc_events::run_get;
 use ioc_fields::{CommonField, FieldNo, OwnField};
 use ioc_links::{LinkKind, parse};
 use ioc_names::Names;
@@ -62,7 +63,7 @@ impl Call {
 pub struct Kept {
     pub place: u64,
     pub call: Call,
-    pub reply: Reply,
+    pub reply: Told,
 }
 
 /// Records on one map, with their names.
@@ -76,11 +77,11 @@ pub struct OneThread {
 
 impl OneThread {
     fn process(&mut self, number: RecordNo) -> Result<Reply, AllocError> {
-        Ok(reply_to(self.machine.process(number)?))
+        self.machine.process(number)
     }
 
     fn put(&mut self, number: RecordNo) -> Result<Reply, AllocError> {
-        Ok(reply_to(self.machine.put(number, VALUE, b"3")?))
+        self.machine.put(number, VALUE, b"3")
     }
 
     fn put_notify(&mut self, number: RecordNo) -> Result<Reply, AllocError> {
@@ -109,7 +110,11 @@ impl OneThread {
     // Makes a call of the engine, and returns whether the reply is the same, but for the number of
     // a put with notification, which has to be a new one.
     fn replies_alike(&mut self, alloc: Global, kept: Kept) -> Result<bool, IocError> {
-        let here = self.answer(alloc, kept.call)?;
+        let here = self.told(alloc, kept.call)?;
+        let plain = Told::Reply(Reply::Plain);
+        if here == plain {
+            return Ok(kept.reply == plain);
+        }
         match (number_in(&here), number_in(&kept.reply)) {
             (Some(own), Some(given)) => Ok(self.keep_number(given, own)),
             _ => Ok(here == kept.reply),
@@ -117,8 +122,11 @@ impl OneThread {
     }
 
     /// Returns the text of a field of a record.
-    pub fn shown(&self, record: usize, field: FieldNo) -> Reply {
-        run_get(self.machine.map(), RecordNo::new(record), field)
+    pub fn shown(&self, record: usize, field: FieldNo) -> Told {
+        match run_get(self.machine.map(), RecordNo::new(record), field) {
+            Ok(text) => Told::Text(text),
+            Err(refused) => Told::Reply(Reply::Refused(refused)),
+        }
     }
 
     fn complete(&mut self, number: RecordNo, wait: u64) -> Result<Reply, AllocError> {
@@ -131,14 +139,11 @@ impl OneThread {
         Ok(self.machine.link(&self.names, number, FORWARD, &link)?)
     }
 
-    // Makes a call, and returns its reply.
-    fn answer(&mut self, alloc: Global, call: Call) -> Result<Reply, IocError> {
-        let number = RecordNo::new(call.record());
+    // Makes a call that isn't a get, and returns its reply.
+    fn answer(&mut self, alloc: Global, number: RecordNo, call: Call) -> Result<Reply, IocError> {
         match call {
             Call::Put(_) => Ok(self.put(number)?),
             Call::Process(_) => Ok(self.process(number)?),
-            Call::Get(_) => Ok(run_get(self.machine.map(), number, VALUE)),
-            Call::GetLink(_) => Ok(run_get(self.machine.map(), number, FORWARD)),
             Call::Cut(_) => self.set_link(number, b""),
             Call::Lead(_, other) => {
                 let name = format!(in alloc; "r{other}")?;
@@ -147,20 +152,29 @@ impl OneThread {
             Call::PutNotify(_) => Ok(self.put_notify(number)?),
             Call::Cancel(put) => Ok(self.cancel(put)?),
             Call::Complete(_, wait) => Ok(self.complete(number, wait)?),
+            Call::Get(_) | Call::GetLink(_) => Ok(Reply::Plain),
+        }
+    }
+
+    // Makes a call, and returns its reply.
+    fn told(&mut self, alloc: Global, call: Call) -> Result<Told, IocError> {
+        match call {
+            Call::Get(record) => Ok(self.shown(record, VALUE)),
+            Call::GetLink(record) => Ok(self.shown(record, FORWARD)),
+            _ => {
+                let number = RecordNo::new(call.record());
+                Ok(Told::Reply(self.answer(alloc, number, call)?))
+            }
         }
     }
 }
 
 // Returns the number of the put with notification that a reply names.
-fn number_in(reply: &Reply) -> Option<NotifyId> {
+fn number_in(reply: &Told) -> Option<NotifyId> {
     match reply {
-        Reply::Notify(number) => Some(*number),
+        Told::Reply(Reply::Notify(number)) => Some(*number),
         _ => None,
     }
-}
-
-fn reply_to(effect: Effect) -> Reply {
-    SetReply::of(effect).reply()
 }
 
 // Returns the calls in the order of their places, or `None` if these aren't the first places.

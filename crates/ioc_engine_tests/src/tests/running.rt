@@ -6,9 +6,9 @@ use crate::tests::eight::eight;
 use crate::tests::sensor::{Sensor, seen};
 use crate::tests::steps::{Step, follow};
 use ioc_engine::{
-    Clock, CountingClock, Device, DeviceName, Engine, EngineName, FieldText, Input, IocError,
-    Limits, LoadError, Macros, Numbered, Outcome, Receipt, Reply, Report, Seed, StoppedRecord, Tally,
-    TicketTally, load, with_numbers,
+    Call, Clock, CountingClock, Device, DeviceName, Engine, EngineName, Event, FieldText, Input,
+    IocError, JournalEntry, Limits, LoadError, Macros, Numbered, Outcome, Receipt, Reply, Report,
+    Seed, StoppedRecord, Tally, TicketTally, load, with_numbers,
 };
 use ioc_fields::{FieldNo, OwnField};
 use ioc_record::text_of;
@@ -56,6 +56,10 @@ pub struct Ended {
     pub devices: usize,
     pub tally: Tally,
     pub tickets: TicketTally,
+    /// The number of items that events dropped.
+    pub dropped: u64,
+    /// The number of once requests that were dropped.
+    pub once_dropped: u64,
     /// The place of the first entry that the journal has.
     pub first_place: u64,
     /// The field VAL of the first record at the last checkpoint, and the number of puts with
@@ -151,6 +155,8 @@ fn end<B: EngineName<D>, D: Device, C: Clock + Drop, R: Wait>(
     let report = engine.stop(rt);
     let tally = report.tally();
     let tickets = report.tickets();
+    let dropped = report.dropped();
+    let once_dropped = report.once_dropped();
     let first_place = report.first_place();
     let base = base_of(&report);
     let Ok(records) = report.into_records(alloc) else {
@@ -164,6 +170,8 @@ fn end<B: EngineName<D>, D: Device, C: Clock + Drop, R: Wait>(
         devices: with_device(records.as_slice()),
         tally,
         tickets,
+        dropped,
+        once_dropped,
         first_place,
         base,
     })
@@ -183,16 +191,47 @@ fn put_and_learn<B: EngineName<D>, D: Device, C: Clock + Drop, R: Wait>(
     Ok((receipt, shown))
 }
 
-// Returns whether the journal has a call of this desk, its first one, with this reply.
-fn has_entry<B: EngineName<D>, D: Device, R: Wait>(
+// Returns whether a journal entry is the first call of the first desk, a put whose record was
+// processed.
+fn is_first_put(kept: &JournalEntry) -> bool {
+    kept.desk == 0
+        && kept.call == 0
+        && matches!(
+            kept.entry.call,
+            Call::Event(Event::Put { .. }, Reply::Outcome(Outcome::Processed))
+        )
+}
+
+// Returns whether a journal entry is this call of this desk, a get that showed a 5.
+fn is_get_of_five(kept: &JournalEntry, desk: u64, call: u64) -> bool {
+    let Call::Get(_, _, Ok(text)) = kept.entry.call else {
+        return false;
+    };
+    kept.desk == desk && kept.call == call && text == FieldText::cut(b"5")
+}
+
+// Returns whether the journal has the put with this receipt.
+fn has_put<B: EngineName<D>, D: Device, R: Wait>(
+    rt: &R,
+    report: &mut Report<B, D>,
+    receipt: &mut Receipt<B>,
+) -> bool {
+    match report.entry(rt, receipt) {
+        Some(kept) => is_first_put(kept),
+        None => false,
+    }
+}
+
+// Returns whether the journal has the get with this receipt, as this call of this desk.
+fn has_get<B: EngineName<D>, D: Device, R: Wait>(
     rt: &R,
     report: &mut Report<B, D>,
     receipt: &mut Receipt<B>,
     desk: u64,
-    reply: &Reply,
+    call: u64,
 ) -> bool {
     match report.entry(rt, receipt) {
-        Some(told) => told.desk() == desk && told.call() == 0 && told.reply() == *reply,
+        Some(kept) => is_get_of_five(kept, desk, call),
         None => false,
     }
 }
@@ -207,10 +246,8 @@ fn has_learnt<B: EngineName<D>, D: Device, C: Clock + Drop, R: Wait>(
     };
     let is_later = put.place() < shown.place();
     let mut report = engine.stop(rt);
-    let processed = Reply::Outcome(Outcome::Processed);
-    let five = Reply::Shown(FieldText::cut(b"5"));
-    let is_put = has_entry(rt, &mut report, &mut put, 0, &processed);
-    let is_shown = has_entry(rt, &mut report, &mut shown, 1, &five);
+    let is_put = has_put(rt, &mut report, &mut put);
+    let is_shown = has_get(rt, &mut report, &mut shown, 1, 0);
     is_later && is_put && is_shown
 }
 
@@ -237,10 +274,7 @@ fn has_dropped<B: EngineName<D>, D: Device, C: Clock + Drop, R: Wait>(
     };
     let mut report = engine.stop(rt);
     let is_gone = report.entry(rt, &mut put).is_none();
-    let is_there = match report.entry(rt, &mut shown) {
-        Some(entry) => entry.call() == 1 && entry.reply() == Reply::Shown(FieldText::cut(b"5")),
-        None => false,
-    };
+    let is_there = has_get(rt, &mut report, &mut shown, 0, 1);
     is_gone && is_there && shown.place() == 1 && report.first_place() == 1
 }
 
@@ -254,6 +288,8 @@ fn told(is_found: bool) -> Ended {
         devices: 0,
         tally: Tally::default(),
         tickets: TicketTally::default(),
+        dropped: 0,
+        once_dropped: 0,
         first_place: 0,
         base: None,
     }

@@ -25,6 +25,9 @@ pub enum AtEnd {
     /// The number of requests, all of which were processed, and those of the answers of devices
     /// that were to come later, and that came.
     Counts(u64, u64, u64),
+    /// The number of items that events dropped because they had sent 256 already, and that of once
+    /// requests that were dropped because 1,000 waited.
+    Dropped(u64, u64),
     /// The number of tickets that were begun for once requests, that were spent, and that were
     /// handed back. All were begun for requests or once requests, and none is out.
     Tickets(u64, u64, u64),
@@ -75,6 +78,29 @@ record(longin,\"c7\"){field(FLNK,\"c8\")}
 record(longin,\"c8\"){field(FLNK,\"c9\")}
 record(longin,\"c9\"){}
 record(longin,\"x\"){}
+";
+
+// A fanout that processes an event record 300 times, by fanouts that process it 16 and 256 times.
+const MANY_EVENTS: &[u8] = b"record(event,\"e\"){field(VAL,\"1\")}
+record(fanout,\"f\"){
+  field(LNK0,\"e\") field(LNK1,\"e\") field(LNK2,\"e\") field(LNK3,\"e\")
+  field(LNK4,\"e\") field(LNK5,\"e\") field(LNK6,\"e\") field(LNK7,\"e\")
+  field(LNK8,\"e\") field(LNK9,\"e\") field(LNKA,\"e\") field(LNKB,\"e\")
+  field(LNKC,\"e\") field(LNKD,\"e\") field(LNKE,\"e\") field(LNKF,\"e\")
+}
+record(fanout,\"g\"){
+  field(LNK0,\"f\") field(LNK1,\"f\") field(LNK2,\"f\") field(LNK3,\"f\")
+  field(LNK4,\"f\") field(LNK5,\"f\") field(LNK6,\"f\") field(LNK7,\"f\")
+  field(LNK8,\"f\") field(LNK9,\"f\") field(LNKA,\"f\") field(LNKB,\"f\")
+  field(LNKC,\"f\") field(LNKD,\"f\") field(LNKE,\"f\") field(LNKF,\"f\")
+}
+record(fanout,\"h\"){
+  field(LNK0,\"g\") field(LNK1,\"f\") field(LNK2,\"f\") field(LNK3,\"e\")
+  field(LNK4,\"e\") field(LNK5,\"e\") field(LNK6,\"e\") field(LNK7,\"e\")
+  field(LNK8,\"e\") field(LNK9,\"e\") field(LNKA,\"e\") field(LNKB,\"e\")
+  field(LNKC,\"e\") field(LNKD,\"e\") field(LNKE,\"e\")
+}
+record(longin,\"a\"){field(DISP,1)}
 ";
 
 // Two records with devices whose answers are asynchronous, and a fanout that processes both.
@@ -275,7 +301,25 @@ static CHECKPOINTS: [Session; 4] = [
 ];
 
 // Link changes.
-static LINK_CHANGES: [Session; 3] = [
+static LINK_CHANGES: [Session; 4] = [
+    // An event sends 256 items and drops the others. A refused link change drops none.
+    Session {
+        name: "dropped items counted once",
+        text: MANY_EVENTS,
+        later: &[],
+        places: None,
+        steps: &[
+            Makes(Process(b"h"), PROCESSED),
+            Makes(SetLink(b"a.FLNK", b"h"), PUT_DISABLED),
+            Makes(SetLink(b"a.FLNK", b"h"), PUT_DISABLED),
+            Makes(SetLink(b"a.FLNK", b""), PUT_DISABLED),
+        ],
+        end: &[
+            AtEnd::Sets(2),
+            AtEnd::Counts(320, 0, 0),
+            AtEnd::Dropped(44, 0),
+        ],
+    },
     Session {
         name: "moved by link changes",
         text: TEN_AND_ONE,

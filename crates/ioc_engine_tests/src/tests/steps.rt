@@ -1,5 +1,5 @@
 //! The calls of one desk as lists of steps, each with its expected result.
-use crate::tests::calling::{Answered, Call, looked_up, make};
+use crate::tests::calling::{Answered, Call, Told, looked_up, make};
 use ioc_engine::{
     Clock, Desk, Device, Engine, EngineName, FieldText, IocError, NotifyId, Outcome, RecordNo,
     Reply,
@@ -50,16 +50,16 @@ pub enum Step {
     Closes,
 }
 
-fn reply(says: Says) -> Reply {
-    match says {
+fn reply(says: Says) -> Told {
+    Told::Reply(match says {
         Says::Plain => Reply::Plain,
         Says::Processed => Reply::Outcome(Outcome::Processed),
         Says::Reprocess => Reply::Outcome(Outcome::Reprocess),
-        Says::Shown(text) => Reply::Shown(FieldText::cut(text)),
+        Says::Shown(text) => return Told::Text(FieldText::cut(text)),
         Says::Notify(number) => Reply::Notify(NotifyId::new(number)),
-        Says::Live(live) => Reply::Live(live),
+        Says::Live(live) => return Told::Live(live),
         Says::Refused(error) => Reply::Refused(error),
-    }
+    })
 }
 
 // Returns whether the reply is the expected one.
@@ -69,7 +69,7 @@ fn is_as_wanted(told: &Answered, wanted: Wanted) -> bool {
         Wanted::Says(says) => told.reply == reply(says),
         Wanted::Shows(text) => told.reply == reply(Says::Shown(text)),
         Wanted::At(place, says) => told.place == place && told.reply == reply(says),
-        Wanted::Moves(moved) => told.moved == moved && told.reply == Reply::Plain,
+        Wanted::Moves(moved) => told.moved == moved && told.reply == reply(Says::Plain),
         Wanted::Fails(_) => false,
     }
 }

@@ -8,12 +8,35 @@ ghost use Rattle.ioc_journaled_set.specs.Sets.{EachGivesUp};
 
 use crate::give_up_laws::cancels_leave_nobody;
 use ioc_device::Device;
+use ioc_events::Event;
 use ioc_notify::NotifyId;
 use ioc_record::RecordKind;
 use ioc_set::LockSet;
 use ioc_set_store::EventBuffers;
 use std::alloc::{AllocError, Global};
 use std::sync::Wait;
+
+// Cancels a put with notification on a set.
+fn cancel_one<K: RecordKind + Drop, D: Device>(
+    buffers: &mut EventBuffers<K, D>,
+    alloc: Global,
+    set: &mut LockSet<K, D>,
+    number: NotifyId,
+    moment: u64,
+) -> Result<(), AllocError>
+    requires live { is_live number set.old.live ≡ true }
+    ensures gives_up { OnOk result (GivesUp K.rules moment number set.old set.new) }
+    ensures nothing { OnOk result (CameToNothing (world_of buffers.new.store)) }
+    ensures err { OnErr result (set.new ≡ set.old) }
+{
+    cancels_leave_nobody::<K, D>();
+    set.is_sound();
+    let event = Event::Cancel {
+        notification: number,
+    };
+    let _reply = set.do_event(buffers, alloc, &event, moment)?;
+    Ok(())
+}
 
 // Cancels a put with notification on a set. If allocation fails, tries again until it succeeds.
 fn cancel_retrying<K: RecordKind + Drop, D: Device, R: Wait>(
@@ -28,10 +51,8 @@ fn cancel_retrying<K: RecordKind + Drop, D: Device, R: Wait>(
     ensures gives_up { GivesUp K.rules moment number set.old set.new }
     ensures nothing { CameToNothing (world_of buffers.new.store) }
 {
-    cancels_leave_nobody::<K, D>();
     for _ in rt.forever() {
-        set.is_sound();
-        if let Ok(_reply) = set.cancel(buffers, alloc, number, moment) {
+        if cancel_one(buffers, alloc, set, number, moment).is_ok() {
             return;
         }
     }
@@ -57,13 +78,11 @@ pub fn cancel_all<K: RecordKind + Drop, D: Device, R: Wait>(
     ensures ok { OnOk result (EachGivesUp K.rules moment number sets.old sets.new) }
     ensures err { OnErr result (sets.new ≡ sets.old) }
 {
-    cancels_leave_nobody::<K, D>();
     if sets.len() == 0 {
         return Ok(());
     }
     let first = &mut sets[0];
-    first.is_sound();
-    first.cancel(buffers, alloc, number, moment)?;
+    cancel_one(buffers, alloc, first, number, moment)?;
     for i in 1..sets.len() {
         cancel_retrying(rt, alloc, buffers, &mut sets[i], number, moment);
     }

@@ -18,7 +18,7 @@ use crate::together::counting::{all_live, total_in};
 use crate::together::dealing::deal_all;
 use crate::together::merging::merge_all;
 use ioc_device::Device;
-use ioc_events::{Entry, Event, KeptAnswers, Reply};
+use ioc_events::{Call, Entry, Event, KeptAnswers, Reply};
 use ioc_history::legal_laws::{holding_lasts, live_lasts};
 use ioc_history::{DeskAccount, EventCounts, JournalName, KeyPass, Receipt};
 use ioc_notify::{Live, NotifyId};
@@ -77,11 +77,13 @@ pub fn give_up<K: RecordKind + Drop, B: JournalName<K>, D: Device, R: Wait>(
         return Err(IocError::NoMemory);
     }
     merge_all(access.rt, access.journal, keeper, passes);
+    let event = Event::Cancel {
+        notification: number,
+    };
     let entry = Entry {
         moment,
-        event: Event::Cancel(number),
+        call: Call::Event(event, Reply::Plain),
         answers: KeptAnswers::new(Vec::new(access.alloc)),
-        reply: Reply::Plain,
     };
     let appended = access
         .journal

@@ -1,14 +1,23 @@
 //! The arguments of the program, and how it ends.
-use ioc_main::{
-    Arguments, Ending, FileRole, Reason, RunFault, Stage, Stop, Stream, unreadable, whole_run,
+use ioc_main::{RunFault, whole_run};
+use ioc_program::{
+    Ending, FileRole, Program, Reason, Stage, Stop, Stream, TwoFiles, given, unreadable,
 };
 use ioc_values::{BadDbKind, DbFault};
 use std::alloc::{AllocError, Global};
 use std::io;
 use std::test::Fail;
 
+// A program that takes a database text and a script.
+static PROGRAM: Program = Program {
+    name: "ioc-replay",
+    version: "0.1.0",
+    about: "Runs a script.",
+    notes: "Notes.",
+};
+
 // Valid words, the files that they name, and the value of the macro A.
-static WORDS: [(&[&str], &str, &str, Option<&str>); 5] = [
+static WORDS: [(&[&str], &str, &str, Option<&str>); 12] = [
     (
         &["ioc-replay", "a.db", "b.script"],
         "a.db",
@@ -24,13 +33,41 @@ static WORDS: [(&[&str], &str, &str, Option<&str>); 5] = [
     ),
     (&["ioc-replay", "a", "b", "A="], "a", "b", Some("")),
     (&["ioc-replay", "a", "b", "B_2=--help"], "a", "b", None),
+    (&["ioc-replay", "a", "-", "B=1,A=2"], "a", "-", Some("2")),
+    (&["ioc-replay", "a", "b", "A=1,B=2"], "a", "b", Some("1")),
+    // A comma that no NAME= follows belongs to the value.
+    (
+        &["ioc-replay", "a", "b", "A=1,2,c d=e"],
+        "a",
+        "b",
+        Some("1,2,c d=e"),
+    ),
+    (
+        &["ioc-replay", "-m", "A=1,B=2", "a", "b"],
+        "a",
+        "b",
+        Some("1"),
+    ),
+    (
+        &["ioc-replay", "a", "-mA=1", "b", "-m", "A=2"],
+        "a",
+        "b",
+        Some("2"),
+    ),
+    (
+        &["ioc-replay", "a", "b", "A=3", "-m", "A=2"],
+        "a",
+        "b",
+        Some("3"),
+    ),
+    (&["ioc-replay", "a", "b", "--", "A=1"], "a", "b", Some("1")),
 ];
 
 // Words that are not taken, the exit status that this gives, and how what is told begins.
-static REFUSED: [(&[&str], u8, &str); 14] = [
-    (&[], 2, "ioc-replay: no database given ("),
-    (&["ioc-replay"], 2, "ioc-replay: no database given ("),
-    (&["ioc-replay", "a.db"], 2, "ioc-replay: no script given ("),
+static REFUSED: [(&[&str], u8, &str); 19] = [
+    (&[], 2, "error: "),
+    (&["ioc-replay"], 2, "error: "),
+    (&["ioc-replay", "a.db"], 2, "error: "),
     (
         &["ioc-replay", "a.db", "b.script", "c"],
         2,
@@ -52,31 +89,33 @@ static REFUSED: [(&[&str], u8, &str); 14] = [
         "ioc-replay: 'A-B=1' is no NAME=VALUE (",
     ),
     (
-        &["ioc-replay", "a", "b", "--helpful"],
+        &["ioc-replay", "a", "b", ",A=1"],
         2,
-        "ioc-replay: '--helpful' is no NAME=VALUE (",
+        "ioc-replay: ',A=1' is no NAME=VALUE (",
     ),
     (
-        &["ioc-replay", "--help"],
-        0,
-        "ioc-replay DB SCRIPT [NAME=VALUE]..\n",
+        &["ioc-replay", "a", "b", "-m", "A"],
+        2,
+        "ioc-replay: 'A' is no NAME=VALUE (",
     ),
-    (
-        &["ioc-replay", "-h", "x"],
-        0,
-        "ioc-replay DB SCRIPT [NAME=VALUE]..\n",
-    ),
+    (&["ioc-replay", "a", "b", "-m"], 2, "error: "),
+    (&["ioc-replay", "a", "b", "-n"], 2, "error: "),
+    (&["ioc-replay", "a", "b", "--helpful"], 2, "error: "),
+    (&["ioc-replay", "--helpful", "--help"], 2, "error: "),
+    (&["ioc-replay", "--help"], 0, "Runs a script.\n"),
+    (&["ioc-replay", "-h", "x"], 0, "Runs a script.\n"),
     (&["ioc-replay", "a", "--version"], 0, "ioc-replay 0.1.0\n"),
     (&["ioc-replay", "-V"], 0, "ioc-replay 0.1.0\n"),
     (
         &["ioc-replay", "a", "b", "A=1", "--help"],
         0,
-        "ioc-replay DB SCRIPT [NAME=VALUE]..\n",
+        "Runs a script.\n",
     ),
+    // Help is told before definitions are looked at.
     (
         &["ioc-replay", "a", "b", "c", "--help"],
-        2,
-        "ioc-replay: 'c' is no NAME=VALUE (",
+        0,
+        "Runs a script.\n",
     ),
 ];
 
@@ -97,14 +136,16 @@ fn are_taken(
     value: Option<&str>,
 ) -> Result<bool, AllocError> {
     let given = strings(alloc, words)?;
-    Ok(match Arguments::from_words(alloc, Ok(given.into_iter())) {
-        Ok(files) => {
-            files.db.as_str() == db
-                && files.script.as_str() == script
-                && files.macros.value_of(b"A") == value.map(|value| value.as_bytes())
-        }
-        Err(_) => false,
-    })
+    Ok(
+        match TwoFiles::from_words(alloc, &PROGRAM, "SCRIPT", "a script", given.as_slice()) {
+            Ok(files) => {
+                files.database == db
+                    && files.other == script
+                    && files.macros.value_of(b"A") == value.map(|value| value.as_bytes())
+            }
+            Err(_) => false,
+        },
+    )
 }
 
 #[test]
@@ -120,14 +161,14 @@ fn words_that_are_taken(rt: HostRuntime) -> Result<(), Fail> {
 
 // Does the program that comes to this end with this status, and begin so with what it tells?
 fn begins(alloc: Global, stop: Stop, status: u8, told: &str) -> Result<bool, AllocError> {
-    let ending = Ending::of(Err(stop));
+    let ending = Ending::of(PROGRAM.name, Err(stop));
     let text = ending.to_string(alloc)?;
     Ok(ending.status == status && text.as_str().starts_with(told))
 }
 
 fn are_refused(alloc: Global, words: &[&str], status: u8, told: &str) -> Result<bool, AllocError> {
     let given = strings(alloc, words)?;
-    match Arguments::from_words(alloc, Ok(given.into_iter())) {
+    match TwoFiles::from_words(alloc, &PROGRAM, "SCRIPT", "a script", given.as_slice()) {
         Ok(_) => Ok(false),
         Err(stop) => begins(alloc, stop, status, told),
     }
@@ -142,7 +183,7 @@ fn words_that_are_refused(rt: HostRuntime) -> Result<(), Fail> {
 }
 
 fn stops(alloc: Global, kind: io::ErrorKind, status: u8, told: &str) -> Result<bool, AllocError> {
-    match Arguments::from_words(alloc, Err(io::Error::from(kind))) {
+    match given(alloc, Err(io::Error::from(kind))) {
         Ok(_) => Ok(false),
         Err(stop) => begins(alloc, stop, status, told),
     }
@@ -172,7 +213,7 @@ fn tells(
     stream: Stream,
     told: &str,
 ) -> Result<bool, AllocError> {
-    let ending = Ending::of(ended);
+    let ending = Ending::of(PROGRAM.name, ended);
     let text = ending.to_string(alloc)?;
     Ok(ending.status == status && ending.stream == stream && text.as_str() == told)
 }
@@ -185,15 +226,8 @@ fn tells_fault(alloc: Global, stop: Stop, status: u8, told: &str) -> Result<bool
 fn endings(rt: HostRuntime) -> Result<(), Fail> {
     let alloc = rt.alloc();
     assert!(rt; tells(alloc, Ok(()), 0, Stream::Error, "")?);
-    assert!(rt;
-        tells(
-            alloc,
-            Err(Stop::Version),
-            0,
-            Stream::Output,
-            "ioc-replay 0.1.0\n"
-        )?
-    );
+    let shown = Stop::Shown(String::from_str(alloc, "ioc-replay 0.1.0\n")?);
+    assert!(rt; tells(alloc, Err(shown), 0, Stream::Output, "ioc-replay 0.1.0\n")?);
     let refused = Stop::BadDb(DbFault {
         line: 2,
         kind: BadDbKind::Unclosed,
@@ -209,7 +243,13 @@ fn endings(rt: HostRuntime) -> Result<(), Fail> {
 }
 
 // Files that can't be opened or read, by the kind of the error, and what is told.
-static UNREADABLE: [(FileRole, io::ErrorKind, u8, &str); 5] = [
+static UNREADABLE: [(FileRole, io::ErrorKind, u8, &str); 6] = [
+    (
+        FileRole::Journal,
+        io::ErrorKind::NotADirectory,
+        3,
+        "ioc-replay: cannot read journal 'x.y': Not a directory\n",
+    ),
     (
         FileRole::Database,
         io::ErrorKind::NotFound,

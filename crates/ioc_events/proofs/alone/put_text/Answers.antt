@@ -1,6 +1,5 @@
 use Rattle.std.proofs.Common.{sym, ◌∙◌}
 use Rattle.ioc_values.specs.Conversion.{input_of}
-use Rattle.ioc_record.specs.PutFaults.{error_of}
 use Rattle.ioc_store.specs.Worlds.{has-put}
 use Rattle.ioc_events.proofs.Putting.{put-missing, put-refused, put-goes_on, put-done, put-run}
 use Rattle.ioc_events.proofs.alone.put_text.Goals as goal
@@ -20,7 +19,7 @@ process_after_put-requires g c =
 
 pub returns-in-Ok-clause-done : goal.returns-in-Ok-clause-done
 returns-in-Ok-clause-done g c = λ answers begins.
-    put-done g.S.Record.RecordKind.rules (g.S.Store.world c.args.store.now) c.args.number c.args.field (input_of c.args.text.now) g.met.S.Record.RecordKind.lawful _ (sym c.has.ensures ∙ c.if-not-has.false) c.in-Ok.ensures.ok answers _ _ _ _ (rw (c.rescan.ensures.world, c.in-Ok.ensures.stored) at (c.process_after_put.ensures.after answers begins))
+    rw c.of.ensures (put-done g.S.Record.RecordKind.rules (g.S.Store.world c.args.store.now) c.args.number c.args.field (input_of c.args.text.now) g.met.S.Record.RecordKind.lawful _ (sym c.has.ensures ∙ c.if-not-has.false) c.in-Ok.ensures.ok answers _ _ _ _ (rw (c.rescan.ensures.world, c.in-Ok.ensures.stored) at (c.process_after_put.ensures.after answers begins)))
 
 pub returns-in-Ok-clause-run : goal.returns-in-Ok-clause-run
 returns-in-Ok-clause-run g c =
@@ -29,5 +28,5 @@ returns-in-Ok-clause-run g c =
 
 pub returns-in-Err : goal.returns-in-Err
 returns-in-Err g c =
-    let is = put-refused g.S.Record.RecordKind.rules (g.S.Store.world c.args.store.now) c.args.number c.args.field (input_of c.args.text.now) c.args.tally.now (error_of c.in-Err.refused) c.requires (sym c.has.ensures ∙ c.if-not-has.false) c.in-Err.ensures.err in
+    let is = put-refused g.S.Record.RecordKind.rules (g.S.Store.world c.args.store.now) c.args.number c.args.field (input_of c.args.text.now) c.args.tally.now c.in-Err.refused c.requires (sym c.has.ensures ∙ c.if-not-has.false) c.in-Err.ensures.err in
     rw (c.in-Err.ensures.same, c.in-Err.ensures.given) (record { done = is.0; run = is.1 })

@@ -1,4 +1,5 @@
-use Rattle.ioc_events.proofs.QuietEvents.{step-settled, replay-settled}
+use Rattle.ioc_events.proofs.QuietEvents.{step-settled}
+use Rattle.ioc_events.proofs.Calling.{replay-settled}
 use Rattle.ioc_events.proofs.event_rules.events_leave_settled.Goals as goal
 
 pub returns-clause-event : goal.returns-clause-event

@@ -1,4 +1,4 @@
-use Rattle.ioc_events.proofs.StepLaws.{replay-is}
+use Rattle.ioc_events.proofs.Calling.{replay-is}
 use Rattle.ioc_events.proofs.event_rules.replays_lead_to_one.Goals as goal
 
 pub returns : goal.returns

@@ -7,11 +7,11 @@ use Rattle.ioc_events.proofs.Stepping.{tells-event}
 use Rattle.ioc_events.proofs.events.make_spelled_put.Goals as goal
 
 pub end_event-requires : goal.end_event-requires
-end_event-requires g c = can_run_next g.S.Record.RecordKind.rules g.met.S.Record.RecordKind.lawful c.put_text-effect.ensures.run c.requires
+end_event-requires g c = can_run_next g.S.Record.RecordKind.rules g.met.S.Record.RecordKind.lawful c.put_text-reply.ensures.run c.requires
 
 pub returns-clause-step : goal.returns-clause-step
 returns-clause-step g c = λ answers begins.
-    tells-event g.S.Record.RecordKind.rules answers _ _ _ (Put c.args.number c.args.field (input_of c.args.text.now)) _ _ _ _ _ _ c.asked-asked.ensures (c.put_text-effect.ensures.done answers (accords_before c.end_event.ensures.run.given begins)) refl (rw c.is_refused.ensures at (c.end_event.ensures.ends answers begins)) refl
+    tells-event g.S.Record.RecordKind.rules answers _ _ _ (Put c.args.number c.args.field (input_of c.args.text.now)) _ _ _ _ _ _ c.asked-asked.ensures (c.put_text-reply.ensures.done answers (accords_before c.end_event.ensures.run.given begins)) refl (rw c.is_refused.ensures at (c.end_event.ensures.ends answers begins)) refl
 
 pub returns-clause-run : goal.returns-clause-run
-returns-clause-run g c = has_run_on g.S.Record.RecordKind.rules c.put_text-effect.ensures.run c.end_event.ensures.run
+returns-clause-run g c = has_run_on g.S.Record.RecordKind.rules c.put_text-reply.ensures.run c.end_event.ensures.run

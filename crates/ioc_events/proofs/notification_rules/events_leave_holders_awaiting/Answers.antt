@@ -1,4 +1,5 @@
-use Rattle.ioc_events.proofs.ToldEvents.{step-awaits, replay-awaits}
+use Rattle.ioc_events.proofs.ToldEvents.{step-awaits}
+use Rattle.ioc_events.proofs.Calling.{replay-awaits}
 use Rattle.ioc_events.proofs.notification_rules.events_leave_holders_awaiting.Goals as goal
 
 pub returns-clause-event : goal.returns-clause-event

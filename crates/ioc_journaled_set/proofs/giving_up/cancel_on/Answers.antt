@@ -30,7 +30,6 @@ returns-in-Ok-Some-clause-gave_up g c =
     let was = ap (λ (v : PutsView). v.live) c.all.view_is in
     let tells = c.holders-total.ensures ∙ c.lines_tell_holders.ensures.holders table number (c.is_table.ensures.once number) in
     record {
-      answer = refl;
       gives_up = λ i d e lt.
           let here : i < length (sets_of held) = let many = sets_long held in omega (arith, lt, many) in
           subst (λ (h : SetState g.row.K.Denot g.row.D.Denot). GivesUp k moment number h (get_or then i e).set) (set_at held i d d.set lt) (gu.gives_up i d.set e here);

@@ -1,4 +1,4 @@
-use Rattle.std.proofs.Common.{◌≡◌, ◌≢◌, ℕ, ◌<◌, Option, Some, sym, ap, ◌∙◌, subst, length, get_or, get_or-set_other, get_or-set_same, below_more, arith, rules}
+use Rattle.std.proofs.Common.{◌≡◌, ◌≢◌, ℕ, ◌<◌, Option, sym, ap, ◌∙◌, subst, length, get_or, get_or-set_other, get_or-set_same, below_more, arith, rules}
 use Rattle.std.proofs.lemmas.List.{get_or_default}
 use Rattle.std.specs.Prelude.{slice_set}
 use Rattle.crossbeam_utils.specs.Seq.{cell_view}

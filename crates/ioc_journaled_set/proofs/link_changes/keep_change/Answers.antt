@@ -1,8 +1,7 @@
-use Rattle.std.proofs.Common.{refl, List, sym, ◌∙◌, subst, arith}
+use Rattle.std.proofs.Common.{List, sym, ◌∙◌, subst, arith}
 use Rattle.crossbeam_utils.specs.Seq.{cell_view}
 use Rattle.ioc_device.specs.declared.Answer.{Answer}
-use Rattle.ioc_events.specs.declared.reply.Reply.TheVariants.{Plain}
-use Rattle.ioc_history.specs.Account.{BothMayFollow, Call, AddedByBoth}
+use Rattle.ioc_history.specs.Account.{BothMayFollow, HasCalled, AddedByBoth}
 use Rattle.ioc_history.proofs.Numbers.{begins_none}
 use Rattle.ioc_journaled_set.proofs.Sending.{both_send_none, both_count_none}
 use Rattle.ioc_journaled_set.proofs.link_changes.keep_change.Goals as goal
@@ -15,7 +14,7 @@ append_two-requires-clause-follows g c =
     let none = c.new-2.ensures ∙ c.new.ensures.items in
     let one = cell_view c.args.one.now in
     let other = cell_view c.args.other.now in
-    subst (λ (l : List Answer). BothMayFollow g.K.RecordKind.rules g.B.JournalName.base one.seen one.owns other.seen other.owns (record { moment = c.args.moment; event = c.args.event; answers = l; reply = Plain })) (sym none) c.requires.follows
+    subst (λ (l : List Answer). BothMayFollow g.K.RecordKind.rules g.B.JournalName.base one.seen one.owns other.seen other.owns (record { moment = c.args.moment; call = c.args.made; answers = l })) (sym none) c.requires.follows
 
 pub append_two-requires-clause-sent : goal.append_two-requires-clause-sent
 append_two-requires-clause-sent g c =
@@ -28,7 +27,7 @@ append_two-requires-clause-counts g c =
 pub returns-clause-call : goal.returns-clause-call
 returns-clause-call g c =
     let none = c.new-2.ensures ∙ c.new.ensures.items in
-    subst (λ (l : List Answer). Call g.K.RecordKind.rules g.B.JournalName.base c.args.desk.now (record { moment = c.args.moment; event = c.args.event; answers = l; reply = Plain }) c.append_two.new.desk) none c.append_two.ensures.call
+    subst (λ (l : List Answer). HasCalled g.K.RecordKind.rules g.B.JournalName.base c.args.desk.now (record { moment = c.args.moment; call = c.args.made; answers = l }) c.append_two.new.desk) none c.append_two.ensures.call
 
 pub returns-clause-added : goal.returns-clause-added
 returns-clause-added g c =
@@ -36,7 +35,7 @@ returns-clause-added g c =
     let one = cell_view c.args.one.now in
     let other = cell_view c.args.other.now in
     let added = c.append_two.ensures.added in
-    (added.0, subst (λ (l : List Answer). AddedByBoth g.K.RecordKind.rules g.B.JournalName.base one.seen one.owns other.seen other.owns (record { moment = c.args.moment; event = c.args.event; answers = l; reply = Plain }) added.0 c.append_two.new.desk.seen) none added.1)
+    (added.0, subst (λ (l : List Answer). AddedByBoth g.K.RecordKind.rules g.B.JournalName.base one.seen one.owns other.seen other.owns (record { moment = c.args.moment; call = c.args.made; answers = l }) added.0 c.append_two.new.desk.seen) none added.1)
 
 pub append_two-requires-clause-begins : goal.append_two-requires-clause-begins
-append_two-requires-clause-begins g c = begins_none (cell_view c.args.other.now).seen (cell_view c.args.other.now).owns c.args.event c.requires.nothing.1
+append_two-requires-clause-begins g c = begins_none (cell_view c.args.other.now).seen (cell_view c.args.other.now).owns c.args.made c.requires.nothing.1

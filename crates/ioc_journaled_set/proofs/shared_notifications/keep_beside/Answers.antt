@@ -70,15 +70,15 @@ append_two-appended-requires-clause-counts g c =
 
 pub place_begun-requires-clause-room : goal.place_begun-requires-clause-room
 place_begun-requires-clause-room g c =
-    subst (λ (v : PutsView). IfSome (number_given c.args.ran.entry.event) (λ _. length v.live + length v.taken < 256)) (sym c.all.view_is) (room_by (number_given c.args.ran.entry.event) c.args.all.now c.requires.begins)
+    subst (λ (v : PutsView). IfSome (number_given c.args.ran.entry.call) (λ _. length v.live + length v.taken < 256)) (sym c.all.view_is) (room_by (number_given c.args.ran.entry.call) c.args.all.now c.requires.begins)
 
 pub place_begun-requires-clause-new : goal.place_begun-requires-clause-new
 place_begun-requires-clause-new g c =
-    new_by (number_given c.args.ran.entry.event) c.args.all.now c.all.inside.places.begun (λ n there. subst (λ (v : PutsView). Contains (numbers_given (calls v.seen)) n) c.all.view_is (c.all.invariant.begun n there)) c.requires.begins
+    new_by (number_given c.args.ran.entry.call) c.args.all.now c.all.inside.places.begun (λ n there. subst (λ (v : PutsView). Contains (numbers_given (calls v.seen)) n) c.all.view_is (c.all.invariant.begun n there)) c.requires.begins
 
 pub append_two-appended-requires-clause-begins : goal.append_two-appended-requires-clause-begins
 append_two-appended-requires-clause-begins g c =
-    inside g (goal.at.append_two-appended-requires-clause-begins g c).After-is_table (λ s ks. MayBegin s ks c.args.ran.entry.event) (may_begin_by (number_given c.args.ran.entry.event) c.args.all.now c.requires.begins)
+    inside g (goal.at.append_two-appended-requires-clause-begins g c).After-is_table (λ s ks. MayBegin s ks c.args.ran.entry.call) (may_begin_by (number_given c.args.ran.entry.call) c.args.all.now c.requires.begins)
 
 pub recount-requires-clause-there : goal.recount-requires-clause-there
 recount-requires-clause-there g c n =
@@ -121,12 +121,12 @@ invariant_of-all g c =
       counted = subst (λ (v : View). AreCounted k base c.recount.new.table.live v.seen) (sym other.1) told;
       below = subst (λ (v : View). NoneIsAbove c.all.inside.last v.seen) (sym other.1)
           (numbers_below seen_before log longer puts_key note c.all.inside.last added.also_goes_on added.ends (inl refl) keyed c.all.invariant.below
-          (subst (λ (v : PutsView). IfSome (number_given c.args.ran.entry.event) (λ number. number ≤ v.last)) (sym c.all.view_is) (within_by (number_given c.args.ran.entry.event) c.args.all.now c.requires.begins)));
+          (subst (λ (v : PutsView). IfSome (number_given c.args.ran.entry.call) (λ number. number ≤ v.last)) (sym c.all.view_is) (within_by (number_given c.args.ran.entry.call) c.args.all.now c.requires.begins)));
       taken = subst (λ (v : View). AreTaken c.recount.new.table.live c.place_begun.new.places.taken c.all.inside.last v.seen) (sym other.1)
           (subst (λ (xs : List ℕ). AreTaken c.recount.new.table.live xs c.all.inside.last longer) (sym c.place_begun.ensures.taken)
           (still_taken k c.live_lasts.ensures c.lists_leave_sound.ensures.after c.one_may_begin.ensures c.lines_tell_holders.ensures.live c.lines_tell_holders.ensures.held base seen_before log longer note c.all.inside.table.live c.recount.new.table.live
           c.is_table.ensures c.is_table-2.ensures c.all.invariant.counted told added.sound added.also_goes_on added.legal added.ends legal c.all.inside.places.taken c.all.inside.last keyed c.all.invariant.taken
-          (subst (λ (v : PutsView). IfSome (number_given c.args.ran.entry.event) (λ number. Contains v.taken number → ⊥)) (sym c.all.view_is) (own_by (number_given c.args.ran.entry.event) c.args.all.now c.requires.begins))));
+          (subst (λ (v : PutsView). IfSome (number_given c.args.ran.entry.call) (λ number. Contains v.taken number → ⊥)) (sym c.all.view_is) (own_by (number_given c.args.ran.entry.call) c.args.all.now c.requires.begins))));
       placed =
           still_placed k c.live_lasts.ensures c.lists_leave_sound.ensures.after c.one_may_begin.ensures c.lines_tell_holders.ensures.live c.lines_tell_holders.ensures.held base seen_before log longer note c.all.inside.table.live c.recount.new.table.live
           c.is_table.ensures c.is_table-2.ensures c.all.invariant.counted told added.sound added.also_goes_on added.legal added.ends legal c.all.inside.places.begun c.place_begun.new.places.begun c.all.invariant.placed

@@ -13,30 +13,30 @@ use Rattle.ioc_events.proofs.Rewired.{rewired-leaves}
 use Rattle.ioc_set.proofs.Rescans.{came_to, live_begun, waiting_begun}
 use Rattle.ioc_set.proofs.linking.rescan_on.Goals as goal
 
-pub invariant_of-place : goal.invariant_of-place
-invariant_of-place g c =
+pub invariant_of-buffers : goal.invariant_of-buffers
+invariant_of-buffers g c =
     let k = g.K.RecordKind.rules in
     let rs = c.args.members.now.records in
-    let place = c.args.place.now in
+    let buffers = c.args.buffers.now in
     let w = begun_at c.args.moment (resting rs [] []) in
-    let start = c.begin_at.ensures.world ∙ starts (record { members = c.swap.new.x; event = place.store.event }) rs [] [] c.args.moment (ap (λ (m : Contents g.row.K.Denot g.row.D.Denot). m.records) c.swap.ensures.x_after) place.none_live place.none_waits in
+    let start = c.begin_at.ensures.world ∙ starts (record { members = c.swap.new.x; event = buffers.store.event }) rs [] [] c.args.moment (ap (λ (m : Contents g.row.K.Denot g.row.D.Denot). m.records) c.swap.ensures.x_after) buffers.none_live buffers.none_waits in
     let is = c.rewire.ensures.world ∙ ap (λ (v : World g.row.K.Denot). rewired k c.args.before v c.args.number) start in
     record {
-      no_record = ap (λ (m : Contents g.row.K.Denot g.row.D.Denot). len m.records) (c.swap-2.ensures.y_after ∙ c.swap.ensures.y_after) ∙ place.no_record;
+      no_record = ap (λ (m : Contents g.row.K.Denot g.row.D.Denot). len m.records) (c.swap-2.ensures.y_after ∙ c.swap.ensures.y_after) ∙ buffers.no_record;
       none_live = ap (λ (v : World g.row.K.Denot). v.live) is ∙ (rewired-leaves k c.args.before w c.args.number).live ∙ live_begun c.args.moment rs;
       none_waits = ap (λ (v : World g.row.K.Denot). v.waiting) is ∙ (rewired-leaves k c.args.before w c.args.number).waiting ∙ waiting_begun c.args.moment rs;
-      no_frame = place.no_frame;
-      no_answer = place.no_answer;
-      none_journaled = place.none_journaled;
-      ended_fit = place.ended_fit;
+      no_frame = buffers.no_frame;
+      no_answer = buffers.no_answer;
+      none_journaled = buffers.none_journaled;
+      ended_fit = buffers.ended_fit;
     }
 
 pub returns-clause-left : goal.returns-clause-left
 returns-clause-left g c =
     let k = g.K.RecordKind.rules in
     let rs = c.args.members.now.records in
-    let place = c.args.place.now in
-    let start = c.begin_at.ensures.world ∙ starts (record { members = c.swap.new.x; event = place.store.event }) rs [] [] c.args.moment (ap (λ (m : Contents g.row.K.Denot g.row.D.Denot). m.records) c.swap.ensures.x_after) place.none_live place.none_waits in
+    let buffers = c.args.buffers.now in
+    let start = c.begin_at.ensures.world ∙ starts (record { members = c.swap.new.x; event = buffers.store.event }) rs [] [] c.args.moment (ap (λ (m : Contents g.row.K.Denot g.row.D.Denot). m.records) c.swap.ensures.x_after) buffers.none_live buffers.none_waits in
     came_to c.rewire.new.store (record { members = c.swap-2.new.y; event = c.rewire.new.store.event }) c.swap-2.new.x (rewired k c.args.before (begun_at c.args.moment (resting rs [] [])) c.args.number)
     c.swap-2.ensures.x_after refl (c.rewire.ensures.world ∙ ap (λ (v : World g.row.K.Denot). rewired k c.args.before v c.args.number) start)
 

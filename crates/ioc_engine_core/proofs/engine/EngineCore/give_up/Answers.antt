@@ -1,4 +1,4 @@
-use Rattle.std.proofs.Common.{All, List, sym, subst}
+use Rattle.std.proofs.Common.{All, List, refl, sym, subst}
 use Rattle.std.proofs.lemmas.Option.{IfSome_then}
 use Rattle.std.proofs.lemmas.Result.{IfOk-weaker}
 use Rattle.ioc_journaled_set.specs.Holding.{HeldView, IsSoundlyHeld}
@@ -8,6 +8,7 @@ pub returns-clause-gave_up : goal.returns-clause-gave_up
 returns-clause-gave_up g c =
     let Sound = λ (sets : List (HeldView g.row.K.Denot g.row.D.Denot)). All (IsSoundlyHeld g.K.RecordKind.rules g.B.JournalName.base) sets in
     IfOk-weaker c.cancel_on-given.result _ _ (λ given some. IfSome_then given some (λ x gave. record {
+      answer = refl;
       puts = c.deref_mut.result.now;
       puts_then = c.cancel_on-given.new.all;
       before = c.as_mut_slice-sets.result.now;

@@ -1,15 +1,14 @@
-use Rattle.std.proofs.Common.{◌≡◌, List, Option, Some, None, refl, sym, ap, ◌∙◌, subst, arith}
+use Rattle.std.proofs.Common.{◌≡◌, List, Option, Some, None, Ok, refl, sym, ap, ◌∙◌, subst, arith}
 use Rattle.std.specs.Prelude.{Contains}
 use Rattle.crossbeam_utils.specs.Seq.{cell_view}
 use Rattle.ioc_device.specs.declared.Answer.{Answer}
 use Rattle.ioc_store.specs.World.{Has}
-use Rattle.ioc_events.specs.declared.event.Event.TheVariants.{Get}
+use Rattle.ioc_events.specs.declared.event.Call.TheVariants as calling
 use Rattle.ioc_history.specs.Covering.{Holds}
 use Rattle.ioc_history.specs.Legal.{map_of}
 use Rattle.ioc_history.specs.declared.cell.View.{View}
-use Rattle.ioc_history.specs.Account.{Call, Pass}
+use Rattle.ioc_history.specs.Account.{HasCalled, Pass}
 use Rattle.ioc_set.specs.SetState.{now_of}
-use Rattle.ioc_set.specs.NoCalls.{no_call}
 use Rattle.ioc_journaled_set.specs.Holding.{HeldView, held_view, numbers_of, IsHeld, Tells}
 use Rattle.ioc_journaled_set.specs.SameDevice.{IsDeviceOf}
 use Rattle.ioc_journaled_set.proofs.Keys.{key_there}
@@ -38,8 +37,8 @@ append-appended-requires-clause-follows g c =
     let there : Has (now_of c.self.inside.set) c.args.number =
     key_there c.self.inside.set.records c.args.number (subst (λ (v : HeldView g.row.K.Denot g.row.D.Denot). Contains (numbers_of v) c.args.number) (sym c.self.view_is) c.requires.there) in
     let none = c.new-2.ensures ∙ c.new.ensures.items in
-    get_may_follow k c.holding_lasts.ensures c.events_are_held.ensures.asks g.B.JournalName.base (now_of c.self.inside.set) c.args.moment c.args.number c.args.field c.get-reply.result c.get-reply.ensures there
-    (cell_view c.in-Some.pass).seen (cell_view c.in-Some.pass).owns held.owner.covers held.holds _ (λ i. record { moment = c.args.moment; event = Get c.args.number c.args.field; answers = sym none i; reply = c.get-reply.result })
+    get_may_follow k c.holding_lasts.ensures c.events_are_held.ensures.asks g.B.JournalName.base (now_of c.self.inside.set) c.args.moment c.args.number c.args.field c.in_ok-text.text (sym c.in_ok-text.ensures) there
+    (cell_view c.in-Some.pass).seen (cell_view c.in-Some.pass).owns held.owner.covers held.holds _ (λ i. record { moment = c.args.moment; call = calling.Get c.args.number c.args.field (Ok c.in_ok-text.text); answers = sym none i })
 
 pub append-appended-requires-clause-sent : goal.append-appended-requires-clause-sent
 append-appended-requires-clause-sent g c =
@@ -65,8 +64,8 @@ invariant_of-self g c =
         owner = owner_on g.B.CellName.table _ _ (cell_view c.in-Some.pass) (cell_view c.append-appended.new.set) _ (now_of c.self.inside.set) (now_of c.self.inside.set) held.owner set.0 set.1 (λ n has. has);
         holds =
             subst (λ (x : View). Holds k (map_of k g.B.JournalName.base x.seen) (now_of c.self.inside.set)) (sym set.1)
-            (held_after_get k c.holding_lasts.ensures c.events_are_held.ensures.asks g.B.JournalName.base (now_of c.self.inside.set) c.args.moment c.args.number c.args.field c.get-reply.result c.get-reply.ensures there
-            (cell_view c.in-Some.pass).seen (cell_view c.in-Some.pass).owns held.owner.covers held.holds _ (λ i. record { moment = c.args.moment; event = Get c.args.number c.args.field; answers = sym none i; reply = c.get-reply.result }) added.0 _ added.1);
+            (held_after_get k c.holding_lasts.ensures c.events_are_held.ensures.asks g.B.JournalName.base (now_of c.self.inside.set) c.args.moment c.args.number c.args.field c.in_ok-text.text (sym c.in_ok-text.ensures) there
+            (cell_view c.in-Some.pass).seen (cell_view c.in-Some.pass).owns held.owner.covers held.holds _ (λ i. record { moment = c.args.moment; call = calling.Get c.args.number c.args.field (Ok c.in_ok-text.text); answers = sym none i }) added.0 _ added.1);
         devices = held.devices;
       },
       c.self.invariant.1,
@@ -81,12 +80,11 @@ returns-clause-tells g c =
     key_there c.self.inside.set.records c.args.number (subst (λ (v : HeldView g.row.K.Denot g.row.D.Denot). Contains (numbers_of v) c.args.number) (sym c.self.view_is) c.requires.there) in
     let none = c.new-2.ensures ∙ c.new.ensures.items in
     let set = c.append-appended.ensures.set in
-    subst (λ (v : HeldView g.row.K.Denot g.row.D.Denot). Tells k g.B.JournalName.base v c.args.desk.now c.args.moment (Get c.args.number c.args.field) c.get-reply.result
+    subst (λ (v : HeldView g.row.K.Denot g.row.D.Denot). Tells k g.B.JournalName.base v c.args.desk.now c.args.moment c.args.number c.args.field c.in_ok-text.text
     (held_view c.self.inside.set (cell_view c.append-appended.new.set).seen) c.append-appended.new.desk) c.self.view_is
     (record {
-      is_call = subst (λ (v : HeldView g.row.K.Denot g.row.D.Denot). no_call k (now_of v.set) (Get c.args.number c.args.field) ≡ None) (sym c.self.view_is) c.in_ok-test_call.ensures.ok;
-      answer = c.get-reply.ensures;
+      answer = sym c.in_ok-text.ensures;
       set = refl;
-      call = subst (λ (l : List Answer). Call k g.B.JournalName.base c.args.desk.now (record { moment = c.args.moment; event = Get c.args.number c.args.field; answers = l; reply = c.get-reply.result }) c.append-appended.new.desk) none c.append-appended.ensures.call;
+      call = subst (λ (l : List Answer). HasCalled k g.B.JournalName.base c.args.desk.now (record { moment = c.args.moment; call = calling.Get c.args.number c.args.field (Ok c.in_ok-text.text); answers = l }) c.append-appended.new.desk) none c.append-appended.ensures.call;
       seen = ap (λ (v : View). v.seen) set.1;
     })

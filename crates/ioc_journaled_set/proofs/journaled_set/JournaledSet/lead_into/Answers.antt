@@ -60,7 +60,7 @@ module _ (g : Over) (c : After-take_share-share g) where
 
   freed : len cut ≡ len c.self.inside.set.records
   freed =
-      freed_len g.K.RecordKind.rules c.self.inside.set c.other.inside.set c.lead_into.new.self c.lead_into.new.other c.in-Ok.rest c.args.change.moment c.args.change.number c.args.change.field c.args.change.link (world_of c.lead_into.new.place.store)
+      freed_len g.K.RecordKind.rules c.self.inside.set c.other.inside.set c.lead_into.new.self c.lead_into.new.other c.in-Ok.rest c.args.change.moment c.args.change.number c.args.change.field c.args.change.link (world_of c.lead_into.new.buffers.store)
       takes c.in-Ok.ensures.led apart
 
   own : c.take_share-share.result ≡ share_view (len c.self.inside.set.records) c.self.inside.set.tally
@@ -81,7 +81,7 @@ module _ (g : Over) (c : After-take_share-share g) where
       let pass = cell_view c.in-Some.pass in
       let beside = cell_view c.in-Some-take.beside in
       let to = subst (λ (h : SetState g.row.K.Denot g.row.D.Denot). (t : ℕ) × (named_by (use_of c.args.change.link) ≡ t ∷ []) × IsSome (get h.records t)) (sym also_same) c.requires.to in
-      lead_goes_on g.K.RecordKind.rules c.self.inside.set c.other.inside.set c.lead_into.new.self c.lead_into.new.other c.in-Ok.rest c.args.change.moment c.args.change.number c.args.change.field c.args.change.link (world_of c.lead_into.new.place.store)
+      lead_goes_on g.K.RecordKind.rules c.self.inside.set c.other.inside.set c.lead_into.new.self c.lead_into.new.other c.in-Ok.rest c.args.change.moment c.args.change.number c.args.change.field c.args.change.link (world_of c.lead_into.new.buffers.store)
       takes c.in-Ok.ensures.led apart c.holding_lasts.ensures c.led_sets_are_held.ensures to c.is_sound.ensures
       g.B.JournalName.base pass.seen pass.owns beside.seen beside.owns held.owner.covers held.holds also_held.owner.covers also_held.holds
 
@@ -150,13 +150,13 @@ divide_share-rest_share-requires-clause-awaited g c =
 pub keep_change-receipt-requires-clause-within : goal.keep_change-receipt-requires-clause-within
 keep_change-receipt-requires-clause-within g c =
     let at = (goal.at.keep_change-receipt-requires-clause-within g c).After-take_share-share in
-    lead_within g.K.RecordKind.rules c.self.inside.set c.other.inside.set c.lead_into.new.self c.lead_into.new.other c.in-Ok.rest c.args.change.moment c.args.change.number c.args.change.field c.args.change.link (world_of c.lead_into.new.place.store)
+    lead_within g.K.RecordKind.rules c.self.inside.set c.other.inside.set c.lead_into.new.self c.lead_into.new.other c.in-Ok.rest c.args.change.moment c.args.change.number c.args.change.field c.args.change.link (world_of c.lead_into.new.buffers.store)
     (takes g at) c.in-Ok.ensures.led (apart g at) (cell_view c.in-Some.pass).owns (cell_view c.in-Some-take.beside).owns (held g at).owner.covers (also_held g at).owner.covers
 
 pub keep_change-receipt-requires-clause-apart : goal.keep_change-receipt-requires-clause-apart
 keep_change-receipt-requires-clause-apart g c =
     let at = (goal.at.keep_change-receipt-requires-clause-apart g c).After-take_share-share in
-    lead_apart g.K.RecordKind.rules c.self.inside.set c.other.inside.set c.lead_into.new.self c.lead_into.new.other c.in-Ok.rest c.args.change.moment c.args.change.number c.args.change.field c.args.change.link (world_of c.lead_into.new.place.store)
+    lead_apart g.K.RecordKind.rules c.self.inside.set c.other.inside.set c.lead_into.new.self c.lead_into.new.other c.in-Ok.rest c.args.change.moment c.args.change.number c.args.change.field c.args.change.link (world_of c.lead_into.new.buffers.store)
     (takes g at) c.in-Ok.ensures.led (apart g at)
 
 pub keep_change-receipt-requires-clause-follows : goal.keep_change-receipt-requires-clause-follows
@@ -180,10 +180,10 @@ invariant_of-self-2 g c =
         owner = dealt_owner g.B.CellName.table _ (cell_view c.keep_change-receipt.new.one) c.keep_change-receipt.new.desk.seen c.lead_into.new.self one.0 one.1;
         holds = subst (λ (x : View). Holds k (map_of k g.B.JournalName.base x.seen) (now_of c.lead_into.new.self)) (sym one.1) then.0;
         devices =
-            after_keeps k c.self.inside.set c.other.inside.set c.lead_into.new.self c.lead_into.new.other c.in-Ok.rest c.args.change.moment c.args.change.number c.args.change.field c.args.change.link (world_of c.lead_into.new.place.store)
+            after_keeps k c.self.inside.set c.other.inside.set c.lead_into.new.self c.lead_into.new.other c.in-Ok.rest c.args.change.moment c.args.change.number c.args.change.field c.args.change.link (world_of c.lead_into.new.buffers.store)
             (takes g at) c.in-Ok.ensures.led (apart g at) (IsDeviceOf g.D.Device.gives g.B.SetsName.devices) (held g at).devices (also_held g at).devices c.devices_are_owned.ensures c.devices_are_owned-2.ensures c.devices_are_owned-3.ensures c.devices_are_owned-4.ensures;
       },
-      share_joins k c.self.inside.set c.other.inside.set c.lead_into.new.self c.lead_into.new.other c.in-Ok.rest c.args.change.moment c.args.change.number c.args.change.field c.args.change.link (world_of c.lead_into.new.place.store)
+      share_joins k c.self.inside.set c.other.inside.set c.lead_into.new.self c.lead_into.new.other c.in-Ok.rest c.args.change.moment c.args.change.number c.args.change.field c.args.change.link (world_of c.lead_into.new.buffers.store)
           (takes g at) c.in-Ok.ensures.led (apart g at) c.divide_share-rest_share.new.share c.take_share-others.result c.merge.new.self
           (share_stays k c.self.inside.set led.stay c.in-Ok.rest (cut g at) c.args.change.number led.falls (freed g at) c.take_share-share.result c.divide_share-rest_share.new.share (own g at) c.divide_share-rest_share.ensures.share) others c.merge.ensures,
     )
@@ -199,7 +199,7 @@ invariant_of-rest g c =
         owner = dealt_owner g.B.CellName.table _ (cell_view c.keep_change-receipt.new.other) c.keep_change-receipt.new.desk.seen c.in-Ok.rest two.0 two.1;
         holds = subst (λ (x : View). Holds k (map_of k g.B.JournalName.base x.seen) (now_of c.in-Ok.rest)) (sym two.1) then.1;
         devices =
-            rest_keeps k c.self.inside.set c.other.inside.set c.lead_into.new.self c.lead_into.new.other c.in-Ok.rest c.args.change.moment c.args.change.number c.args.change.field c.args.change.link (world_of c.lead_into.new.place.store)
+            rest_keeps k c.self.inside.set c.other.inside.set c.lead_into.new.self c.lead_into.new.other c.in-Ok.rest c.args.change.moment c.args.change.number c.args.change.field c.args.change.link (world_of c.lead_into.new.buffers.store)
             (takes g at) c.in-Ok.ensures.led (apart g at) (IsDeviceOf g.D.Device.gives g.B.SetsName.devices) (held g at).devices (also_held g at).devices c.devices_are_owned.ensures c.devices_are_owned-2.ensures c.devices_are_owned-3.ensures c.devices_are_owned-4.ensures;
       },
       share_leaves k c.self.inside.set led.stay c.in-Ok.rest (cut g at) c.args.change.number led.falls (freed g at) c.divide_share-rest_share.result c.divide_share-rest_share.ensures.rest,

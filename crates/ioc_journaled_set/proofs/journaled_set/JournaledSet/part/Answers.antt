@@ -13,7 +13,7 @@ use Rattle.ioc_history.specs.Line.{Continues}
 use Rattle.ioc_history.specs.Key.{Key}
 use Rattle.ioc_history.specs.Laws.{GoesOn}
 use Rattle.ioc_history.specs.LinkChange.{TakesLink, link_note}
-use Rattle.ioc_history.specs.Account.{IsHolder, AreRecords, BothMayFollow, Call, AddedByBoth, Pass}
+use Rattle.ioc_history.specs.Account.{IsHolder, AreRecords, BothMayFollow, HasCalled, AddedByBoth, Pass}
 use Rattle.ioc_history.specs.declared.entry.Note.{Note}
 use Rattle.ioc_history.specs.declared.cell.View.{View}
 use Rattle.ioc_set.specs.SetState.{now_of}
@@ -164,11 +164,11 @@ returns-clause-parts g c =
     let base = g.B.JournalName.base in
     let kept = c.keep_change-receipt in
     subst (λ (v : HeldView g.row.K.Denot g.row.D.Denot). Parts k base v c.args.desk.now c.args.change.moment c.args.change.number c.args.change.field c.args.change.link (held_view c.part.new.self (cell_view kept.new.one).seen)
-    (held_view c.in-Ok.rest (cell_view kept.new.other).seen) kept.new.desk (world_of c.part.new.place.store)) c.self.view_is
+    (held_view c.in-Ok.rest (cell_view kept.new.other).seen) kept.new.desk (world_of c.part.new.buffers.store)) c.self.view_is
     (record {
       falls = c.in-Ok.ensures.apart;
       sent = c.in-Ok.ensures.left;
-      call = subst (λ (l : LinkField). Call k base c.args.desk.now (link_change c.args.change.moment c.args.change.number c.args.change.field l) kept.new.desk) c.get-chosen.ensures kept.ensures.call;
+      call = subst (λ (l : LinkField). HasCalled k base c.args.desk.now (link_change c.args.change.moment c.args.change.number c.args.change.field l) kept.new.desk) c.get-chosen.ensures kept.ensures.call;
       seen = ap (λ (v : View). v.seen) kept.ensures.one.1;
       seen_of_rest = ap (λ (v : View). v.seen) kept.ensures.other.1;
     })

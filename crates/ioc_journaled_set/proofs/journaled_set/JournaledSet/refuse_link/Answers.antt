@@ -1,16 +1,15 @@
-use Rattle.std.proofs.Common.{◌≡◌, true, List, Option, Some, None, refl, sym, ap, ◌∙◌, subst, arith}
+use Rattle.std.proofs.Common.{◌≡◌, true, Option, Some, None, Err, refl, sym, ap, ◌∙◌, subst, arith}
 use Rattle.crossbeam_utils.specs.Seq.{cell_view}
 use Rattle.ioc_values.specs.declared.error.IocError.TheVariants.{PutDisabled}
 use Rattle.ioc_events.specs.declared.event.Entry.{Entry}
 use Rattle.ioc_record.specs.Values.{stops_put}
 use Rattle.ioc_set_records.specs.Joined.{HasLink}
 use Rattle.ioc_store.specs.World.{common_at}
-use Rattle.ioc_events.specs.declared.event.Event.TheVariants.{Link}
-use Rattle.ioc_events.specs.declared.reply.Reply.TheVariants.{Refused}
+use Rattle.ioc_events.specs.declared.event.Call.TheVariants as calling
 use Rattle.ioc_history.specs.Covering.{Holds}
 use Rattle.ioc_history.specs.Legal.{map_of}
 use Rattle.ioc_history.specs.declared.cell.View.{View}
-use Rattle.ioc_history.specs.Account.{Call, Pass}
+use Rattle.ioc_history.specs.Account.{HasCalled, Pass}
 use Rattle.ioc_set.specs.SetState.{now_of}
 use Rattle.ioc_journaled_set.specs.Holding.{HeldView, held_view, IsHeld}
 use Rattle.ioc_journaled_set.specs.LinkChanges.{Refuses}
@@ -46,7 +45,7 @@ append-appended-requires-clause-follows g c =
     refusal_may_follow k c.holding_lasts.ensures c.lists_leave_sound.ensures.after g.B.JournalName.base (now_of set) c.args.change.now.moment c.args.change.now.number c.args.change.now.field c.args.change.now.link
     (link_there k set c.args.change.now.number c.args.change.now.field has) (link_has k set c.args.change.now.number c.args.change.now.field has) stops c.requires.known
     (cell_view c.in-Some.pass).seen (cell_view c.in-Some.pass).owns held.owner.covers held.holds _
-    (λ i. record { moment = c.args.change.now.moment; event = Link c.args.change.now.number c.args.change.now.field (sym c.get.ensures i); answers = sym none i; reply = Refused PutDisabled })
+    (λ i. record { moment = c.args.change.now.moment; call = calling.Link c.args.change.now.number c.args.change.now.field (sym c.get.ensures i) (Err PutDisabled); answers = sym none i })
 
 pub append-appended-requires-clause-sent : goal.append-appended-requires-clause-sent
 append-appended-requires-clause-sent g c =
@@ -76,7 +75,7 @@ invariant_of-self g c =
             (held_after_refusal k c.holding_lasts.ensures c.lists_leave_sound.ensures.after g.B.JournalName.base (now_of held_set) c.args.change.now.moment c.args.change.now.number c.args.change.now.field c.args.change.now.link
             (link_there k held_set c.args.change.now.number c.args.change.now.field has) (link_has k held_set c.args.change.now.number c.args.change.now.field has) stops c.requires.known
             (cell_view c.in-Some.pass).seen (cell_view c.in-Some.pass).owns held.owner.covers held.holds _
-            (λ i. record { moment = c.args.change.now.moment; event = Link c.args.change.now.number c.args.change.now.field (sym c.get.ensures i); answers = sym none i; reply = Refused PutDisabled }) added.0 _ added.1);
+            (λ i. record { moment = c.args.change.now.moment; call = calling.Link c.args.change.now.number c.args.change.now.field (sym c.get.ensures i) (Err PutDisabled); answers = sym none i }) added.0 _ added.1);
         devices = held.devices;
       },
       c.self.invariant.1,
@@ -92,7 +91,7 @@ returns-clause-refuses g c =
     (record {
       forbidden = subst (λ (v : HeldView g.row.K.Denot g.row.D.Denot). stops_put (common_at k (now_of v.set) c.args.change.now.number) c.args.change.now.field ≡ true) (sym c.self.view_is) c.requires.forbidden;
       set = refl;
-      call = subst (λ (x : Entry). Call k g.B.JournalName.base c.args.desk.now x c.append-appended.new.desk)
-          (λ i. record { moment = c.args.change.now.moment; event = Link c.args.change.now.number c.args.change.now.field (c.get.ensures i); answers = none i; reply = Refused PutDisabled }) c.append-appended.ensures.call;
+      call = subst (λ (x : Entry). HasCalled k g.B.JournalName.base c.args.desk.now x c.append-appended.new.desk)
+          (λ i. record { moment = c.args.change.now.moment; call = calling.Link c.args.change.now.number c.args.change.now.field (c.get.ensures i) (Err PutDisabled); answers = none i }) c.append-appended.ensures.call;
       seen = ap (λ (v : View). v.seen) set.1;
     })

@@ -3,12 +3,13 @@ use Rattle.std.specs.Prelude.{Contains}
 use Rattle.crossbeam_utils.specs.Seq.{cell_view}
 use Rattle.ioc_store.specs.World.{Has}
 use Rattle.ioc_events.specs.declared.event.Entry.{Entry}
+use Rattle.ioc_events.specs.declared.event.Call.TheVariants as calling
 use Rattle.ioc_events.specs.Step.{names}
 use Rattle.ioc_history.specs.Counting.{MaySend}
 use Rattle.ioc_history.specs.Covering.{Holds}
 use Rattle.ioc_history.specs.Legal.{map_of}
 use Rattle.ioc_history.specs.declared.cell.View.{View}
-use Rattle.ioc_history.specs.Account.{Call, Pass}
+use Rattle.ioc_history.specs.Account.{HasCalled, Pass}
 use Rattle.ioc_history.proofs.Numbers.{begins_none}
 use Rattle.ioc_set.specs.SetState.{NoneIsLive, now_of}
 use Rattle.ioc_set.specs.NoCalls.{no_call}
@@ -37,7 +38,7 @@ module _ (g : Over) (c : After-counts_since-counts g) where
   none = subst (λ (v : HeldView g.row.K.Denot g.row.D.Denot). NoneIsLive v.set) (sym c.self.view_is) c.requires.none
 
   done : IsDoneAlone g.K.RecordKind.rules g.D.Device.gives c.self.inside.set c.run_with_answers.new.set c.args.moment c.args.event.now c.in-Ok.done.0 (world_of c.run_with_answers.new.buffers.store) g.B.JournalName.base (cell_view c.in-Some.pass).seen (cell_view c.in-Some.pass).owns
-      (record { moment = c.args.moment; event = c.args.event.now; answers = c.in-Ok.done.1; reply = c.in-Ok.done.0 })
+      (record { moment = c.args.moment; call = calling.Event c.args.event.now c.in-Ok.done.0; answers = c.in-Ok.done.1 })
   done = record {
     does = c.in-Ok.ensures.ok;
     there = there;
@@ -45,7 +46,7 @@ module _ (g : Over) (c : After-counts_since-counts g) where
     ordinary = c.requires.ordinary;
     same =
         none_held g.K.RecordKind.rules g.D.Device.gives c.self.inside.set c.run_with_answers.new.set c.args.moment c.args.event.now c.in-Ok.done.0 (world_of c.run_with_answers.new.buffers.store) c.in-Ok.ensures.ok there
-        c.calls_have_laws.ensures.events.counted c.calls_have_laws.ensures.events.allowed c.is_sound.ensures.counted none
+        c.calls_have_laws.ensures.events c.is_sound.ensures.counted none
         (c.sets_stay_without_puts.ensures.stay c.self.inside.set c.run_with_answers.new.set c.args.moment c.args.event.now c.in-Ok.done.0 (world_of c.run_with_answers.new.buffers.store) c.in-Ok.ensures.ok c.requires.ordinary c.is_sound.ensures none);
     covers = held.owner.covers;
     holds = held.holds;
@@ -74,7 +75,7 @@ append-appended-requires-clause-follows g c =
 pub append-appended-requires-clause-sent : goal.append-appended-requires-clause-sent
 append-appended-requires-clause-sent g c =
     let at = (goal.at.append-appended-requires-clause-sent g c).After-counts_since-counts in
-    subst (λ (n : ℕ). MaySend g.K.RecordKind.rules g.B.JournalName.base (cell_view c.in-Some.pass).seen (cell_view c.in-Some.pass).owns (record { moment = c.args.moment; event = c.args.event.now; answers = c.in-Ok.done.1; reply = c.in-Ok.done.0 }) n) (sym c.counts_since-counts.ensures.sent)
+    subst (λ (n : ℕ). MaySend g.K.RecordKind.rules g.B.JournalName.base (cell_view c.in-Some.pass).seen (cell_view c.in-Some.pass).owns (record { moment = c.args.moment; call = calling.Event c.args.event.now c.in-Ok.done.0; answers = c.in-Ok.done.1 }) n) (sym c.counts_since-counts.ensures.sent)
     (may_send (done g at))
 
 pub append-appended-requires-clause-counts : goal.append-appended-requires-clause-counts
@@ -91,7 +92,7 @@ append-appended-requires-clause-backed g c =
     (c.counts_since-counts.ensures.counts.0 ∙ c.tally-before.ensures) (some_len c.self.inside.set.records one.0 there)
 
 pub append-appended-requires-clause-begins : goal.append-appended-requires-clause-begins
-append-appended-requires-clause-begins g c = begins_none (cell_view c.in-Some.pass).seen (cell_view c.in-Some.pass).owns c.args.event.now (begins_no_put c.args.event.now c.requires.ordinary)
+append-appended-requires-clause-begins g c = begins_none (cell_view c.in-Some.pass).seen (cell_view c.in-Some.pass).owns (calling.Event c.args.event.now c.in-Ok.done.0) (begins_no_put c.args.event.now c.requires.ordinary)
 
 pub invariant_of-self-2 : goal.invariant_of-self-2
 invariant_of-self-2 g c =
@@ -100,7 +101,7 @@ invariant_of-self-2 g c =
     let held = held g at in
     let set = c.append-appended.ensures.set in
     let added = c.append-appended.ensures.added in
-    let came = only g.K.RecordKind.rules g.D.Device.gives c.self.inside.set c.run_with_answers.new.set c.args.moment c.args.event.now c.in-Ok.done.0 (world_of c.run_with_answers.new.buffers.store) c.in-Ok.ensures.ok (there g at) c.calls_have_laws.ensures.events.allowed c.calls_have_laws.ensures.events.kept held.holds.shut in (
+    let came = only g.K.RecordKind.rules g.D.Device.gives c.self.inside.set c.run_with_answers.new.set c.args.moment c.args.event.now c.in-Ok.done.0 (world_of c.run_with_answers.new.buffers.store) c.in-Ok.ensures.ok (there g at) c.calls_have_laws.ensures.events held.holds.shut in (
       record {
         owner = owner_on g.B.CellName.table _ _ (cell_view c.in-Some.pass) (cell_view c.append-appended.new.set) _ (now_of c.self.inside.set) (now_of c.run_with_answers.new.set) held.owner set.0 set.1 came;
         devices = keeps_on g.D.Device.gives g.B.SetsName.devices c.self.inside.set c.run_with_answers.new.set held.devices (worked_there c.in-Ok.ensures.ok.work) came;
@@ -108,7 +109,7 @@ invariant_of-self-2 g c =
       },
       counted_then c.self.inside.share c.counts_since-counts.result.share c.append-appended.result.share c.self.inside.set c.run_with_answers.new.set c.counts_since-counts.result.after (c.counts_since-counts.ensures.share ∙ sym (sym c.take-2.ensures.value ∙ c.in-Some-take.is)) c.self.invariant.1
           c.append-appended.ensures.share c.counts_since-counts.ensures.counts.1
-          (as_many g.K.RecordKind.rules g.D.Device.gives c.self.inside.set c.run_with_answers.new.set c.args.moment c.args.event.now c.in-Ok.done.0 (world_of c.run_with_answers.new.buffers.store) c.in-Ok.ensures.ok (there g at) c.calls_have_laws.ensures.events.allowed c.calls_have_laws.ensures.events.kept held.holds.shut),
+          (as_many g.K.RecordKind.rules g.D.Device.gives c.self.inside.set c.run_with_answers.new.set c.args.moment c.args.event.now c.in-Ok.done.0 (world_of c.run_with_answers.new.buffers.store) c.in-Ok.ensures.ok (there g at) c.calls_have_laws.ensures.events held.holds.shut),
     )
 
 pub returns-clause-serves : goal.returns-clause-serves
@@ -122,7 +123,7 @@ returns-clause-serves g c =
     (record {
       is_call = subst (λ (v : HeldView g.row.K.Denot g.row.D.Denot). no_call k (now_of v.set) c.args.event.now ≡ None) (sym c.self.view_is) c.requires.is_call;
       does = c.in-Ok.ensures.ok;
-      call = subst (λ (x : Entry). Call k g.B.JournalName.base c.args.desk.now x c.append-appended.new.desk) (sym (done g at).entry_is) c.append-appended.ensures.call;
+      call = subst (λ (x : Entry). HasCalled k g.B.JournalName.base c.args.desk.now x c.append-appended.new.desk) (sym (done g at).entry_is) c.append-appended.ensures.call;
       seen = ap (λ (v : View). v.seen) set.1;
     })
 

@@ -11,7 +11,7 @@ use Rattle.ioc_history.specs.Covering.{Holds}
 use Rattle.ioc_history.specs.Legal.{map_of}
 use Rattle.ioc_history.specs.declared.entry.Note.{Note}
 use Rattle.ioc_history.specs.declared.cell.View.{View}
-use Rattle.ioc_history.specs.Account.{Call, Pass, number_given, puts_key, PutsAreKeyed, journalled}
+use Rattle.ioc_history.specs.Account.{HasCalled, Pass, number_begun, number_given, puts_key, PutsAreKeyed, journalled}
 use Rattle.ioc_set.specs.SetState.{now_of}
 use Rattle.ioc_set.specs.NoCalls.{no_call}
 use Rattle.ioc_set_store.specs.declared.set_store.SetStore.{SetStore}
@@ -44,8 +44,8 @@ module _ (g : Over) (c : After-is_counted g) where
   there : (n : ℕ) → Contains (names c.args.event.now) n → Has (now_of c.self.inside.set) n
   there n has = key_there c.self.inside.set.records n (subst (λ (v : HeldView g.row.K.Denot g.row.D.Denot). Contains (numbers_of v) n) (sym c.self.view_is) (c.requires.there n has))
 
-  can : IfSome (number_given c.args.event.now) (λ number. CanBegin c.deref_mut-all.result.now number)
-  can = subst (λ (v : PutsView). IfSome (number_given c.args.event.now) (λ number. CanBegin v number)) (sym c.deref_mut-all.ensures.value) c.lock_for-guard.ensures.can
+  can : IfSome (number_begun c.args.event.now) (λ number. CanBegin c.deref_mut-all.result.now number)
+  can = subst (λ (v : PutsView). IfSome (number_begun c.args.event.now) (λ number. CanBegin v number)) (sym c.deref_mut-all.ensures.value) c.lock_for-guard.ensures.can
 
   done : IsDoneBeside g.K.RecordKind.rules g.D.Device.gives c.self.inside.set c.run_counted.new.set c.args.moment c.args.event.now c.in_ok-ran.ran.reply (world_of c.run_counted.new.buffers.store) g.B.JournalName.base (cell_view c.in-Some.pass).seen c.deref_mut-all.result.now.seen (cell_view c.in-Some.pass).owns
       c.in_ok-ran.ran.entry
@@ -58,7 +58,7 @@ module _ (g : Over) (c : After-is_counted g) where
     cancels = λ log sound go legal h. no_cancel g.K.RecordKind.rules (map_of g.K.RecordKind.rules g.B.JournalName.base log) (now_of c.self.inside.set) c.args.event.now c.requires.on_record;
     asks =
         λ log sound go legal h. asks_alike g.K.RecordKind.rules (begun_at c.args.moment (now_of c.self.inside.set)) (begun_at c.args.moment (map_of g.K.RecordKind.rules g.B.JournalName.base log)) c.args.event.now c.requires.on_record
-        (if_some_then (number_given c.args.event.now)
+        (if_some_then (number_begun c.args.event.now)
         (λ number can. place_alike g.K.RecordKind.rules c.calls_have_laws.ensures.place c.calls_have_laws.ensures.live_lasts c.calls_have_laws.ensures.sound c.lines_tell_holders.ensures.live c.lines_tell_holders.ensures.held g.B.JournalName.base (now_of c.self.inside.set) c.deref_mut-all.result.now.seen log c.deref_mut-all.result.now.live number c.args.moment
         c.is_counted.ensures.table c.is_counted.ensures.counted sound go legal h c.is_sound.ensures.counted (fewer_live c.deref_mut-all.result.now number can) can.free)
         can);
@@ -100,7 +100,7 @@ keep_beside-appended-requires-clause-backed g c =
 pub keep_beside-appended-requires-clause-begins : goal.keep_beside-appended-requires-clause-begins
 keep_beside-appended-requires-clause-begins g c =
     let can = can g (goal.at.keep_beside-appended-requires-clause-begins g c).After-is_counted in
-    subst (λ (x : Entry). IfSome (number_given x.event) (λ number. CanBegin c.deref_mut-all.result.now number)) (sym c.in_ok-ran.ensures.entry) can
+    subst (λ (x : Entry). IfSome (number_given x.call) (λ number. CanBegin c.deref_mut-all.result.now number)) (sym c.in_ok-ran.ensures.entry) can
 
 pub keep_beside-appended-requires-clause-moves : goal.keep_beside-appended-requires-clause-moves
 keep_beside-appended-requires-clause-moves g c =
@@ -116,7 +116,7 @@ invariant_of-self-2 g c =
     let does = c.in_ok-ran.ensures.does in
     let pass = c.keep_beside-appended.ensures.pass in
     let added = c.keep_beside-appended.ensures.added in
-    let came = only g.K.RecordKind.rules g.D.Device.gives c.self.inside.set c.run_counted.new.set c.args.moment c.args.event.now c.in_ok-ran.ran.reply (world_of c.run_counted.new.buffers.store) does (there g at) c.calls_have_laws.ensures.events.allowed c.calls_have_laws.ensures.events.kept held.holds.shut in (
+    let came = only g.K.RecordKind.rules g.D.Device.gives c.self.inside.set c.run_counted.new.set c.args.moment c.args.event.now c.in_ok-ran.ran.reply (world_of c.run_counted.new.buffers.store) does (there g at) c.calls_have_laws.ensures.events held.holds.shut in (
       record {
         owner = owner_on g.B.CellName.table _ _ (cell_view c.in-Some.pass) (cell_view c.keep_beside-appended.new.pass) _ (now_of c.self.inside.set) (now_of c.run_counted.new.set) held.owner (pass.0 ∙ sym held.owner.same) pass.1 came;
         devices = keeps_on g.D.Device.gives g.B.SetsName.devices c.self.inside.set c.run_counted.new.set held.devices (worked_there does.work) came;
@@ -124,7 +124,7 @@ invariant_of-self-2 g c =
       },
       counted_then c.self.inside.share c.counts_since-counts.result.share c.keep_beside-appended.result.share c.self.inside.set c.run_counted.new.set c.counts_since-counts.result.after (c.counts_since-counts.ensures.share ∙ sym (sym c.take-2.ensures.value ∙ c.in-Some-take.is)) c.self.invariant.1
           c.keep_beside-appended.ensures.share c.counts_since-counts.ensures.counts.1
-          (as_many g.K.RecordKind.rules g.D.Device.gives c.self.inside.set c.run_counted.new.set c.args.moment c.args.event.now c.in_ok-ran.ran.reply (world_of c.run_counted.new.buffers.store) does (there g at) c.calls_have_laws.ensures.events.allowed c.calls_have_laws.ensures.events.kept held.holds.shut),
+          (as_many g.K.RecordKind.rules g.D.Device.gives c.self.inside.set c.run_counted.new.set c.args.moment c.args.event.now c.in_ok-ran.ran.reply (world_of c.run_counted.new.buffers.store) does (there g at) c.calls_have_laws.ensures.events held.holds.shut),
     )
 
 pub returns-clause-serves : goal.returns-clause-serves
@@ -139,7 +139,7 @@ returns-clause-serves g c =
     (record {
       is_call = subst (λ (v : HeldView g.row.K.Denot g.row.D.Denot). no_call k (now_of v.set) c.args.event.now ≡ None) (sym c.self.view_is) c.requires.is_call;
       does = c.in_ok-ran.ensures.does;
-      call = subst (λ (x : Entry). Call k base c.args.desk.now x c.keep_beside-appended.new.desk) (sym (done g at).entry_is) c.keep_beside-appended.ensures.call;
+      call = subst (λ (x : Entry). HasCalled k base c.args.desk.now x c.keep_beside-appended.new.desk) (sym (done g at).entry_is) c.keep_beside-appended.ensures.call;
       seen = ap (λ (v : View). v.seen) c.keep_beside-appended.ensures.pass.1;
     }))
 
@@ -169,7 +169,7 @@ returns-clause-begins g c =
     let added = c.keep_beside-appended.ensures.added.1 in
     let note = noted (journalled added.desk added.call c.in_ok-ran.ran.entry) (((cell_view c.in-Some.pass).owns ++ puts_key) ++ added.own) in
     let same = numbers_on also log puts_key added.also_goes_on (inl refl) (keyed_before log (note ∷ []) (subst (λ (l : List Note). PutsAreKeyed l) added.ends c.keep_beside-appended.ensures.call.legal.puts_keyed)) in
-    if_some_then (number_given c.args.event.now)
+    if_some_then (number_begun c.args.event.now)
     (λ number can. record {
       puts = puts_view all.live all.taken all.last log;
       can = record { within = can.within; few = can.few; free = can.free; new = λ begun. can.new (subst (λ (xs : List ℕ). Contains xs number) same begun); own = can.own };

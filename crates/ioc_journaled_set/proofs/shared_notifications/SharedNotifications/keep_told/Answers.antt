@@ -10,10 +10,9 @@ use Rattle.ioc_journaled_set.proofs.Sending.{sends_none, counts_none}
 use Rattle.ioc_history.specs.Line.{holder, noted}
 use Rattle.ioc_history.specs.Account.{journalled, calls, numbers_given, MayFollow, Added, puts_key}
 use Rattle.ioc_history.proofs.Numbers.{begins_none, numbers_below, numbers_same}
-use Rattle.ioc_device.specs.declared.Answer.{Answer}
-use Rattle.ioc_journaled_set.specs.Puts.{PutsView, told_at, NoneIsAbove, AreCounted, AreTaken, ChangesNothing}
+use Rattle.ioc_journaled_set.specs.Puts.{PutsView, NoneIsAbove, AreCounted, AreTaken, ChangesNothing}
 use Rattle.ioc_journaled_set.proofs.Counted.{counted_on}
-use Rattle.ioc_journaled_set.proofs.Telling.{entry_with, told_follows, told_counts_none, told_alike}
+use Rattle.ioc_journaled_set.proofs.Telling.{told_follows, told_counts_none, told_alike}
 use Rattle.ioc_journaled_set.proofs.Taken.{taken_as_before}
 use Rattle.ioc_journaled_set.proofs.shared_notifications.SharedNotifications.keep_told.Given.{Over}
 use Rattle.ioc_journaled_set.proofs.shared_notifications.SharedNotifications.keep_told.Goals.{After-none}
@@ -21,9 +20,6 @@ use Rattle.ioc_journaled_set.proofs.shared_notifications.SharedNotifications.kee
 
 -- What the call does to the list that the pass has seen.
 module _ (g : Over) (c : After-none g) where
-  entry_is : told_at c.args.entry.moment c.args.entry.event c.args.entry.reply ≡ c.args.entry
-  entry_is = ap (λ (l : List Answer). entry_with c.args.entry.moment c.args.entry.event c.args.entry.reply l) (sym c.requires.unanswered)
-
   owns : puts_key ≡ (cell_view c.self.inside.pass).owns
   owns = ap (λ (v : View). v.owns) (sym c.self.invariant.holds)
 
@@ -35,7 +31,7 @@ module _ (g : Over) (c : After-none g) where
       let e = c.args.entry in
       let k = g.K.RecordKind.rules in
       let seen = (cell_view c.self.inside.pass).seen in
-      subst (λ (ks : List Key). MayCountNothing k g.B.JournalName.base seen ks e) owns (told_counts_none k g.B.JournalName.base e.moment e.event e.reply seen nothing c.requires.completes_none e entry_is)
+      subst (λ (ks : List Key). MayCountNothing k g.B.JournalName.base seen ks e) owns (told_counts_none k g.B.JournalName.base e seen nothing c.requires.unanswered c.requires.completes_none)
 
 pub append-requires-clause-follows : goal.append-requires-clause-follows
 append-requires-clause-follows g c =
@@ -43,7 +39,7 @@ append-requires-clause-follows g c =
     let e = c.args.entry in
     let k = g.K.RecordKind.rules in
     let seen = (cell_view c.self.inside.pass).seen in
-    subst (λ (ks : List Key). MayFollow k g.B.JournalName.base seen ks e) (owns g at) (told_follows k g.B.JournalName.base e.moment e.event e.reply seen (nothing g at) e (entry_is g at))
+    subst (λ (ks : List Key). MayFollow k g.B.JournalName.base seen ks e) (owns g at) (told_follows k g.B.JournalName.base e seen (nothing g at) c.requires.unanswered)
 
 pub append-requires-clause-sent : goal.append-requires-clause-sent
 append-requires-clause-sent g c =
@@ -56,7 +52,7 @@ append-requires-clause-counts g c =
     counts_none g.K.RecordKind.rules g.B.JournalName.base pass.seen pass.owns c.args.entry (counts_nothing g (goal.at.append-requires-clause-counts g c).After-none) _ _ _ c.none.ensures.share
 
 pub append-requires-clause-begins : goal.append-requires-clause-begins
-append-requires-clause-begins g c = begins_none (cell_view c.self.inside.pass).seen (cell_view c.self.inside.pass).owns c.args.entry.event c.requires.begins_none
+append-requires-clause-begins g c = begins_none (cell_view c.self.inside.pass).seen (cell_view c.self.inside.pass).owns c.args.entry.call c.requires.begins_none
 
 pub invariant_of-self : goal.invariant_of-self
 invariant_of-self g c =
@@ -69,7 +65,7 @@ invariant_of-self g c =
     let log = c.append.ensures.added.0 in
     let longer = c.append.new.desk.seen in
     let added = subst (λ (ks : List Key). Added k base pass.seen ks c.args.entry log longer) owns c.append.ensures.added.1 in
-    let alike = told_alike k base e.moment e.event e.reply pass.seen (nothing g at) e (entry_is g at) log longer added in
+    let alike = told_alike k base e pass.seen (nothing g at) c.requires.unanswered log longer added in
     let at_log = counted_on k c.live_lasts.ensures base pass.seen log c.self.inside.table.live c.self.invariant.counted added.goes_on added.legal in
     let set = c.append.ensures.set in
     let is : cell_view c.append.new.set ≡ holder longer puts_key = set.1 ∙ ap (λ (ks : List Key). holder longer ks) owns in

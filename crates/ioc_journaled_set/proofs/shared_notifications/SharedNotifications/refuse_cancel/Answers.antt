@@ -1,4 +1,4 @@
-use Rattle.std.proofs.Common.{List, sym, ap, ◌∙◌, subst}
+use Rattle.std.proofs.Common.{List, ap, ◌∙◌, subst}
 use Rattle.ioc_notify.specs.Living.{is_live}
 use Rattle.ioc_store.specs.World.{begun_at}
 use Rattle.ioc_history.specs.declared.entry.Note.{Note}
@@ -8,8 +8,8 @@ use Rattle.ioc_journaled_set.proofs.Counted.{counted_on}
 use Rattle.ioc_journaled_set.proofs.Telling.{live_now, stale_comes}
 use Rattle.ioc_journaled_set.proofs.shared_notifications.SharedNotifications.refuse_cancel.Goals as goal
 
-pub keep_told-receipt-requires-clause-nothing : goal.keep_told-receipt-requires-clause-nothing
-keep_told-receipt-requires-clause-nothing g c log sound go legal answers =
+pub keep_told-requires-clause-nothing : goal.keep_told-requires-clause-nothing
+keep_told-requires-clause-nothing g c log sound go legal answers =
     let k = g.K.RecordKind.rules in
     let w = map_of k g.B.JournalName.base log in
     let counted = subst (λ (s : List Note). AreCounted k g.B.JournalName.base c.self.inside.table.live s) (ap (λ (v : PutsView). v.seen) c.self.view_is) c.self.invariant.counted in

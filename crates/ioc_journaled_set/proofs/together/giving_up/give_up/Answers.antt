@@ -3,6 +3,7 @@ use Rattle.atomic_table.specs.Seated.{TableId}
 use Rattle.crossbeam_utils.specs.Seq.{cell_view}
 use Rattle.ioc_device.specs.declared.Answer.{Answer}
 use Rattle.ioc_events.specs.declared.event.Event.TheVariants.{Cancel}
+use Rattle.ioc_events.specs.declared.event.Call.TheVariants as calling
 use Rattle.ioc_events.specs.declared.reply.Reply.TheVariants.{Plain}
 use Rattle.ioc_history.specs.declared.entry.Note.{Note}
 use Rattle.ioc_history.specs.declared.cell.View.{View}
@@ -12,7 +13,7 @@ use Rattle.ioc_history.specs.Legal.{notifications_key}
 use Rattle.ioc_journaled_set.specs.Sent.{MayCountNothing}
 use Rattle.ioc_journaled_set.proofs.Sending.{sends_none, counts_none}
 use Rattle.ioc_history.specs.Covering.{Cover}
-use Rattle.ioc_history.specs.Account.{MayFollow, Call, Added, puts_key}
+use Rattle.ioc_history.specs.Account.{MayFollow, HasCalled, Added, puts_key}
 use Rattle.ioc_set.specs.SetState.{now_of, nothing_held}
 use Rattle.ioc_journaled_set.specs.Passes.{IsDealt}
 use Rattle.ioc_journaled_set.proofs.Following.{may_follow, counts_nothing, puts_owned, covered_then, share_none_then, held_then, nobody_then, none_ended_then, others_then, none_began_then}
@@ -23,20 +24,20 @@ merge_all-requires-clause-passes g c = λ i d lt. (c.requires.held i nothing_hel
 
 pub append-appended-requires-clause-follows : goal.append-appended-requires-clause-follows
 append-appended-requires-clause-follows g c =
-    subst (λ (a : List Answer). MayFollow g.K.RecordKind.rules g.B.JournalName.base (cell_view c.merge_all.new.keeper).seen (cell_view c.merge_all.new.keeper).owns (record { moment = c.args.moment; event = Cancel c.args.number; answers = a; reply = Plain })) (sym (c.new-2.ensures ∙ c.new.ensures.items))
+    subst (λ (a : List Answer). MayFollow g.K.RecordKind.rules g.B.JournalName.base (cell_view c.merge_all.new.keeper).seen (cell_view c.merge_all.new.keeper).owns (record { moment = c.args.moment; call = calling.Event (Cancel c.args.number) Plain; answers = a })) (sym (c.new-2.ensures ∙ c.new.ensures.items))
     (may_follow g.K.RecordKind.rules g.B.JournalName.base c.holding_lasts.ensures c.live_lasts.ensures c.cancelled_sets_are_held.ensures g.B.CellName.table c.args.number c.args.moment c.args.sets.now c.args.passes.now (cell_view c.args.keeper.now) (cell_view c.merge_all.new.keeper)
     c.requires.keeper.1 c.requires.held c.requires.have c.all_sound.ensures c.requires.beside c.merge_all.ensures.merged)
 
 pub append-appended-requires-clause-sent : goal.append-appended-requires-clause-sent
 append-appended-requires-clause-sent g c =
-    let nothing = subst (λ (a : List Answer). MayCountNothing g.K.RecordKind.rules g.B.JournalName.base (cell_view c.merge_all.new.keeper).seen (cell_view c.merge_all.new.keeper).owns (record { moment = c.args.moment; event = Cancel c.args.number; answers = a; reply = Plain })) (sym (c.new-2.ensures ∙ c.new.ensures.items))
+    let nothing = subst (λ (a : List Answer). MayCountNothing g.K.RecordKind.rules g.B.JournalName.base (cell_view c.merge_all.new.keeper).seen (cell_view c.merge_all.new.keeper).owns (record { moment = c.args.moment; call = calling.Event (Cancel c.args.number) Plain; answers = a })) (sym (c.new-2.ensures ∙ c.new.ensures.items))
     (counts_nothing g.K.RecordKind.rules g.B.JournalName.base c.holding_lasts.ensures c.live_lasts.ensures c.cancelled_sets_are_held.ensures g.B.CellName.table c.args.number c.args.moment c.args.sets.now c.args.passes.now (cell_view c.args.keeper.now) (cell_view c.merge_all.new.keeper)
     c.requires.keeper.1 c.requires.held c.requires.have c.all_sound.ensures c.requires.beside c.merge_all.ensures.merged) in
     sends_none g.K.RecordKind.rules g.B.JournalName.base (cell_view c.merge_all.new.keeper).seen (cell_view c.merge_all.new.keeper).owns _ nothing _ c.none.ensures.sent
 
 pub append-appended-requires-clause-counts : goal.append-appended-requires-clause-counts
 append-appended-requires-clause-counts g c =
-    let nothing = subst (λ (a : List Answer). MayCountNothing g.K.RecordKind.rules g.B.JournalName.base (cell_view c.merge_all.new.keeper).seen (cell_view c.merge_all.new.keeper).owns (record { moment = c.args.moment; event = Cancel c.args.number; answers = a; reply = Plain })) (sym (c.new-2.ensures ∙ c.new.ensures.items))
+    let nothing = subst (λ (a : List Answer). MayCountNothing g.K.RecordKind.rules g.B.JournalName.base (cell_view c.merge_all.new.keeper).seen (cell_view c.merge_all.new.keeper).owns (record { moment = c.args.moment; call = calling.Event (Cancel c.args.number) Plain; answers = a })) (sym (c.new-2.ensures ∙ c.new.ensures.items))
     (counts_nothing g.K.RecordKind.rules g.B.JournalName.base c.holding_lasts.ensures c.live_lasts.ensures c.cancelled_sets_are_held.ensures g.B.CellName.table c.args.number c.args.moment c.args.sets.now c.args.passes.now (cell_view c.args.keeper.now) (cell_view c.merge_all.new.keeper)
     c.requires.keeper.1 c.requires.held c.requires.have c.all_sound.ensures c.requires.beside c.merge_all.ensures.merged) in
     counts_none g.K.RecordKind.rules g.B.JournalName.base (cell_view c.merge_all.new.keeper).seen (cell_view c.merge_all.new.keeper).owns _ nothing _ _ _ c.none.ensures.share
@@ -68,10 +69,10 @@ returns-clause-gave_up g c =
     let table = c.append-appended.ensures.set.0 ∙ c.merge_all.ensures.keeper.same in
     let none = c.new-2.ensures ∙ c.new.ensures.items in
     let log = c.append-appended.ensures.added.0 in
-    let added = subst (λ (a : List Answer). Added k base (cell_view c.merge_all.new.keeper).seen (cell_view c.merge_all.new.keeper).owns (record { moment = c.args.moment; event = Cancel c.args.number; answers = a; reply = Plain }) log longer) none c.append-appended.ensures.added.1 in
+    let added = subst (λ (a : List Answer). Added k base (cell_view c.merge_all.new.keeper).seen (cell_view c.merge_all.new.keeper).owns (record { moment = c.args.moment; call = calling.Event (Cancel c.args.number) Plain; answers = a }) log longer) none c.append-appended.ensures.added.1 in
     record {
       gives_up = c.in_default.ensures.ok;
-      call = subst (λ (a : List Answer). Call k base c.args.desk.now (record { moment = c.args.moment; event = Cancel c.args.number; answers = a; reply = Plain }) c.append-appended.new.desk) none c.append-appended.ensures.call;
+      call = subst (λ (a : List Answer). HasCalled k base c.args.desk.now (record { moment = c.args.moment; call = calling.Event (Cancel c.args.number) Plain; answers = a }) c.append-appended.new.desk) none c.append-appended.ensures.call;
       dealt = λ i d e lt. subst (λ (t : TableId). IsDealt t longer (get_or after i d) (get_or c.deal_all.new.passes i e)) table
           (subst (λ (l : List Note). IsDealt c.append-appended.new.set.table_id l (get_or after i d) (get_or c.deal_all.new.passes i e)) seen (c.deal_all.ensures.dealt i d e lt));
       holds = λ i d lt. held_then g.K.RecordKind.rules g.B.JournalName.base c.holding_lasts.ensures c.live_lasts.ensures c.cancelled_sets_are_held.ensures g.B.CellName.table c.args.number c.args.moment c.args.sets.now c.args.passes.now (cell_view c.args.keeper.now) (cell_view c.merge_all.new.keeper)

@@ -1,13 +1,11 @@
-use Rattle.std.proofs.Common.{◌≡◌, true, ap, sym, ◌∙◌, subst}
+use Rattle.std.proofs.Common.{ap, sym, ◌∙◌, subst}
 use Rattle.ioc_store.specs.World.{World}
-use Rattle.ioc_events.specs.declared.reply.Reply.{Reply}
-use Rattle.ioc_events.specs.SetReply.{event_by, told_by}
 use Rattle.ioc_events.specs.Holding.{IsCounted}
 use Rattle.ioc_set_store.specs.SetStore.{world_of}
 use Rattle.ioc_set.specs.SetState.{SetState, done_by}
 use Rattle.ioc_set_store.specs.Resting.{resting}
-use Rattle.ioc_set.specs.Doing.{is_done_on_sets, held_by, with_place, Does}
-use Rattle.ioc_set.proofs.DoneLaws.{same_held, now_kept, alike_after, sound_then, does, set_events_are_done}
+use Rattle.ioc_set.specs.Doing.{held_by, with_place, Does}
+use Rattle.ioc_set.proofs.DoneLaws.{same_held, now_kept, alike_after, sound_then, does}
 use Rattle.ioc_set.proofs.lock_set.LockSet.do_event.Goals as goal
 
 pub run_set_event-kept-requires-clause-counted : goal.run_set_event-kept-requires-clause-counted
@@ -29,12 +27,11 @@ invariant_of-self-2 g c =
     let puts = c.make_place.new.puts in
     let after = c.run_set_event-kept.new.members in
     let did = c.run_set_event-kept.ensures.did in
-    let done_here : is_done_on_sets entry.event ≡ true = ap is_done_on_sets c.run_set_event-kept.ensures.event ∙ set_events_are_done c.args.event.now in
     let was = held_by one.members one.puts one.base_tally one.tally one.history.items in
     let same = same_held one.members one.puts c.make_room_for.new.self one.base_tally one.tally one.history.items c.make_room_for.ensures.live c.make_room_for.ensures.waiting c.make_room_for.ensures.base_live c.make_room_for.ensures.base_waiting in
     let held = c.in_ok-make_place.ensures.held ∙ ap (λ (h : SetState g.row.K.Denot g.row.D.Denot). with_place h) same in (
       sound_then k g.D.Device.gives was before puts c.make_place.new.base_tally one.tally c.make_place.new.history.items held
-          entry after c.run_set_event-kept.new.puts c.run_set_event-kept.new.tally c.run_set_event-kept.new.place.store did done_here c.push_reserved.new.self.items c.push_reserved.ensures.items
+          entry after c.run_set_event-kept.new.puts c.run_set_event-kept.new.tally c.run_set_event-kept.new.buffers.store did c.push_reserved.new.self.items c.push_reserved.ensures.items
           c.events_leave_sound.ensures.event c.events_leave_sound.ensures.folded c.self.invariant.0,
       alike_after k before after puts.live puts.waiting entry.moment (done_by k (resting before.records puts.live puts.waiting) entry).world did.keeps did.records did.base c.in_ok-make_place.ensures.like,
     )
@@ -46,15 +43,13 @@ returns-clause-ok g c =
     let one = c.self.inside in
     let entry = c.run_set_event-kept.result in
     let after = c.run_set_event-kept.new.members in
-    let done_here : is_done_on_sets entry.event ≡ true = ap is_done_on_sets c.run_set_event-kept.ensures.event ∙ set_events_are_done c.args.event.now in
     let was = held_by one.members one.puts one.base_tally one.tally one.history.items in
     let same = same_held one.members one.puts c.make_room_for.new.self one.base_tally one.tally one.history.items c.make_room_for.ensures.live c.make_room_for.ensures.waiting c.make_room_for.ensures.base_live c.make_room_for.ensures.base_waiting in
     let held = c.in_ok-make_place.ensures.held ∙ ap (λ (h : SetState g.row.K.Denot g.row.D.Denot). with_place h) same in
     let then = held_by after c.run_set_event-kept.new.puts c.make_place.new.base_tally c.run_set_event-kept.new.tally c.push_reserved.new.self.items in
-    let come_to = world_of c.run_set_event-kept.new.place.store in
-    let event = event_by c.args.event.now in
-    subst (λ (h : SetState g.row.K.Denot g.row.D.Denot). Does k gives h c.args.moment event (told_by c.reply-came_to.result) then come_to) c.self.view_is
-    (subst (λ (reply : Reply). Does k gives was c.args.moment event reply then come_to) (sym c.reply-came_to.ensures)
+    let come_to = world_of c.run_set_event-kept.new.buffers.store in
+    let event = c.args.event.now in
+    subst (λ (h : SetState g.row.K.Denot g.row.D.Denot). Does k gives h c.args.moment event entry.reply then come_to) c.self.view_is
     (does k gives was c.make_place.new.members c.make_place.new.puts c.make_place.new.base_tally one.tally c.make_place.new.history.items held
-    entry after c.run_set_event-kept.new.puts c.run_set_event-kept.new.tally c.run_set_event-kept.new.place.store c.run_set_event-kept.ensures.did done_here c.push_reserved.new.self.items c.push_reserved.ensures.items
-    c.args.moment event c.run_set_event-kept.ensures.moment c.run_set_event-kept.ensures.event))
+    entry after c.run_set_event-kept.new.puts c.run_set_event-kept.new.tally c.run_set_event-kept.new.buffers.store c.run_set_event-kept.ensures.did c.push_reserved.new.self.items c.push_reserved.ensures.items
+    c.args.moment event c.run_set_event-kept.ensures.moment c.run_set_event-kept.ensures.event)

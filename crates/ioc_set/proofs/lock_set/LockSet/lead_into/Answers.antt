@@ -54,5 +54,5 @@ rescan-requires g c =
 pub returns-clause-led : goal.returns-clause-led
 returns-clause-led g c =
     leads g.K.RecordKind.rules c.args.self.now c.args.other.now c.fold.new.self c.split.new.self c.unite.new.self c.in_ok-rest.rest c.rescan.new.self c.unite.new.other c.args.change.moment c.args.change.number c.args.change.field c.empty.result c.args.change.link
-    c.fold.ensures c.empty.ensures c.in_ok-rest.ensures.apart c.unite.ensures c.is_sound-4.ensures c.device_text-before.result c.device_text-before.ensures (world_of c.rescan.new.place.store)
+    c.fold.ensures c.empty.ensures c.in_ok-rest.ensures.apart c.unite.ensures c.is_sound-4.ensures c.device_text-before.result c.device_text-before.ensures (world_of c.rescan.new.buffers.store)
     c.rescan.ensures.left c.rescan.ensures.held

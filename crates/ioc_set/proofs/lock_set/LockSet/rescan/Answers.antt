@@ -58,6 +58,6 @@ returns-clause-left g c =
     let inside = c.self.inside in
     let before = c.args.self.now in
     let with_empty_history = ap (λ (m : Contents g.row.K.Denot g.row.D.Denot). m.records) c.clear_history.ensures.members in
-    ap (λ (rs : Records g.row.K.Denot). with_kept rs before.live before.waiting (world_of c.rescan_on.new.place.store)) with_empty_history
-    ∙ rewired_beside k c.args.moment c.args.number c.args.before before.live before.waiting inside.members.records c.rescan_on.new.members.records (world_of c.rescan_on.new.place.store) c.rescan_on.ensures.left
+    ap (λ (rs : Records g.row.K.Denot). with_kept rs before.live before.waiting (world_of c.rescan_on.new.buffers.store)) with_empty_history
+    ∙ rewired_beside k c.args.moment c.args.number c.args.before before.live before.waiting inside.members.records c.rescan_on.new.members.records (world_of c.rescan_on.new.buffers.store) c.rescan_on.ensures.left
     ∙ ap (λ (h : SetState g.row.K.Denot g.row.D.Denot). rewired k c.args.before (begun_at c.args.moment (resting h.records before.live before.waiting)) c.args.number) c.self.view_is

@@ -1,27 +1,29 @@
-use Rattle.std.proofs.Common.{◌≡◌, ℕ, ◌≤◌, refl, sym, ap, ◌∙◌}
-use Rattle.std.specs.FinMap.{len}
-use Rattle.ioc_device.specs.declared.Answer.TheVariants.{Fault}
-use Rattle.ioc_store.specs.Given.{Answers}
-use Rattle.ioc_events.specs.declared.event.Event.TheVariants.{Link}
-use Rattle.ioc_sim.proofs.Eventing.{settled_on, room_on, event_alone_on}
+use Rattle.std.proofs.Common.{◌≡◌, ◌≤◌, ℕ}
+use Rattle.ioc_store.specs.OneMap.{world_of}
+use Rattle.ioc_sim.proofs.Eventing.{settled_on, closed_on, room_on, link_on, no_link_on, on_ok, on_err, if_err, link_settled, link_count}
 use Rattle.ioc_sim.proofs.machine.Machine.relink.Goals as goal
-
--- A link change calls no device.
-no_answers : Answers
-no_answers calls n ask = Fault
 
 same_count : {m n room : ℕ} → n ≡ m → m ≤ room → n ≤ room
 same_count is few = rw is few
 
 pub invariant_of-self : goal.invariant_of-self
-invariant_of-self c =
-    let settled = settled_on c.args.self.now c.begin_event.new.map c.begin_event.ensures.world in
-    let step = c.run_link.ensures.step no_answers in
-    record {
-      settled = (event_alone_on c.args.self.now (Link c.args.number c.args.field c.args.link) c.begin_event.new.map c.run_link.new.store c.begin_event.ensures.world c.begin_event.ensures.devices c.run_link.result c.run_link.ensures.given refl c.run_link.ensures.step).settled c.begin_event.ensures.settled;
-      empty = c.args.self.now.empty;
-      room = same_count (sym (ap (λ s. len s.world.records) step) ∙ c.event_keeps_count.ensures no_answers _ _ settled.closed) (room_on c.args.self.now c.begin_event.new.map c.begin_event.ensures.world);
-    }
+invariant_of-self c = record {
+  settled =
+      link_settled c.args.number c.args.field c.args.link (world_of c.begin_event.new.map) (world_of c.run_link.new.store) c.run_link.result c.link_change_keeps.ensures.settled c.run_link.ensures.done c.run_link.ensures.world
+      c.run_link.ensures.same (settled_on c.args.self.now c.begin_event.new.map c.begin_event.ensures.world);
+  empty = c.args.self.now.empty;
+  room =
+      same_count
+      (link_count c.args.number c.args.field c.args.link (world_of c.begin_event.new.map) (world_of c.run_link.new.store) c.run_link.result c.link_change_keeps.ensures.count c.run_link.ensures.done c.run_link.ensures.world
+      c.run_link.ensures.same (closed_on c.args.self.now c.begin_event.new.map c.begin_event.ensures.world)) (room_on c.args.self.now c.begin_event.new.map c.begin_event.ensures.world);
+}
 
-pub returns : goal.returns
-returns c = (event_alone_on c.args.self.now (Link c.args.number c.args.field c.args.link) c.begin_event.new.map c.run_link.new.store c.begin_event.ensures.world c.begin_event.ensures.devices c.run_link.result c.run_link.ensures.given refl c.run_link.ensures.step).gives
+pub returns-in-Ok : goal.returns-in-Ok
+returns-in-Ok c =
+    link_on c.args.self.now c.begin_event.new.map c.run_link.new.store c.begin_event.ensures.world c.begin_event.ensures.devices c.run_link.ensures.given c.args.number c.args.field c.args.link
+    (on_ok c.run_link.result _ _ c.in-Ok.is c.run_link.ensures.done) (on_ok c.run_link.result _ _ c.in-Ok.is c.run_link.ensures.world)
+
+pub returns-in-Err : goal.returns-in-Err
+returns-in-Err c =
+    no_link_on c.args.self.now c.begin_event.new.map c.run_link.new.store c.begin_event.ensures.world c.begin_event.ensures.devices c.run_link.ensures.given c.args.number c.args.field c.args.link
+    c.in-Err.refused (if_err c.run_link.result _ _ c.in-Err.is c.run_link.ensures.refused) (on_err c.run_link.result _ _ c.in-Err.is c.run_link.ensures.same)

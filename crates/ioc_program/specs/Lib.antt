@@ -1,0 +1,4 @@
+pub mod CommandLine
+pub mod Definitions
+pub mod Endings
+pub mod Files

@@ -1,0 +1,6 @@
+pub mod Seen
+pub mod Order
+pub mod Turns
+pub mod Lanes
+pub mod Requests
+pub mod Ranks
