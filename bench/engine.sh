@@ -56,7 +56,7 @@ done
 echo
 echo "| A round | Beside it | Instructions |"
 echo "|---|---|---|"
-for work_and_size in "put 0" "notify 0" "link 1000" "link 131000" "cancel 1000" "cancel 131000"; do
+for work_and_size in "put 0" "notify 0" "link 1000" "link 131000" "cancel 1000" "cancel 131000" "post 1"; do
   size=${work_and_size#* }
   by_engine "$size" "${work_and_size% *}"
   echo "| ${work_and_size% *} | $size records | $(each 'PROGRAM TOTALS') |"

@@ -3,13 +3,15 @@
 //! own; one journal of all calls, in which a place is held before a call changes anything, so that no call is lost; and a history
 //! of the last 64 calls of each set with the state before them.
 //!
-//! `plain CALLS THREADS RECORDS`: each thread requests the first record of a chain of its own, CALLS times. A chain has RECORDS
-//! records, which forward to each other. Prints the calls of all threads in a millisecond.
+//! `plain CALLS THREADS RECORDS [post]`: each thread requests the first record of a chain of its own, CALLS times. A chain has RECORDS
+//! records, which forward to each other. With `post`, each thread posts an event for which the first record of its chain waits, and
+//! serves the request from the callback queues. Prints the calls of all threads in a millisecond.
 //!
 //! `rustc -O plain.rs` builds it.
+use std::collections::{BTreeMap, VecDeque};
 use std::hint::black_box;
 use std::sync::atomic::{AtomicBool, AtomicUsize, Ordering};
-use std::sync::{Arc, Mutex, RwLock};
+use std::sync::{Arc, Condvar, Mutex, RwLock};
 use std::time::Instant;
 
 /// The number of places in the journal.
@@ -113,6 +115,7 @@ enum Event {
     Process(usize),
     Put(usize, u16, [u8; 40]),
     Get(usize, u16),
+    Post([u8; 40], usize),
 }
 
 #[derive(Clone, Copy)]
@@ -438,6 +441,56 @@ impl Journal {
     }
 }
 
+/// The number of requests that each queue holds.
+const QUEUED: [usize; 4] = [2000, 2000, 2000, 1000];
+
+/// What a posted event needs: the records that wait for each event, with the queue of their priority, the callback queues and the
+/// once queue, and the tickets of the requests on them.
+struct Scanning {
+    lists: Mutex<BTreeMap<String, Vec<(usize, usize)>>>,
+    queues: [Mutex<VecDeque<usize>>; 4],
+    waiting: Mutex<usize>,
+    wake: Condvar,
+    begun: AtomicUsize,
+    spent: AtomicUsize,
+    dropped: AtomicUsize,
+}
+
+impl Scanning {
+    fn new(chains: usize, length: usize) -> Self {
+        let list = |chain: usize| (format!("e{chain}"), vec![(chain * length, 0)]);
+        let queue = |room| Mutex::new(VecDeque::with_capacity(room));
+        Scanning {
+            lists: Mutex::new((0..chains).map(list).collect()),
+            queues: QUEUED.map(queue),
+            waiting: Mutex::new(0),
+            wake: Condvar::new(),
+            begun: AtomicUsize::new(0),
+            spent: AtomicUsize::new(0),
+            dropped: AtomicUsize::new(0),
+        }
+    }
+
+    /// Puts a request at the end of its queue, and wakes a worker.
+    fn push(&self, queue: usize, number: usize) {
+        let mut requests = self.queues[queue].lock().unwrap();
+        if requests.len() == QUEUED[queue] {
+            self.dropped.fetch_add(1, Ordering::Relaxed);
+            return;
+        }
+        requests.push_back(number);
+        drop(requests);
+        if *self.waiting.lock().unwrap() > 0 {
+            self.wake.notify_one();
+        }
+    }
+
+    /// Takes the first request of the first queue that has one.
+    fn next(&self) -> Option<usize> {
+        self.queues.iter().find_map(|queue| queue.lock().unwrap().pop_front())
+    }
+}
+
 /// The journal lies apart from what other threads write.
 #[repr(align(128))]
 struct Apart<T>(T);
@@ -448,6 +501,7 @@ struct Engine {
     homes: Vec<AtomicUsize>,
     sets: RwLock<Vec<Arc<Mutex<Set>>>>,
     journal: Apart<Mutex<Journal>>,
+    scanning: Scanning,
 }
 
 /// A caller, with the number of its calls.
@@ -466,6 +520,7 @@ impl Engine {
             homes: (0..chains * length).map(home).collect(),
             sets: RwLock::new((0..chains).map(set).collect()),
             journal: Apart(Mutex::new(Journal { entries: Vec::new(), held: 0 })),
+            scanning: Scanning::new(chains, length),
         }
     }
 
@@ -510,6 +565,56 @@ impl Engine {
     }
 }
 
+impl Engine {
+    /// Posts an event: adds the call to the journal, and queues a request of each record that waits for it. Returns their number.
+    fn post(&self, desk: &mut Desk, walked: &mut Vec<(usize, usize)>, name: &str, moment: u64) -> Option<usize> {
+        if self.is_closed.load(Ordering::Acquire) {
+            return None;
+        }
+        walked.clear();
+        walked.extend(self.scanning.lists.lock().unwrap().get(name).into_iter().flatten());
+        self.journal.0.lock().unwrap().hold()?;
+        let mut posted = [0; 40];
+        posted[..name.len()].copy_from_slice(name.as_bytes());
+        let entry = Entry {
+            moment,
+            desk: desk.number,
+            call: desk.calls,
+            event: Event::Post(posted, walked.len()),
+            reply: Reply::Plain,
+            answers: [0; 3],
+        };
+        self.journal.0.lock().unwrap().fill(entry);
+        desk.calls += 1;
+        self.scanning.begun.fetch_add(walked.len(), Ordering::Relaxed);
+        for (number, queue) in walked.iter() {
+            self.scanning.push(*queue, *number);
+        }
+        Some(walked.len())
+    }
+
+    /// Serves the first request that waits.
+    fn serve_one(&self, desk: &mut Desk, moment: u64) -> bool {
+        let Some(number) = self.scanning.next() else {
+            return false;
+        };
+        self.scanning.spent.fetch_add(1, Ordering::Relaxed);
+        self.process(desk, number, moment).is_some()
+    }
+}
+
+/// Posts the events of one thread, and serves their requests.
+fn posts(engine: &Engine, thread: usize, count: u64) {
+    let mut desk = Desk { number: thread as u64, calls: 0 };
+    let mut walked = Vec::new();
+    let name = format!("e{thread}");
+    for moment in 0..count {
+        let posted = engine.post(&mut desk, &mut walked, black_box(&name), moment);
+        assert!(black_box(posted).is_some(), "an event was refused");
+        assert!(engine.serve_one(&mut desk, moment), "a request was refused");
+    }
+}
+
 /// Makes the calls of one thread.
 fn calls(engine: &Engine, thread: usize, count: u64, number: usize) {
     let mut desk = Desk { number: thread as u64, calls: 0 };
@@ -520,16 +625,22 @@ fn calls(engine: &Engine, thread: usize, count: u64, number: usize) {
 }
 
 fn main() {
-    let words: Vec<usize> = std::env::args().skip(1).map(|word| word.parse().expect("a number")).collect();
+    let words: Vec<String> = std::env::args().skip(1).collect();
+    let is_post = words.get(3).is_some_and(|word| word == "post");
+    let words: Vec<usize> = words.iter().take(3).map(|word| word.parse().expect("a number")).collect();
     let [count, threads, length] = words[..] else {
-        panic!("usage: plain CALLS THREADS RECORDS");
+        panic!("usage: plain CALLS THREADS RECORDS [post]");
     };
     let engine = Engine::new(threads, length);
     let begun = Instant::now();
     std::thread::scope(|scope| {
         for thread in 0..threads {
             let engine = &engine;
-            scope.spawn(move || calls(engine, thread, count as u64, thread * length));
+            if is_post {
+                scope.spawn(move || posts(engine, thread, count as u64));
+            } else {
+                scope.spawn(move || calls(engine, thread, count as u64, thread * length));
+            }
         }
     });
     let micros = begun.elapsed().as_micros().max(1);

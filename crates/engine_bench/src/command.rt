@@ -13,7 +13,9 @@ pub const PROGRAM: Program = Program {
 };
 
 // The names of the works.
-static WORKS: [&str; 7] = ["lone", "chain", "put", "notify", "link", "cancel", "hold"];
+static WORKS: [&str; 11] = [
+    "lone", "chain", "put", "notify", "link", "cancel", "post", "serve", "spread", "narrow", "hold",
+];
 
 // Returns the argument of a number.
 fn number<'a>(alloc: Global, name: &'a str, help: &'a str) -> Arg<'a> {

@@ -11,29 +11,26 @@ mod command;
 mod database;
 mod later;
 mod rounds;
+mod serving;
 mod work;
 
 use crate::command::{PROGRAM, jobs};
 use crate::database::text;
-use crate::later::{Later, devices};
+use crate::later::{Sensor, devices};
 use crate::rounds::in_threads;
+use crate::serving::served;
 use crate::work::{Job, Work};
-use ioc_engine::{Engine, EngineName, FixedClock, IocError, Limits, LoadError, Macros, Seed, load};
+use ioc_engine::{Engine, EngineName, FixedClock, IocError, LoadError, Macros, Seed, load};
 use ioc_program::{Ending, Reason, Stop, given, show};
 use std::alloc::Global;
 use std::env::{self, Args};
 use std::io::{self, Eprint, Print};
 use std::marker::Brand;
 use std::process::ExitCode;
-use std::sync::Wait;
+use std::sync::atomic::AtomicU64;
+use std::sync::{Arc, Wait};
 use std::thread::Threads;
 use std::time::{Clock, Instant};
-
-// The largest journal that an engine can have.
-const LIMITS: Limits = Limits {
-    journal: 4_194_304,
-    checkpoint_at: 0,
-};
 
 // What was measured.
 #[derive(Clone, Copy)]
@@ -43,10 +40,14 @@ struct Measured {
 }
 
 // Returns the seed of the records that a job calls.
-fn seed_of(alloc: Global, job: &Job) -> Result<Seed<Later>, LoadError> {
+fn seed_of(
+    alloc: Global,
+    job: &Job,
+    marks: &Arc<AtomicU64, Global>,
+) -> Result<Seed<Sensor>, LoadError> {
     let text = text(alloc, job.records())?;
     let database = load(alloc, text.as_bytes(), &Macros::new(alloc))?;
-    Ok(Seed::new(alloc, database, devices(alloc, job.threads)?)?)
+    Ok(Seed::new(alloc, database, devices(alloc, job.threads, marks)?)?)
 }
 
 // Waits until standard input ends, and returns the number of rounds, which is 1.
@@ -56,18 +57,20 @@ fn hold<R: Input>(rt: &R, alloc: Global) -> u64 {
 }
 
 // Carries out a job with an engine.
-fn carry_out<B: EngineName<Later> + Send + Sync, R: Clock + Input + Threads + Wait + Sync>(
+fn carry_out<B: EngineName<Sensor> + Send + Sync, R: Clock + Input + Threads + Wait + Sync>(
     rt: &R,
     alloc: Global,
-    seed: Seed<Later>,
+    seed: Seed<Sensor>,
     job: &Job,
+    marks: &AtomicU64,
 ) -> Result<Measured, IocError>
     requires named { IsNamedBy B.table B.base B.devices B.places B.tickets B.counts seed }
 {
-    let engine = Engine::<B, _, _>::start(alloc, seed, FixedClock(1), LIMITS)?;
+    let engine = Engine::<B, _, _>::start(rt, alloc, seed, FixedClock(1), job.limits())?;
     let begun = Instant::now(rt);
     let rounds = match job.work {
         Work::Hold => hold(rt, alloc),
+        Work::Serve => served(rt, alloc, &engine, job, marks)?,
         _ => in_threads(rt, alloc, &engine, job)?,
     };
     Ok(Measured {
@@ -93,8 +96,9 @@ fn run<R: Clock + Input + Threads + Wait + Sync>(
     alloc: Global,
     job: &Job,
 ) -> Result<Measured, IocError> {
-    match seed_of(alloc, job) {
-        Ok(seed) => carry_out::<Brand, _>(rt, alloc, seed, job),
+    let marks = Arc::new(alloc, AtomicU64::new(0))?;
+    match seed_of(alloc, job, &marks) {
+        Ok(seed) => carry_out::<Brand, _>(rt, alloc, seed, job, &marks),
         Err(_) => Err(IocError::NoMemory),
     }
 }

@@ -1,5 +1,5 @@
 //! Rounds of calls by many threads.
-use crate::later::Later;
+use crate::later::Sensor;
 use crate::work::{Job, Work};
 use ioc_engine::{
     Channel, Desk, Engine, EngineName, Finished, FixedClock, Input as Given, IocError, NotifyId,
@@ -10,32 +10,54 @@ use std::sync::Wait;
 use std::thread;
 use std::thread::Threads;
 
-type Calls<B> = Engine<B, Later, FixedClock>;
+type Calls<B> = Engine<B, Sensor, FixedClock>;
 
-type OneDesk<B> = Desk<B, Later>;
+type OneDesk<B> = Desk<B, Sensor>;
 
 fn is_processed(reply: &Reply) -> bool {
     matches!(reply, Reply::Outcome(Outcome::Processed))
 }
 
+// The records that a thread requests: the first one, and then each time the one that is `step`
+// places further, of `count` records in a ring.
+#[derive(Clone, Copy)]
+struct Ring {
+    first: usize,
+    step: usize,
+    count: usize,
+}
+
+impl Ring {
+    // Returns the place after this one.
+    fn after(&self, place: usize) -> usize {
+        let next = place.saturating_add(self.step);
+        if next < self.count {
+            return next;
+        }
+        next.saturating_sub(self.count)
+    }
+}
+
 // Requests a record in each round.
-fn requests<B: EngineName<Later>, R: Wait>(
+fn requests<B: EngineName<Sensor>, R: Wait>(
     rt: &R,
     engine: &Calls<B>,
     desk: &mut OneDesk<B>,
-    number: RecordNo,
+    ring: Ring,
     rounds: u64,
 ) -> Result<u64, IocError> {
     let mut held = 0u64;
+    let mut place = ring.first;
     for _ in 0..rounds {
-        let (reply, _receipt) = engine.process(rt, desk, number)?;
+        let (reply, _receipt) = engine.process(rt, desk, RecordNo::new(place))?;
         held = held.saturating_add(u64::from(is_processed(&reply)));
+        place = ring.after(place);
     }
     Ok(held)
 }
 
 // Puts this value into a field in each round.
-fn puts<B: EngineName<Later>, R: Wait>(
+fn puts<B: EngineName<Sensor>, R: Wait>(
     rt: &R,
     engine: &Calls<B>,
     desk: &mut OneDesk<B>,
@@ -53,7 +75,7 @@ fn puts<B: EngineName<Later>, R: Wait>(
 
 // Changes a link in each round, to a record of another set or to none. Counts the rounds that moved
 // records.
-fn link_changes<B: EngineName<Later>, R: Wait>(
+fn link_changes<B: EngineName<Sensor>, R: Wait>(
     rt: &R,
     engine: &Calls<B>,
     desk: &mut OneDesk<B>,
@@ -74,7 +96,7 @@ fn link_changes<B: EngineName<Later>, R: Wait>(
 }
 
 // Puts a value into a field with notification, and returns the number of the put.
-fn put_notify<B: EngineName<Later>, R: Wait>(
+fn put_notify<B: EngineName<Sensor>, R: Wait>(
     rt: &R,
     engine: &Calls<B>,
     desk: &mut OneDesk<B>,
@@ -88,7 +110,7 @@ fn put_notify<B: EngineName<Later>, R: Wait>(
 }
 
 // Completes a record, and returns whether it awaited this completion.
-fn complete<B: EngineName<Later>, R: Wait>(
+fn complete<B: EngineName<Sensor>, R: Wait>(
     rt: &R,
     engine: &Calls<B>,
     desk: &mut OneDesk<B>,
@@ -102,7 +124,7 @@ fn complete<B: EngineName<Later>, R: Wait>(
 
 // Puts with notification in each round, cancels the put in the rounds of such work, and completes
 // the record.
-fn notifications<B: EngineName<Later>, R: Wait>(
+fn notifications<B: EngineName<Sensor>, R: Wait>(
     rt: &R,
     engine: &Calls<B>,
     desk: &mut OneDesk<B>,
@@ -122,6 +144,23 @@ fn notifications<B: EngineName<Later>, R: Wait>(
     Ok(held)
 }
 
+// Posts an event in each round, and serves the request of the record that waits for it.
+fn posts<B: EngineName<Sensor>, R: Wait>(
+    rt: &R,
+    engine: &Calls<B>,
+    desk: &mut OneDesk<B>,
+    name: &[u8],
+    rounds: u64,
+) -> Result<u64, IocError> {
+    let mut held = 0u64;
+    for _ in 0..rounds {
+        let (count, _receipt) = engine.post_event(rt, desk, name)?;
+        let is_served = engine.serve_one(rt, desk);
+        held = held.saturating_add(u64::from(count == 1 && is_served));
+    }
+    Ok(held)
+}
+
 // The field that a thread calls, and the record to which its link leads.
 #[derive(Drop)]
 struct Target {
@@ -129,8 +168,8 @@ struct Target {
     other: String,
 }
 
-// Finds the target of a thread.
-fn target_of<B: EngineName<Later>>(
+// Finds the target of a thread. Of a thread that posts events the other name is that of its event.
+fn target_of<B: EngineName<Sensor>>(
     alloc: Global,
     engine: &Calls<B>,
     work: Work,
@@ -141,15 +180,36 @@ fn target_of<B: EngineName<Later>>(
         Work::Lone | Work::Chain | Work::Put => format!(in alloc; "c{thread}:0")?,
         Work::Notify | Work::Cancel => format!(in alloc; "d{thread}")?,
         Work::Link => format!(in alloc; "c{first}:9.FLNK")?,
-        Work::Hold => format!(in alloc; "o0")?,
+        Work::Post => format!(in alloc; "p{thread}")?,
+        Work::Serve => format!(in alloc; "mark")?,
+        Work::Spread | Work::Narrow | Work::Hold => format!(in alloc; "o0")?,
     };
     let channel = engine.channel(name.as_bytes())?;
-    let other = format!(in alloc; "c{}:0", first.saturating_add(1))?;
+    let other = match work {
+        Work::Post => format!(in alloc; "e{thread}")?,
+        _ => format!(in alloc; "c{}:0", first.saturating_add(1))?,
+    };
     Ok(Target { channel, other })
 }
 
+// Returns the records that a thread requests, which are all of the job or only the one at `place`.
+fn ring_of(job: &Job, place: usize, thread: usize) -> Ring {
+    match job.work {
+        Work::Spread | Work::Narrow => Ring {
+            first: thread.saturating_mul(job.size) / job.threads.max(1),
+            step: 1,
+            count: job.size,
+        },
+        _ => Ring {
+            first: place,
+            step: 0,
+            count: usize::MAX,
+        },
+    }
+}
+
 // Carries out the rounds of a thread, and returns the number of those with the expected replies.
-fn rounds<B: EngineName<Later>, R: Wait>(
+fn rounds<B: EngineName<Sensor>, R: Wait>(
     rt: &R,
     alloc: Global,
     engine: &Calls<B>,
@@ -160,7 +220,10 @@ fn rounds<B: EngineName<Later>, R: Wait>(
     let target = target_of(alloc, engine, job.work, thread)?;
     let channel = target.channel;
     match job.work {
-        Work::Lone | Work::Chain => requests(rt, engine, &mut desk, channel.record(), job.rounds),
+        Work::Lone | Work::Chain | Work::Spread | Work::Narrow => {
+            let ring = ring_of(job, channel.record().index(), thread);
+            requests(rt, engine, &mut desk, ring, job.rounds)
+        }
         Work::Put => {
             let given = Given::from_text(b"3");
             puts(rt, engine, &mut desk, channel, &given, job.rounds)
@@ -168,7 +231,8 @@ fn rounds<B: EngineName<Later>, R: Wait>(
         Work::Notify => notifications(rt, engine, &mut desk, channel, false, job.rounds),
         Work::Link => link_changes(rt, engine, &mut desk, &target, job.rounds),
         Work::Cancel => notifications(rt, engine, &mut desk, channel, true, job.rounds),
-        Work::Hold => Ok(0),
+        Work::Post => posts(rt, engine, &mut desk, target.other.as_bytes(), job.rounds),
+        Work::Serve | Work::Hold => Ok(0),
     }
 }
 
@@ -178,7 +242,7 @@ fn rounds<B: EngineName<Later>, R: Wait>(
 /// # Errors
 ///
 /// The first refusal of a call. [`IocError::NoMemory`] if allocation fails.
-pub fn in_threads<B: EngineName<Later> + Send + Sync, R: Threads + Wait + Sync>(
+pub fn in_threads<B: EngineName<Sensor> + Send + Sync, R: Threads + Wait + Sync>(
     rt: &R,
     alloc: Global,
     engine: &Calls<B>,

@@ -1,5 +1,12 @@
 //! What the threads do.
 use crate::database::Records;
+use ioc_engine::Limits;
+
+// The largest journal that an engine can have.
+const MOST_PLACES: u64 = 4_194_304;
+
+// The most records of an event. With a further one, a callback queue has room for four events.
+const MOST_CALLED: usize = 499;
 
 /// The work of a thread. The records that it calls are those with its number, from 0 on.
 #[derive(Clone, Copy)]
@@ -17,6 +24,16 @@ pub enum Work {
     /// A round is a put with notification into a record that awaits its device, its cancel, and the
     /// completion of the record.
     Cancel,
+    /// A round posts an event, for which a record without links waits, and serves its request.
+    Post,
+    /// A round is a request of one of the records of an event, which one of the threads serves.
+    /// A further thread posts the event. It has 499 records at most.
+    Serve,
+    /// A round requests one of the records, by all threads in turn. A checkpoint is made each
+    /// 100,000 calls, of a journal with all places that it can have.
+    Spread,
+    /// As `Spread`, of a journal with 200,000 places.
+    Narrow,
     /// No thread calls anything: the program waits until standard input ends, so that the memory of
     /// the records at rest can be looked at.
     Hold,
@@ -32,6 +49,10 @@ impl Work {
             "notify" => Some(Work::Notify),
             "link" => Some(Work::Link),
             "cancel" => Some(Work::Cancel),
+            "post" => Some(Work::Post),
+            "serve" => Some(Work::Serve),
+            "spread" => Some(Work::Spread),
+            "narrow" => Some(Work::Narrow),
             "hold" => Some(Work::Hold),
             _ => None,
         }
@@ -46,6 +67,10 @@ impl Work {
             Work::Notify => "notify",
             Work::Link => "link",
             Work::Cancel => "cancel",
+            Work::Post => "post",
+            Work::Serve => "serve",
+            Work::Spread => "spread",
+            Work::Narrow => "narrow",
             Work::Hold => "hold",
         }
     }
@@ -63,6 +88,29 @@ pub struct Job {
 }
 
 impl Job {
+    /// Returns the limits of the engine.
+    pub fn limits(&self) -> Limits {
+        match self.work {
+            Work::Spread => Limits {
+                journal: MOST_PLACES,
+                checkpoint_at: MOST_PLACES - 100_000,
+            },
+            Work::Narrow => Limits {
+                journal: 200_000,
+                checkpoint_at: 100_000,
+            },
+            _ => Limits {
+                journal: MOST_PLACES,
+                checkpoint_at: 0,
+            },
+        }
+    }
+
+    /// Returns the number of records that wait for the event of work that serves.
+    pub fn crowd(&self) -> usize {
+        self.size.clamp(1, MOST_CALLED)
+    }
+
     /// Returns the records of the job.
     pub fn records(&self) -> Records {
         let threads = self.threads;
@@ -71,9 +119,20 @@ impl Job {
             Work::Chain => (threads, self.size, 0, 0),
             Work::Link => (threads.saturating_mul(2), 10, 0, self.size),
             Work::Notify | Work::Cancel => (0, 0, threads, self.size),
-            Work::Hold => (0, 0, 0, self.size),
+            Work::Post | Work::Spread | Work::Narrow | Work::Hold => (0, 0, 0, self.size),
+            Work::Serve => (0, 0, 0, 0),
+        };
+        let called = match self.work {
+            Work::Post => threads,
+            _ => 0,
+        };
+        let crowd = match self.work {
+            Work::Serve => self.crowd(),
+            _ => 0,
         };
         Records {
+            called,
+            crowd,
             chains,
             length,
             awaiting,

@@ -37,7 +37,13 @@ fn work<B: EngineName<Tank>, R: Wait>(
 ) -> Result<FieldText, IocError>
     requires named { IsNamedBy B.table B.base B.devices B.places B.tickets B.counts seed }
 {
-    let engine = Engine::<B, _, _>::start(alloc, seed, CountingClock::new(), Limits::default())?;
+    let engine = Engine::<B, _, _>::start(
+        rt,
+        alloc,
+        seed,
+        CountingClock::new(),
+        Limits::default(),
+    )?;
     let mut desk = engine.desk(rt)?;
     let (changed, _receipt) = engine.set_link(
         rt,

@@ -1,3 +1,1 @@
 pub mod Serving
-pub mod Waiting
-pub mod WaitingCode

@@ -34,7 +34,7 @@ use Rattle.ioc_events.specs.declared.reply.Reply.{Reply}
 use Rattle.ioc_events.specs.Starting.{taken_and_stored}
 use Rattle.ioc_events.specs.declared.event.Call.{Call}
 use Rattle.ioc_events.specs.Calls.{called as call_of}
-use Rattle.ioc_events.specs.StepRules.{Does, Step, by_itself, then_others, Starts, to_be_processed, at_once_told, StartsAll, no_more, next_starts, no_such_record, processes_record, refuses_value, stores_alone, stores_while_active, stores_and_processes, not_awaited, completes_record, refuses_notified_value, no_place, waits_its_turn, starts_now, not_live, cancels, Calls, does_event, shows_field, tells_if_live, keeps_its_link, takes_link}
+use Rattle.ioc_events.specs.StepRules.{Does, Step, by_itself, then_others, Starts, to_be_processed, at_once_told, StartsAll, no_more, next_starts, no_such_record, processes_record, refuses_value, stores_alone, stores_while_active, stores_and_processes, not_awaited, completes_record, refuses_notified_value, no_place, waits_its_turn, starts_now, not_live, cancels, Calls, does_event, shows_field, tells_if_live, keeps_its_link, takes_link, posts_event, interrupts}
 use Rattle.ioc_history.specs.declared.entry.Note.{Note}
 use Rattle.ioc_history.specs.Legal.{entry_of, done}
 use Rattle.ioc_engine.specs.Types.{type_at, HaveSameTypes, CallsKeepTypes, ListsKeepTypes, HeldKeepTypes}
@@ -226,6 +226,8 @@ module _ {R : Type 0} (k : RecordRules R) (lawful : IsLawful k) where
       let v = put w s (k.with_link (at k w s) field link) in
       let first = same-one w s (k.with_link (at k w s) field link) (lawful.link_set_type (at k w s) field link) in
       rewired-either k (HaveSameTypes k w) (device_of k (at k w s)) v s first (same-on first (same-moved v s))
+  same-call answers (posts_event {w}) = same-all w
+  same-call answers (interrupts {w}) = same-all w
 
   -- The rules allow the result of each call.
   abbrev pub AreAllowed : Type 0

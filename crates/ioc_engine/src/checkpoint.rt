@@ -1,12 +1,16 @@
 //! Checkpoints of an engine.
-ghost use Rattle.std.specs.Prelude.{◌≡◌, ◌⊎◌, IfErr};
+ghost use Rattle.std.specs.Prelude.{◌≡◌, ◌≤◌, ◌⊎◌, take, drop, IfOk, IfErr};
 ghost use Rattle.ioc_values.specs.declared.error.IocError.TheVariants.{Stopped};
+ghost use Rattle.ioc_history.specs.Account.{calls, HasSeenMore, IsGiven};
 ghost use Rattle.ioc_history.specs.Places.{IsNoPlace};
 
+use crate::desk::Desk;
 use crate::engine::Engine;
 use crate::engine_name::EngineName;
 use ioc_device::Device;
+use ioc_history::Excerpt;
 use ioc_values::IocError;
+use std::alloc::AllocError;
 use std::sync::Wait;
 
 impl<B: EngineName<D>, D: Device, C: Drop> Engine<B, D, C> {
@@ -25,5 +29,49 @@ impl<B: EngineName<D>, D: Device, C: Drop> Engine<B, D, C> {
         ensures refused { IfErr result (λ error. (error ≡ Stopped) ⊎ IsNoPlace error) }
     {
         self.core.checkpoint(rt, self.alloc)
+    }
+
+    /// Makes a checkpoint as [`Engine::checkpoint`] does, and returns copies of the entries from a
+    /// place on, which leave memory: so a program that keeps the journal loses none. They begin with
+    /// the first that was kept if the one at the place was dropped before. The desk has seen all calls
+    /// then.
+    ///
+    /// # Errors
+    ///
+    /// As [`Engine::checkpoint`]. No entry is dropped then.
+    pub fn checkpoint_from<R: Wait>(
+        &self,
+        rt: &R,
+        desk: &mut Desk<B, D>,
+        from: u64,
+    ) -> Result<Excerpt, IocError>
+        ensures desk { HasSeenMore desk.old.account desk.new.account }
+        ensures given { IfOk result (λ excerpt. IsGiven from (calls desk.new.account.seen) excerpt.first excerpt.entries.items) }
+        ensures refused { IfErr result (λ error. (error ≡ Stopped) ⊎ IsNoPlace error) }
+    {
+        self.core
+            .checkpoint_from(rt, self.alloc, &mut desk.account, from)
+    }
+
+    /// Returns copies of the entries of the journal from a place on, at most `most` of them, without
+    /// waiting for any set. They begin with the first that is kept if the one at the place was dropped
+    /// at a checkpoint. The desk has seen all calls then.
+    ///
+    /// # Errors
+    ///
+    /// [`AllocError`] if allocation fails.
+    pub fn entries<R: Wait>(
+        &self,
+        rt: &R,
+        desk: &mut Desk<B, D>,
+        from: u64,
+        most: usize,
+    ) -> Result<Excerpt, AllocError>
+        ensures desk { HasSeenMore desk.old.account desk.new.account }
+        ensures copies { IfOk result (λ excerpt. excerpt.entries.items ≡ take most (drop excerpt.first (calls desk.new.account.seen))) }
+        ensures from { IfOk result (λ excerpt. from ≤ excerpt.first) }
+    {
+        self.core
+            .entries(rt, self.alloc, &mut desk.account, from, most)
     }
 }

@@ -1,6 +1,6 @@
 //! Engines.
 ghost use Rattle.std.specs.Prelude.{◌≡◌, ◌⊎◌, ◌∷◌, ℕ, true, [], length, ok_or, IfOk, IfErr, OnOk, OnErr};
-ghost use Rattle.ioc_values.specs.declared.error.IocError.TheVariants.{BadValue, JournalFull, NoMemory, NoRecord, Stopped};
+ghost use Rattle.ioc_values.specs.declared.error.IocError.TheVariants.{JournalFull, NoMemory, NoRecord, Stopped};
 ghost use Rattle.rec_types.specs.Record.{record_rules};
 ghost use Rattle.ioc_events.specs.declared.event.Event.TheVariants.{Process, Put, Complete};
 ghost use Rattle.ioc_events.specs.Step.{names};
@@ -8,26 +8,21 @@ ghost use Rattle.ioc_set.specs.Doing.{is_ordinary};
 ghost use Rattle.ioc_set_store.specs.SetStore.{world_of};
 ghost use Rattle.ioc_history.specs.Line.{longer, Begins};
 ghost use Rattle.ioc_history.specs.Account.{IsAccount, calls, calls_by};
-ghost use Rattle.ioc_history.specs.Places.{AreAllowed};
 ghost use Rattle.ioc_names.specs.NameTable.{number_of};
 ghost use Rattle.ioc_journaled_set.specs.Puts.{HaveEnded};
 ghost use Rattle.ioc_engine_core.specs.Served.{WasServed, WasTold, CallIsRefused, GetIsRefused};
 ghost use Rattle.ioc_engine.specs.Channels.{channel_of};
-ghost use Rattle.ioc_engine.specs.Named.{IsNamedBy};
 ghost use Rattle.ioc_engine.specs.Refusals.{HasField, CanBePut, IsGetError, IsPutError, IsOfEngine};
 
 use crate::Receipt;
 use crate::channel::Channel;
-use crate::clock::Clock;
 use crate::desk::Desk;
 use crate::engine_lookup::EngineLookup;
 use crate::engine_name::EngineName;
-use crate::seed::Seed;
 use crate::type_laws::types_stay;
 use ioc_device::Device;
-use ioc_engine_core::{EngineCore, StartError, start};
+use ioc_engine_core::{Clock, EngineCore, FixedClock};
 use ioc_events::{Event, Reply};
-use ioc_history::Limits;
 use ioc_names::RecordNo;
 use ioc_record::FieldText;
 use ioc_set_store::EventBuffers;
@@ -44,7 +39,7 @@ use std::sync::Wait;
 /// reply, [`Reply::Refused`], which has its place there.
 ///
 /// ```rust
-/// let engine = Engine::<B, _, _>::start(alloc, seed, CountingClock::new(), Limits::default())?;
+/// let engine = Engine::<B, _, _>::start(rt, alloc, seed, CountingClock::new(), Limits::default())?;
 /// let mut desk = engine.desk(rt)?;
 /// engine.set_link(rt, &mut desk, engine.channel(b"copy.INP")?, b"level PP MS")?;
 /// engine.process(rt, &mut desk, engine.record(b"copy")?)?;
@@ -60,46 +55,6 @@ pub struct Engine<B: EngineName<D>, D: Device, C: Drop> {
 }
 
 impl<B: EngineName<D>, D: Device, C: Drop> Engine<B, D, C> {
-    /// Starts an engine. No record is processed by it. The journal takes as many calls as the
-    /// limits allow, and its memory grows with the calls.
-    ///
-    /// # Errors
-    ///
-    /// [`IocError::BadValue`] if a limit is out of range. [`IocError::NoMemory`] if allocation
-    /// fails.
-    pub fn start(alloc: Global, seed: Seed<D>, clock: C, limits: Limits) -> Result<Self, IocError>
-        requires named { IsNamedBy B.table B.base B.devices B.places B.tickets B.counts seed }
-        ensures records { IfOk result (λ e. e.core ≡ length seed.records.items) }
-        ensures names { IfOk result (λ e. e.lookup ≡ seed.lookup) }
-        ensures limits { OnOk result (AreAllowed limits) }
-        ensures refused { IfErr result (λ error. ((error ≡ BadValue) × (AreAllowed limits → ⊥)) ⊎ (error ≡ NoMemory)) }
-    {
-        let Seed {
-            cell,
-            master,
-            places,
-            tickets,
-            counts,
-            records,
-            lookup,
-            spare: _,
-        } = seed;
-        match start::<Record, B, D>(
-            alloc, cell, master, places, tickets, counts, records, limits,
-        ) {
-            Ok(core) => Ok(Engine {
-                core,
-                lookup: EngineLookup::new(lookup),
-                clock,
-                alloc,
-            }),
-            Err(StartError::BadValue) => Err(IocError::BadValue),
-            Err(StartError::NoMemory) => Err(IocError::NoMemory),
-            Err(StartError::NotAtRest) => unreachable!(),
-            Err(StartError::LinkLeaves) => unreachable!(),
-        }
-    }
-
     /// Opens a desk, with the memory that its calls need. It has made no call yet.
     ///
     /// # Errors
@@ -117,13 +72,15 @@ impl<B: EngineName<D>, D: Device, C: Drop> Engine<B, D, C> {
             buffers,
             alloc: self.alloc,
             moved: 0,
+            walked: Vec::new(self.alloc),
+            scanned: Vec::new(self.alloc),
         })
     }
 
-    /// Closes the engine: no call begins from then on. A call that has begun is finished. It
-    /// doesn't wait.
-    pub fn close(&self) {
-        self.core.close();
+    /// Closes the engine: no call begins from then on, and desks that serve requests
+    /// ([`Engine::work`]) end. A call that has begun is finished. It waits for none of them.
+    pub fn close<R: Wait>(&self, rt: &R) {
+        self.core.close(rt);
     }
 
     /// Returns whether the engine was closed.
@@ -160,6 +117,9 @@ impl<B: EngineName<D>, D: Device, C: Drop> Engine<B, D, C> {
     /// Moves a desk on to the list of a receipt, if that is longer than the list that the desk has
     /// seen: its next call comes after the receipt's.
     pub fn learn<R: Wait>(&self, rt: &R, desk: &mut Desk<B, D>, receipt: &mut Receipt<B>)
+        ensures desk { (desk.new.account.number ≡ desk.old.account.number) × (desk.new.account.next ≡ desk.old.account.next) }
+        ensures calls { calls_by desk.new.account.number (calls desk.new.account.seen)
+            ≡ calls_by desk.old.account.number (calls desk.old.account.seen) }
         ensures learnt { desk.new.account.seen ≡ longer desk.old.account.seen receipt.old }
         ensures told { Begins receipt.old desk.new.account.seen }
         ensures legal { IsAccount record_rules B.base desk.new.account.seen }
@@ -170,38 +130,47 @@ impl<B: EngineName<D>, D: Device, C: Drop> Engine<B, D, C> {
 }
 
 impl<B: EngineName<D>, D: Device, C: Clock + Drop> Engine<B, D, C> {
-    // Performs an event on the set of a record, at a moment. Inlined, so that each call knows its
-    // kind of event.
+    // Performs an event on the set of a record, at the time of a clock. Inlined, so that each call
+    // knows its kind of event.
     #[inline(always)]
-    fn serve<R: Wait>(
+    fn serve<R: Wait, T: Clock>(
         &self,
         rt: &R,
         desk: &mut Desk<B, D>,
         number: RecordNo,
         event: &Event,
-        moment: u64,
+        clock: &T,
     ) -> Result<(Reply, Receipt<B>), IocError>
         requires ordinary { is_ordinary event.now ≡ true }
         requires names { names event.now ≡ number ∷ [] }
-        ensures done { IfOk result (λ x. WasServed D record_rules B.base D.gives number desk.old.account moment event.now x.0
-            desk.new.account (world_of desk.new.buffers.store)) }
+        ensures done { IfOk result (λ x. (moment : ℕ) × T.gives clock.now moment × WasServed D record_rules B.base D.gives number
+            desk.old.account moment event.now x.0 desk.new.account (world_of desk.new.buffers.store)) }
         ensures receipt { IfOk result (λ x. x.1 ≡ desk.new.account.seen) }
         ensures ended { OnOk result (HaveEnded record_rules B.base (world_of desk.new.buffers.store).ended desk.new.account.seen
             desk.new.buffers.ended_everywhere.items) }
         ensures refused { IfErr result (CallIsRefused D record_rules B.base self.now.core number event.now) }
         ensures err { OnErr result (desk.new.account ≡ desk.old.account) }
+        ensures none { OnErr result (desk.new.buffers.ended_everywhere.items ≡ []) }
+        ensures moved { desk.new.moved ≡ 0 }
     {
-        desk.buffers.ended_everywhere.clear();
+        desk.begin();
         let alloc = desk.alloc;
-        self.core.serve(
+        let mut own = None;
+        let told = self.core.serve(
             rt,
             alloc,
             &mut desk.account,
             &mut desk.buffers,
+            &mut desk.walked,
             number,
             event,
-            moment,
-        )
+            clock,
+            &mut own,
+        );
+        if told.is_err() {
+            desk.buffers.ended_everywhere.clear();
+        }
+        told
     }
 
     /// Requests a record to be processed (dbProcess), at the time of the clock. The reply is the
@@ -225,8 +194,11 @@ impl<B: EngineName<D>, D: Device, C: Clock + Drop> Engine<B, D, C> {
             desk.new.buffers.ended_everywhere.items) }
         ensures refused { IfErr result (CallIsRefused D record_rules B.base self.now.core number (Process number)) }
         ensures err { OnErr result (desk.new.account ≡ desk.old.account) }
+        ensures none { OnErr result (desk.new.buffers.ended_everywhere.items ≡ []) }
+        ensures moved { desk.new.moved ≡ 0 }
     {
-        self.process_at(rt, desk, number, self.clock.now())
+        let event = Event::Process { record: number };
+        self.serve(rt, desk, number, &event, &self.clock)
     }
 
     /// Requests a record to be processed with this time stamp, in nanoseconds since 1970-01-01
@@ -249,9 +221,11 @@ impl<B: EngineName<D>, D: Device, C: Clock + Drop> Engine<B, D, C> {
             desk.new.buffers.ended_everywhere.items) }
         ensures refused { IfErr result (CallIsRefused D record_rules B.base self.now.core number (Process number)) }
         ensures err { OnErr result (desk.new.account ≡ desk.old.account) }
+        ensures none { OnErr result (desk.new.buffers.ended_everywhere.items ≡ []) }
+        ensures moved { desk.new.moved ≡ 0 }
     {
         let event = Event::Process { record: number };
-        self.serve(rt, desk, number, &event, moment)
+        self.serve(rt, desk, number, &event, &FixedClock(moment))
     }
 
     /// Puts a value into a field, and processes the record if the field or the record asks for it
@@ -283,6 +257,8 @@ impl<B: EngineName<D>, D: Device, C: Clock + Drop> Engine<B, D, C> {
         ensures refused_by_type { IfErr result (IsPutError B.base channel) }
         ensures can_be_put { OnOk result (CanBePut B.base channel) }
         ensures err { OnErr result (desk.new.account ≡ desk.old.account) }
+        ensures none { OnErr result (desk.new.buffers.ended_everywhere.items ≡ []) }
+        ensures moved { desk.new.moved ≡ 0 }
     {
         types_stay::<Record>();
         let number = channel.record();
@@ -291,7 +267,7 @@ impl<B: EngineName<D>, D: Device, C: Clock + Drop> Engine<B, D, C> {
             field: channel.field,
             value: given,
         };
-        self.serve(rt, desk, number, &event, self.clock.now())
+        self.serve(rt, desk, number, &event, &self.clock)
     }
 
     /// Completes a record with the asynchronous answer of its device. `wait` is the number of the
@@ -317,13 +293,15 @@ impl<B: EngineName<D>, D: Device, C: Clock + Drop> Engine<B, D, C> {
             desk.new.buffers.ended_everywhere.items) }
         ensures refused { IfErr result (CallIsRefused D record_rules B.base self.now.core number (Complete number wait finished)) }
         ensures err { OnErr result (desk.new.account ≡ desk.old.account) }
+        ensures none { OnErr result (desk.new.buffers.ended_everywhere.items ≡ []) }
+        ensures moved { desk.new.moved ≡ 0 }
     {
         let event = Event::Complete {
             record: number,
             wait,
             finished,
         };
-        self.serve(rt, desk, number, &event, self.clock.now())
+        self.serve(rt, desk, number, &event, &self.clock)
     }
 
     /// Returns the text of a field (dbGetField).
@@ -345,17 +323,17 @@ impl<B: EngineName<D>, D: Device, C: Clock + Drop> Engine<B, D, C> {
         ensures refused_by_type { IfErr result (IsGetError B.base channel) }
         ensures has_field { OnOk result (HasField B.base channel) }
         ensures err { OnErr result (desk.new.account ≡ desk.old.account) }
+        ensures moved { desk.new.moved ≡ 0 }
     {
         types_stay::<Record>();
-        desk.buffers.ended_everywhere.clear();
-        let moment = self.clock.now();
+        desk.begin();
         self.core.get(
             rt,
             desk.alloc,
             &mut desk.account,
             channel.record(),
             channel.field,
-            moment,
+            &self.clock,
         )
     }
 }

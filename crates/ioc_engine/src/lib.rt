@@ -8,9 +8,10 @@
 //! lock of its record's set and of no other set, unless calls make checkpoints ([`Limits`]): a call
 //! may make one before it begins, which takes all sets.
 //!
-//! Scan lists, callback queues and worker threads aren't in it: no record is processed because of
-//! its SCAN or PINI, posted events call no record, and a record that RPRO puts down for
-//! reprocessing is queued and not processed again.
+//! Records are scanned: [`Engine::start`] requests those with PINI, a thread of the program calls
+//! [`Engine::scan`] once in each period, and [`Engine::post_event`] and [`Engine::io_interrupt`] put
+//! requests on callback queues, which threads serve by [`Engine::work`]. The engine starts no thread
+//! and has no timer.
 //!
 //! EPICS Application Developer's Guide, "Runtime Database Access" and "Database Locking, Scanning,
 //! and Processing".
@@ -30,19 +31,23 @@ mod notifications;
 pub mod numbered;
 mod parts;
 pub mod report;
+mod scanning;
 pub mod seed;
+mod starting;
 pub mod type_laws;
 
 pub use channel::Channel;
-pub use clock::{Clock, CountingClock, FixedClock, SystemClock};
+pub use clock::{CountingClock, SystemClock};
 pub use desk::Desk;
 pub use engine::Engine;
 pub use engine_name::EngineName;
 pub use ioc_dbfile::{Database, Macros, load};
 pub use ioc_device::{Answer, Ask, Device};
+pub use ioc_engine_core::{Clock, FixedClock};
 pub use ioc_events::{Call, Entry, Event, KeptAnswers, Reply};
-pub use ioc_history::{JournalBase, JournalEntry, TicketTally};
+pub use ioc_history::{Excerpt, JournalBase, JournalEntry, TicketTally};
 pub use ioc_ledger::{Outcome, Tally};
+pub use ioc_menus::Scan;
 pub use ioc_names::RecordNo;
 pub use ioc_notify::{NotifyId, Waiting};
 pub use ioc_record::FieldText;
@@ -63,21 +68,21 @@ pub use seed::Seed;
 pub use ioc_dbfile::DeviceName;
 
 /// The limits of an engine. `journal` is the number of calls that it can take from one checkpoint to
-/// the next, from 1 to 4,194,304; [`Limits::default`] allows 100,000. A call beyond the limit is
-/// refused with [`IocError::JournalFull`]. If `checkpoint_at` is 0, as it is by default, checkpoints
-/// are made only by [`Engine::checkpoint`]. Otherwise a call makes one before it begins if it counts
-/// fewer free places than that; if the call is refused then, the checkpoint was made nevertheless.
-/// Places are counted only after a call that found at most one at hand, so `checkpoint_at` should be
-/// at least the number of desks. [`Engine::start`] refuses limits out of their ranges with
+/// the next, from 1 to 4,194,304; [`Limits::default`] allows 100,000. If fewer places than
+/// `checkpoint_at` are free, a call makes a checkpoint before it begins, so that the journal has
+/// places again: by default, and with [`Limits::of`], a quarter of `journal`. If the call is refused
+/// then, the checkpoint was made nevertheless. Places are counted only after a call that found at
+/// most one at hand, so `checkpoint_at` should be at least the number of desks. A call that finds no
+/// place waits for a checkpoint, but for a link change, which is refused with
+/// [`IocError::JournalFull`]. If `checkpoint_at` is 0, checkpoints are made only by
+/// [`Engine::checkpoint`] and [`Engine::checkpoint_from`], and each call beyond the limit is refused
+/// so. [`Engine::start`] refuses limits out of their ranges with
 /// [`IocError::BadValue`].
 ///
 /// ```rust
-/// // A call makes a checkpoint first if fewer than 1,000 places are free.
-/// let limits = Limits {
-///     journal: 1_000_000,
-///     checkpoint_at: 1_000,
-/// };
-/// let engine = Engine::<B, _, _>::start(alloc, seed, CountingClock::new(), limits)?;
+/// // A call makes a checkpoint first if fewer than 250,000 places are free.
+/// let limits = Limits::of(1_000_000);
+/// let engine = Engine::<B, _, _>::start(rt, alloc, seed, CountingClock::new(), limits)?;
 /// ```
 pub use ioc_history::Limits;
 

@@ -11,7 +11,6 @@ ghost use Rattle.ioc_engine.specs.Refusals.{IsLinkField, IsLinkError};
 
 use crate::Receipt;
 use crate::channel::Channel;
-use crate::clock::Clock;
 use crate::desk::Desk;
 use crate::engine::Engine;
 use crate::engine_name::EngineName;
@@ -19,6 +18,7 @@ use crate::lookup::Lookup;
 use crate::type_laws::types_stay;
 use ioc_dbcommon::{LinkBox, LinkField};
 use ioc_device::Device;
+use ioc_engine_core::Clock;
 use ioc_fields::{FieldKind, kind_of};
 use ioc_journaled_set::Changed;
 use ioc_links::{Link, LinkKind, parse};
@@ -60,6 +60,38 @@ impl Lookup {
 }
 
 impl<B: EngineName<D>, D: Device, C: Clock + Drop> Engine<B, D, C> {
+    // Changes a link of a record. After a refusal no put with notification has ended.
+    fn change_link<R: Wait>(
+        &self,
+        rt: &R,
+        desk: &mut Desk<B, D>,
+        change: LinkChange,
+    ) -> Result<Changed<Record, B>, IocError>
+        requires base_link { change.base_link ≡ change.link }
+        ensures changed { IfOk result (λ c. (moment : ℕ) × C.gives self.now.clock moment × WasLinked D record_rules B.base change.number
+            change.field change.link desk.old.account moment c.reply c.moved desk.new.account (world_of desk.new.buffers.store)) }
+        ensures receipt { IfOk result (λ c. c.receipt ≡ desk.new.account.seen) }
+        ensures ended { desk.new.buffers.ended_everywhere.items ≡ [] }
+        ensures refused { IfErr result (LinkWasRefused D record_rules B.base self.now.core change.number change.field change.link) }
+        ensures err { OnErr result (desk.new.account ≡ desk.old.account) }
+        ensures moved { desk.new.moved ≡ desk.old.moved }
+    {
+        let alloc = desk.alloc;
+        let changed = self.core.set_link(
+            rt,
+            alloc,
+            &mut desk.account,
+            &mut desk.buffers,
+            &mut desk.walked,
+            change,
+            &self.clock,
+        );
+        if changed.is_err() {
+            desk.buffers.ended_everywhere.clear();
+        }
+        changed
+    }
+
     /// Changes a link of a record to the link of this text, as in a database text. It leads to the
     /// record and field that it names, or to the device that it names if the record owned that
     /// device at the load, or else nowhere. The record's lock set may part in two, or its part
@@ -87,7 +119,8 @@ impl<B: EngineName<D>, D: Device, C: Clock + Drop> Engine<B, D, C> {
             (field_of_link self.now.lookup.names self.now.lookup.types.items (owner_in self.now.lookup.owners) channel.number link)
             desk.old.account moment x.0 desk.new.moved desk.new.account (world_of desk.new.buffers.store)) }
         ensures receipt { IfOk result (λ x. x.1 ≡ desk.new.account.seen) }
-        ensures ended { OnOk result (desk.new.buffers.ended_everywhere.items ≡ []) }
+        ensures ended { desk.new.buffers.ended_everywhere.items ≡ [] }
+        ensures unmoved { OnErr result (desk.new.moved ≡ 0) }
         ensures refused { IfErr result (λ error. (error ≡ Stopped) ⊎ (IsBadText self.now.lookup.types.items channel text.now error
             ⊎ ((error ≡ NoMemory) ⊎ ((link : Link) × IsTextOf self.now.lookup.types.items channel text.now link
             × LinkWasRefused D record_rules B.base self.now.core channel.number channel.field
@@ -98,7 +131,7 @@ impl<B: EngineName<D>, D: Device, C: Clock + Drop> Engine<B, D, C> {
         ensures err { OnErr result (desk.new.account ≡ desk.old.account) }
     {
         types_stay::<Record>();
-        desk.buffers.ended_everywhere.clear();
+        desk.begin();
         if self.is_closed() {
             return Err(IocError::Stopped);
         }
@@ -118,15 +151,13 @@ impl<B: EngineName<D>, D: Device, C: Clock + Drop> Engine<B, D, C> {
             field: channel.field,
             link: kept,
             base_link,
-            moment: self.clock.now(),
+            moment: 0,
         };
         let Changed {
             reply,
             moved,
             receipt,
-        } = self
-            .core
-            .set_link(rt, alloc, &mut desk.account, &mut desk.buffers, change)?;
+        } = self.change_link(rt, desk, change)?;
         desk.moved = moved;
         Ok((reply, receipt))
     }

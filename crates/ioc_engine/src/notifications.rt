@@ -12,12 +12,12 @@ ghost use Rattle.ioc_engine.specs.Refusals.{CanBePut, IsPutError};
 
 use crate::Receipt;
 use crate::channel::Channel;
-use crate::clock::Clock;
 use crate::desk::Desk;
 use crate::engine::Engine;
 use crate::engine_name::EngineName;
 use crate::type_laws::types_stay;
 use ioc_device::Device;
+use ioc_engine_core::Clock;
 use ioc_events::Reply;
 use ioc_journaled_set::FieldPut;
 use ioc_notify::NotifyId;
@@ -26,6 +26,46 @@ use rec_types::Record;
 use std::sync::Wait;
 
 impl<B: EngineName<D>, D: Device, C: Clock + Drop> Engine<B, D, C> {
+    // Begins a put with notification.
+    fn begin_put<R: Wait>(
+        &self,
+        rt: &R,
+        desk: &mut Desk<B, D>,
+        channel: Channel,
+        given: Input,
+    ) -> Result<(Reply, Receipt<B>), IocError>
+        ensures begun { IfOk result (λ x. (moment : ℕ) × C.gives self.now.clock moment × WasBegun D record_rules B.base D.gives
+            channel.number desk.old.account moment channel.field given x.0 desk.new.account (world_of desk.new.buffers.store)) }
+        ensures receipt { IfOk result (λ x. x.1 ≡ desk.new.account.seen) }
+        ensures ended { OnOk result (HaveEnded record_rules B.base (world_of desk.new.buffers.store).ended desk.new.account.seen
+            desk.new.buffers.ended_everywhere.items) }
+        ensures refused { IfErr result (λ error. ((error ≡ QueueFull) × NoneMayBegin record_rules B.base)
+            ⊎ CallIsRefused D record_rules B.base self.now.core channel.number (Put channel.number channel.field given) error) }
+        ensures refused_by_type { IfErr result (IsPutError B.base channel) }
+        ensures can_be_put { OnOk result (CanBePut B.base channel) }
+        ensures err { OnErr result (desk.new.account ≡ desk.old.account) }
+        ensures moved { desk.new.moved ≡ 0 }
+    {
+        types_stay::<Record>();
+        desk.begin();
+        let alloc = desk.alloc;
+        let put = FieldPut {
+            number: channel.record(),
+            field: channel.field,
+            given,
+            moment: 0,
+        };
+        self.core.put_notify(
+            rt,
+            alloc,
+            &mut desk.account,
+            &mut desk.buffers,
+            &mut desk.walked,
+            put,
+            &self.clock,
+        )
+    }
+
     /// Puts a value into a field with notification (dbPutNotify): the records that are processed
     /// for it become part of the put with notification, which ends when the last of them is done:
     /// the call by which that happens has it in [`Desk::ended`]. Its number, which no other one has,
@@ -52,18 +92,14 @@ impl<B: EngineName<D>, D: Device, C: Clock + Drop> Engine<B, D, C> {
         ensures refused_by_type { IfErr result (IsPutError B.base channel) }
         ensures can_be_put { OnOk result (CanBePut B.base channel) }
         ensures err { OnErr result (desk.new.account ≡ desk.old.account) }
+        ensures none { OnErr result (desk.new.buffers.ended_everywhere.items ≡ []) }
+        ensures moved { desk.new.moved ≡ 0 }
     {
-        types_stay::<Record>();
-        desk.buffers.ended_everywhere.clear();
-        let alloc = desk.alloc;
-        let put = FieldPut {
-            number: channel.record(),
-            field: channel.field,
-            given,
-            moment: self.clock.now(),
-        };
-        self.core
-            .put_notify(rt, alloc, &mut desk.account, &mut desk.buffers, put)
+        let told = self.begin_put(rt, desk, channel, given);
+        if told.is_err() {
+            desk.buffers.ended_everywhere.clear();
+        }
+        told
     }
 
     /// Replies whether the put with notification with this number is live, which it is from its
@@ -82,14 +118,14 @@ impl<B: EngineName<D>, D: Device, C: Clock + Drop> Engine<B, D, C> {
         ensures asked { IfOk result (λ x. (moment : ℕ) × C.gives self.now.clock moment × (puts puts_then : PutsView)
             × WasAsked record_rules B.base puts desk.old.account moment number puts_then desk.new.account x.0) }
         ensures receipt { IfOk result (λ x. x.1 ≡ desk.new.account.seen) }
-        ensures ended { OnOk result (desk.new.buffers.ended_everywhere.items ≡ []) }
+        ensures ended { desk.new.buffers.ended_everywhere.items ≡ [] }
         ensures refused { IfErr result (λ error. (error ≡ Stopped) ⊎ IsNoPlace error) }
         ensures err { OnErr result (desk.new.account ≡ desk.old.account) }
+        ensures moved { desk.new.moved ≡ 0 }
     {
-        desk.buffers.ended_everywhere.clear();
-        let moment = self.clock.now();
+        desk.begin();
         self.core
-            .live(rt, desk.alloc, &mut desk.account, number, moment)
+            .live(rt, desk.alloc, &mut desk.account, number, &self.clock)
     }
 
     /// Cancels the put with notification with this number (dbNotifyCancel): no record is part of it
@@ -108,20 +144,24 @@ impl<B: EngineName<D>, D: Device, C: Clock + Drop> Engine<B, D, C> {
         ensures canceled { IfOk result (λ x. (moment : ℕ) × C.gives self.now.clock moment
             × WasCancelled D record_rules B.base number desk.old.account moment x.0 desk.new.account) }
         ensures receipt { IfOk result (λ x. x.1 ≡ desk.new.account.seen) }
-        ensures ended { OnOk result (desk.new.buffers.ended_everywhere.items ≡ []) }
+        ensures ended { desk.new.buffers.ended_everywhere.items ≡ [] }
         ensures refused { IfErr result (λ error. (error ≡ Stopped) ⊎ IsNoPlace error) }
         ensures err { OnErr result (desk.new.account ≡ desk.old.account) }
+        ensures moved { desk.new.moved ≡ 0 }
     {
-        desk.buffers.ended_everywhere.clear();
+        desk.begin();
         let alloc = desk.alloc;
-        let moment = self.clock.now();
-        self.core.cancel(
+        let told = self.core.cancel(
             rt,
             alloc,
             &mut desk.account,
             &mut desk.buffers,
             number,
-            moment,
-        )
+            &self.clock,
+        );
+        if told.is_err() {
+            desk.buffers.ended_everywhere.clear();
+        }
+        told
     }
 }

@@ -1,20 +1,22 @@
 //! The end of an engine.
-ghost use Rattle.std.specs.Prelude.{◌≡◌, ◌<◌, ◌≤◌, ◌++◌, length, map, take, drop, IfOk, IfSome, IfNone, OnOk};
+ghost use Rattle.std.specs.Prelude.{◌≡◌, ◌<◌, ◌≤◌, ◌⊎◌, ◌++◌, ℕ, Some, slice_get, [], length, map, take, drop, IfOk, IfSome, IfNone, OnOk};
 ghost use Rattle.rec_types.specs.Record.{record_rules};
-ghost use Rattle.ioc_history.specs.Account.{IsEntryOf};
+ghost use Rattle.ioc_history.specs.Account.{IsEntryOf, calls, calls_by};
 ghost use Rattle.ioc_history.specs.Base.{IsBaseOf};
 ghost use Rattle.ioc_history.specs.Counting.{counts_of};
 ghost use Rattle.ioc_history.specs.Legal.{IsLegal, map_of};
+ghost use Rattle.ioc_history.specs.Line.{Begins};
 ghost use Rattle.ioc_journaled_set.specs.SameDevice.{IsDeviceOf};
 ghost use Rattle.ioc_engine_core.specs.Ended.{IsEnd, counts_in};
 ghost use Rattle.ioc_history.specs.Ticketed.{AreTicketed};
 ghost use Rattle.ioc_engine.specs.Stopped.{stopped_of, GivesBack};
 
 use crate::Receipt;
+use crate::desk::Desk;
 use crate::engine::Engine;
 use crate::engine_name::EngineName;
 use ioc_device::Device;
-use ioc_engine_core::{CoreReport, JournaledSet};
+use ioc_engine_core::{CoreReport, EndedSet};
 use ioc_history::{JournalBase, JournalEntry, TicketTally};
 use ioc_ledger::Tally;
 use ioc_names::RecordNo;
@@ -56,7 +58,9 @@ pub struct StoppedRecord<D> {
 
 impl<D> StoppedRecord<D> {
     /// Returns the name of the record.
-    pub fn name(&self) -> &[u8] {
+    pub fn name(&self) -> &[u8]
+        ensures { result.now ≡ self.now.fields.common.name }
+    {
         self.fields.common.name.as_slice()
     }
 }
@@ -85,10 +89,11 @@ fn add_records<D: Drop>(
     Ok(())
 }
 
-// Returns the records of these sets, those of one set after another, each with its device.
+// Returns the records of these sets, those of one set after another in ascending order of their
+// numbers, each with its device.
 fn records_in<B: EngineName<D>, D: Device>(
     alloc: Global,
-    sets: Vec<JournaledSet<Record, B, D>>,
+    sets: Vec<EndedSet<Record, B, D>>,
 ) -> Result<Vec<StoppedRecord<D>>, AllocError>
     ensures { IfOk result (λ all. GivesBack (IsDeviceOf D.gives B.devices) sets.items all.items) }
 {
@@ -130,28 +135,63 @@ impl<B: EngineName<D>, D: Device> Report<B, D> {
         self.core.tally()
     }
 
-    /// Returns the numbers of tickets. Each request among the calls of the journal has spent one, and
-    /// one was begun for each once request that the events of these calls have sent. Those of once
-    /// requests that waited at the end or were dropped are handed back. Each number stops at 2^64 - 1.
+    /// Returns the numbers of tickets. Each request among the calls of the journal has spent one; one
+    /// was begun for each once request that the events of these calls have sent, and for each request
+    /// that an event or an interrupt has put on the callback queues. Those of requests that waited at
+    /// the end, were dropped, or were refused are handed back.
     pub fn tickets(&self) -> TicketTally
         ensures { result ≡ self.now.core.tickets }
     {
         self.core.tickets
     }
 
-    /// Returns the number of once requests that were dropped because 1,000 waited.
-    pub fn once_dropped(&self) -> u64
-        ensures { result ≡ self.now.core.once_dropped }
+    /// Returns the number of desks that were opened, also by the engine itself. No call of the
+    /// journal is of a desk with this number or a higher one.
+    pub fn desks(&self) -> u64
+        ensures count { result ≡ self.now.core.journal.desks }
+        ensures none { (number : ℕ) → self.now.core.journal.desks ≤ number
+            → calls_by number (calls self.now.core.journal.filled) ≡ [] }
     {
-        self.core.once_dropped
+        self.core.journal.desks()
     }
 
-    /// Returns the number of items that events dropped, because an event may send 256 of them: once
-    /// requests, posted events and changes of scan lists.
+    /// Compares a desk with the journal: the calls of the desk among all calls are those that it has
+    /// seen of its own. So a program that has kept all its desks, of which
+    /// [`Report::desks`] tells the number, knows that the journal has their calls and no others.
+    /// Afterwards the desk has seen all calls.
+    pub fn compare<R: Wait>(&mut self, rt: &R, desk: &mut Desk<B, D>)
+        ensures begins { Begins desk.old.account.seen self.old.core.journal.filled }
+        ensures calls { calls_by desk.old.account.number (calls self.old.core.journal.filled)
+            ≡ calls_by desk.old.account.number (calls desk.old.account.seen) }
+        ensures number { desk.new.account.number ≡ desk.old.account.number }
+        ensures seen { desk.new.account.seen ≡ self.old.core.journal.filled }
+        ensures same { self.new.core.journal ≡ self.old.core.journal }
+    {
+        self.core.journal.compare(rt, &mut desk.account);
+    }
+
+    /// Returns the number of requests that were dropped because their queue was full: 2,000 wait on
+    /// a callback queue at most, and 1,000 on the once queue.
+    pub fn requests_dropped(&self) -> u64
+        ensures { result ≡ self.now.core.requests_dropped }
+    {
+        self.core.requests_dropped
+    }
+
+    /// Returns the number of items of events that were dropped, because an event may send 256 of
+    /// them: once requests, posted events and changes of scan lists; or because allocation failed
+    /// for a list.
     pub fn dropped(&self) -> u64
         ensures { result ≡ self.now.core.dropped }
     {
         self.core.dropped
+    }
+
+    /// Returns the number of requests of [`Engine::scan`] that were refused.
+    pub fn refused(&self) -> u64
+        ensures { result ≡ self.now.core.refused }
+    {
+        self.core.refused
     }
 
     /// Returns the entry of a call in the journal: the desk, the number of the call at its desk,
@@ -159,10 +199,21 @@ impl<B: EngineName<D>, D: Device> Report<B, D> {
     /// a place before [`Report::first_place`].
     pub fn entry<R: Wait>(&mut self, rt: &R, receipt: &mut Receipt<B>) -> Option<&JournalEntry>
         ensures entry { IfSome result (λ e. IsEntryOf receipt.old self.old.core.journal.filled e.now) }
+        ensures begins { Begins receipt.old self.old.core.journal.filled }
         ensures kept { IfSome result (λ _. self.old.core.journal.dropped < length receipt.old) }
         ensures dropped { IfNone result (length receipt.old ≤ self.old.core.journal.dropped) }
     {
         self.core.journal.entry(rt, receipt)
+    }
+
+    /// Returns the entry at a place of the journal. Returns `None` exactly for a place before
+    /// [`Report::first_place`] and for one past the last.
+    pub fn entry_at(&self, place: u64) -> Option<&JournalEntry>
+        ensures entry { IfSome result (λ e. slice_get (calls self.now.core.journal.filled) place ≡ Some e.now) }
+        ensures kept { IfSome result (λ _. self.now.core.journal.dropped ≤ place) }
+        ensures none { IfNone result ((place < self.now.core.journal.dropped) ⊎ (length self.now.core.journal.filled ≤ place)) }
+    {
+        self.core.journal.entry_at(place)
     }
 
     /// Returns the place of the first entry that the journal has, which is the number of calls
@@ -188,8 +239,9 @@ impl<B: EngineName<D>, D: Device> Report<B, D> {
         self.core.journal.base()
     }
 
-    /// Returns the records of all lock sets, those of one set after another, each with its device:
-    /// the one that the seed gave it, as its own answers left it.
+    /// Returns the records of all lock sets, those of one set after another in ascending order of
+    /// their numbers, each with its device: the one that the seed gave it, as its own answers left
+    /// it.
     ///
     /// # Errors
     ///
@@ -202,8 +254,9 @@ impl<B: EngineName<D>, D: Device> Report<B, D> {
             sets,
             journal: _,
             tickets: _,
-            once_dropped: _,
+            requests_dropped: _,
             dropped: _,
+            refused: _,
         } = core;
         records_in(alloc, sets)
     }

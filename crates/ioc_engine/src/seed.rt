@@ -9,6 +9,8 @@ ghost use Rattle.ioc_set_records.specs.Joined.{IsClosed};
 ghost use Rattle.ioc_set_records.specs.Linked.{links_in};
 ghost use Rattle.ioc_engine_core.specs.Loading.{IsIdle};
 ghost use Rattle.ioc_engine.specs.Binding.{device_of, spare_of};
+ghost use Rattle.ioc_scanner.specs.FirstLists.{first_lists, AreStarters};
+ghost use Rattle.ioc_scanner.specs.declared.places.Occasion.TheVariants.{Scanning};
 ghost use Rattle.ioc_set_records.specs.declared.loaded.Loaded.{Loaded};
 ghost use Rattle.rec_types.specs.Record.{Record};
 
@@ -18,6 +20,9 @@ use ioc_dbfile::{Database, DeviceName};
 use ioc_engine_core::{new_cell, with_copies};
 use ioc_history::{Cell, KeyPass, PLACES};
 use ioc_ledger::CountBlanks;
+use ioc_scan::{Listed, ScanLists};
+use ioc_scanner::first_lists::first_lists;
+use ioc_scanner::{Occasion, starters};
 use ioc_set_records::Loaded;
 use rec_types::Record;
 use std::alloc::{AllocError, Global};
@@ -43,6 +48,9 @@ pub struct Seed<D> {
     pub(crate) counts: CountBlanks,
     pub(crate) records: Vec<Loaded<Record, D>>,
     pub(crate) lookup: Lookup,
+    // The scan lists of the records, and the records that are processed at the start.
+    pub(crate) lists: ScanLists,
+    pub(crate) starters: Vec<Listed>,
     /// The devices that no record has: no record has a link to a device of that name, or another
     /// device with that name came before. They are never called.
     pub spare: Vec<(DeviceName, D)>,
@@ -74,6 +82,8 @@ impl<D: Drop> Seed<D> {
         ensures records { IfOk result (λ s. map (λ l. l.fields) s.records.items ≡ database.records.items) }
         ensures names { IfOk result (λ s. s.lookup.names ≡ database.names) }
         ensures types { IfOk result (λ s. s.lookup.types.items ≡ map record_rules.record_type database.records.items) }
+        ensures lists { IfOk result (λ s. s.lists ≡ first_lists record_rules Scanning database.records.items) }
+        ensures starters { IfOk result (λ s. AreStarters record_rules database.records.items s.starters.items) }
         ensures owners { IfOk result (λ s. (text : List ℕ)
             → owner_in s.lookup.owners text ≡ owner_of record_rules database.records.items text) }
         ensures devices { IfOk result (λ s. (n : ℕ) (l : Loaded Record D) → n < length s.records.items
@@ -83,6 +93,8 @@ impl<D: Drop> Seed<D> {
     {
         let Database { names, records } = database;
         let lookup = Lookup::new(alloc, names, records.as_slice())?;
+        let lists = first_lists(alloc, Occasion::Scanning, records.as_slice())?;
+        let starters = starters(alloc, records.as_slice())?;
         let bound = bind(alloc, &lookup.owners, records.len(), devices)?;
         let loaded = with_copies(alloc, records, bound.devices)?;
         let (cell, master) = new_cell(alloc)?;
@@ -94,6 +106,8 @@ impl<D: Drop> Seed<D> {
             counts: CountBlanks::new(),
             records: loaded,
             lookup,
+            lists,
+            starters,
             spare: bound.spare,
         })
     }

@@ -1,5 +1,5 @@
 -- The counts of sets, added one after another.
-use Rattle.std.proofs.Common.{◌≡◌, ℕ, ◌+◌, List, [], ◌∷◌, map, refl, sym, ap, ◌∙◌, arith}
+use Rattle.std.proofs.Common.{◌≡◌, ℕ, ◌+◌, List, [], ◌∷◌, ◌++◌, map, refl, sym, ap, ◌∙◌, arith}
 use Rattle.std.proofs.lemmas.List.Sums.{sum_by-cons}
 use Rattle.std.specs.List.{sum_by}
 use Rattle.ioc_ledger.specs.declared.tally.Tally.{Tally}
@@ -13,6 +13,11 @@ use Rattle.ioc_engine_core.specs.Ended.{counts_in}
 abbrev pub counted_with : {R D : Type 0} → Tally → List (HeldView R D) → Tally
 counted_with t [] = t
 counted_with t (h ∷ hs) = counted_with (added t h.set.tally) hs
+
+-- The counts of a set may be added last.
+pub counted_last : {R D : Type 0} (t : Tally) (sets : List (HeldView R D)) (h : HeldView R D) → counted_with t (sets ++ h ∷ []) ≡ added (counted_with t sets) h.set.tally
+counted_last t [] h = refl
+counted_last t (x ∷ xs) h = counted_last (added t x.set.tally) xs h
 
 -- A sum that stops at the greatest number may be made in two steps.
 filled-on : (n a b : ℕ) → filled (filled n a) b ≡ filled n (a + b)

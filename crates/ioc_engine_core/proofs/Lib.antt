@@ -5,9 +5,9 @@ mod Refusals
 mod Copies
 mod Keys
 mod DealtParts
-mod OnceAdding
 mod EachOnce
 mod Merging
 mod PartSizes
 mod SameKeys
 mod Numbered
+mod SharedSets

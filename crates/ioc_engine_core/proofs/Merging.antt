@@ -1,17 +1,17 @@
 -- Shares of sets that are merged one after another, and the parts that they have together.
-use Rattle.std.proofs.Common.{◌≡◌, ℕ, ◌+◌, ◌-◌, ◌<◌, List, [], ◌∷◌, length, drop, get_or, sum_by, refl, sym, ap, ◌∙◌, subst, arith}
+use Rattle.std.proofs.Common.{◌≡◌, ℕ, ◌+◌, ◌-◌, ◌<◌, List, [], ◌∷◌, ◌++◌, length, get_or, sum_by, refl, sym, ap, ◌∙◌, subst, arith}
 use Rattle.std.specs.Prelude.{All, IsSome}
 use Rattle.std.specs.FinMap.{get, len}
-use Rattle.std.proofs.lemmas.List.{drop_more}
-use Rattle.std.proofs.lemmas.List.Sums.{sum_by-cons}
-use Rattle.ioc_ledger.specs.Requests.{added}
+use Rattle.std.proofs.lemmas.List.Sums.{sum_by-append, sum_by-cons}
+use Rattle.ioc_ledger.specs.declared.tally.Tally.{Tally}
+use Rattle.ioc_ledger.specs.Requests.{added, no_counts}
 use Rattle.ioc_ledger.specs.Shared.{ShareView, share_view}
 use Rattle.ioc_store.specs.World.{World, Has}
 use Rattle.ioc_topology.specs.Gathered.{HoldEach}
 use Rattle.ioc_journaled_set.specs.Copies.{IsIn}
 use Rattle.ioc_journaled_set.specs.Holding.{HeldView, numbers_of}
 use Rattle.ioc_journaled_set.proofs.Keys.{key_there, keys_count}
-use Rattle.ioc_engine_core.proofs.Counts.{counted_with}
+use Rattle.ioc_engine_core.proofs.Counts.{counted_last, counted_with}
 use Rattle.ioc_engine_core.proofs.EachOnce.{each-once}
 use Rattle.ioc_engine_core.proofs.SameKeys.{keys-distinct}
 
@@ -20,17 +20,17 @@ module _ {R D : Type 0} where
   abbrev pub size : HeldView R D → ℕ
   size h = len h.set.records
 
-  -- The sets from a place on, with the one at the place merged.
-  module _ (all then : ShareView) (sets : List (HeldView R D)) (i : ℕ) (d : HeldView R D) (lt : i < length sets) (merged : then ≡ share_view (all.parts + size (get_or sets i d)) (added all.counts (get_or sets i d).set.tally)) where
-    pub counts_left : counted_with then.counts (drop (i + 1) sets) ≡ counted_with all.counts (drop i sets)
-    counts_left = ap (λ (s : ShareView). counted_with s.counts (drop (i + 1) sets)) merged ∙ sym (ap (λ (l : List (HeldView R D)). counted_with all.counts l) (drop_more sets i d lt))
+  -- A set that is merged last.
+  module _ (all then : ShareView) (sets : List (HeldView R D)) (h : HeldView R D) (merged : then ≡ share_view (all.parts + size h) (added all.counts h.set.tally)) where
+    pub counts_more : all.counts ≡ counted_with no_counts sets → then.counts ≡ counted_with no_counts (sets ++ h ∷ [])
+    counts_more counts = ap (λ (s : ShareView). s.counts) merged ∙ ap (λ (t : Tally). added t h.set.tally) counts ∙ sym (counted_last no_counts sets h)
 
-    pub parts_left : then.parts + sum_by size (drop (i + 1) sets) ≡ all.parts + sum_by size (drop i sets)
-    parts_left =
-        let here = ap (λ (l : List (HeldView R D)). sum_by size l) (drop_more sets i d lt) in
-        let first = sum_by-cons size (get_or sets i d) (drop (i + 1) sets) in
-        let parts = ap (λ (s : ShareView). s.parts) merged in
-        omega (arith, here, first, parts)
+    pub parts_more : (n : ℕ) → all.parts ≡ n + sum_by size sets → then.parts ≡ n + sum_by size (sets ++ h ∷ [])
+    parts_more n parts =
+        let last = sum_by-append size sets (h ∷ []) in
+        let one = sum_by-cons size h [] in
+        let now = ap (λ (s : ShareView). s.parts) merged in
+        omega (arith, last, one, now, parts)
 
   -- Sets that have each record once have as many records together, if there are no others.
   pub sizes_add_up : (m : World R) (sets : List (HeldView R D)) (count : ℕ) → HoldEach numbers_of sets count → All (IsIn m) sets → ((n : ℕ) → Has m n → n < count) → sum_by size sets ≡ count

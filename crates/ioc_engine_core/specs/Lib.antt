@@ -5,4 +5,5 @@ pub mod Linked
 pub mod Seen
 pub mod Cancelled
 pub use Rattle.ioc_journaled_set.specs.Holding
-pub mod OnceRequests
+pub mod Queueing
+pub mod Queued

@@ -1,5 +1,5 @@
 //! Cancels of puts with notification.
-ghost use Rattle.std.specs.Prelude.{◌≡◌, ◌⊎◌, [], All, IfOk, IfErr, IfNone, OnOk, OnErr};
+ghost use Rattle.std.specs.Prelude.{◌≡◌, ◌⊎◌, ℕ, [], All, IfOk, IfErr, IfNone, OnOk, OnErr};
 ghost use Rattle.std.specs.Option.{IfSome};
 ghost use Rattle.ioc_values.specs.declared.error.IocError.TheVariants.{Stale, Stopped};
 ghost use Rattle.ioc_events.specs.declared.reply.Reply.TheVariants.{Plain, Refused};
@@ -7,6 +7,7 @@ ghost use Rattle.ioc_history.specs.Places.{IsNoPlace};
 ghost use Rattle.ioc_journaled_set.specs.Holding.{IsSoundlyHeld};
 ghost use Rattle.ioc_engine_core.specs.Cancelled.{WasCancelled, WasGivenUp, WasNotLive};
 
+use crate::clock::Clock;
 use crate::engine::EngineCore;
 use ioc_device::Device;
 use ioc_events::Reply;
@@ -100,16 +101,44 @@ impl<K: RecordKind + Drop, B: SetsName<K, D>, D: Device> EngineCore<K, B, D> {
     /// no place left. [`IocError::NoMemory`] if allocation fails. Nothing has changed then. If the
     /// put with notification isn't live, [`IocError::Stale`] is the reply, which is added to the
     /// journal.
-    pub fn cancel<R: Wait>(
+    pub fn cancel<R: Wait, C: Clock>(
         &self,
         rt: &R,
         alloc: Global,
         desk: &mut DeskAccount<K, B>,
         buffers: &mut EventBuffers<K, D>,
         number: NotifyId,
-        moment: u64,
+        clock: &C,
     ) -> Result<(Reply, Receipt<K, B>), IocError>
-        ensures cancelled { IfOk result (λ x. WasCancelled D K.rules B.base number desk.old moment x.0 desk.new) }
+        ensures cancelled { IfOk result (λ x. (moment : ℕ) × C.gives clock.now moment × WasCancelled D K.rules B.base number desk.old
+            moment x.0 desk.new) }
+        ensures receipt { IfOk result (λ x. x.1 ≡ desk.new.seen) }
+        ensures ended { OnOk result (buffers.new.ended_everywhere.items ≡ []) }
+        ensures refused { IfErr result (λ error. (error ≡ Stopped) ⊎ IsNoPlace error) }
+        ensures err { OnErr result (desk.new ≡ desk.old) }
+    {
+        for _ in rt.forever() {
+            match self.try_cancel(rt, alloc, desk, buffers, number, clock) {
+                Ok(told) => return Ok(told),
+                Err(refused) if self.is_tried_again(rt, alloc, refused) => {}
+                Err(refused) => return Err(refused),
+            }
+        }
+        unreachable!()
+    }
+
+    // Cancels as `cancel` does, and is refused if the journal has no place left.
+    fn try_cancel<R: Wait, C: Clock>(
+        &self,
+        rt: &R,
+        alloc: Global,
+        desk: &mut DeskAccount<K, B>,
+        buffers: &mut EventBuffers<K, D>,
+        number: NotifyId,
+        clock: &C,
+    ) -> Result<(Reply, Receipt<K, B>), IocError>
+        ensures cancelled { IfOk result (λ x. (moment : ℕ) × C.gives clock.now moment × WasCancelled D K.rules B.base number desk.old
+            moment x.0 desk.new) }
         ensures receipt { IfOk result (λ x. x.1 ≡ desk.new.seen) }
         ensures ended { OnOk result (buffers.new.ended_everywhere.items ≡ []) }
         ensures refused { IfErr result (λ error. (error ≡ Stopped) ⊎ IsNoPlace error) }
@@ -121,6 +150,7 @@ impl<K: RecordKind + Drop, B: SetsName<K, D>, D: Device> EngineCore<K, B, D> {
         let _guard = self.sets.guard_topology(rt);
         for _ in rt.forever() {
             buffers.ended_everywhere.clear();
+            let moment = clock.now();
             if let Some(receipt) = self.refuse_stale(rt, alloc, desk, number, moment)? {
                 return Ok((Reply::Refused(IocError::Stale), receipt));
             }

@@ -1,14 +1,16 @@
 //! Checkpoints of the journal.
-ghost use Rattle.std.specs.Prelude.{◌≡◌, ◌⊎◌, IfErr};
+ghost use Rattle.std.specs.Prelude.{◌≡◌, ◌≤◌, ◌⊎◌, take, drop, IfOk, IfErr, IfSome};
 ghost use Rattle.ioc_values.specs.declared.error.IocError.TheVariants.{Stopped};
+ghost use Rattle.ioc_history.specs.Account.{calls, HasSeenMore, IsGiven};
 ghost use Rattle.ioc_history.specs.Places.{IsNoPlace};
 
 use crate::engine::EngineCore;
 use ioc_device::Device;
-use ioc_journaled_set::{SetsName, checkpoint_on};
+use ioc_history::{DeskAccount, Excerpt};
+use ioc_journaled_set::{SetsName, checkpoint_giving, checkpoint_on};
 use ioc_record::RecordKind;
 use ioc_values::IocError;
-use std::alloc::Global;
+use std::alloc::{AllocError, Global};
 use std::sync::Wait;
 
 impl<K: RecordKind + Drop, B: SetsName<K, D>, D: Device> EngineCore<K, B, D> {
@@ -29,8 +31,102 @@ impl<K: RecordKind + Drop, B: SetsName<K, D>, D: Device> EngineCore<K, B, D> {
             return Err(IocError::Stopped);
         }
         let _guard = self.sets.guard_topology(rt);
+        self.checkpoint_now(rt, alloc)
+    }
+
+    /// Makes a checkpoint as [`EngineCore::checkpoint`] does, and returns copies of the entries from a
+    /// place on, which leave memory. They begin with the first that was kept if the one at the place
+    /// was dropped before. The desk has seen all calls then.
+    ///
+    /// # Errors
+    ///
+    /// As [`EngineCore::checkpoint`]. No entry is dropped then, and no history is cleared.
+    pub fn checkpoint_from<R: Wait>(
+        &self,
+        rt: &R,
+        alloc: Global,
+        desk: &mut DeskAccount<K, B>,
+        from: u64,
+    ) -> Result<Excerpt, IocError>
+        ensures desk { HasSeenMore desk.old desk.new }
+        ensures given { IfOk result (λ excerpt. IsGiven from (calls desk.new.seen) excerpt.first excerpt.entries.items) }
+        ensures refused { IfErr result (λ error. (error ≡ Stopped) ⊎ IsNoPlace error) }
+    {
+        if self.is_closed() {
+            return Err(IocError::Stopped);
+        }
+        let _guard = self.sets.guard_topology(rt);
+        for _ in rt.forever() {
+            if let Some(excerpt) = self.try_checkpoint_from(rt, alloc, desk, from)? {
+                self.journal.spread_places(rt);
+                return Ok(excerpt);
+            }
+        }
+        unreachable!()
+    }
+
+    // Makes a checkpoint with the sets that are found, and returns copies of the entries. Returns
+    // `None` if some record isn't in any of them; no entry is dropped then. The caller holds the
+    // topology guard.
+    fn try_checkpoint_from<R: Wait>(
+        &self,
+        rt: &R,
+        alloc: Global,
+        desk: &mut DeskAccount<K, B>,
+        from: u64,
+    ) -> Result<Option<Excerpt>, IocError>
+        ensures desk { HasSeenMore desk.old desk.new }
+        ensures given { IfOk result (λ o. IfSome o (λ excerpt. IsGiven from (calls desk.new.seen) excerpt.first excerpt.entries.items)) }
+        ensures refused { IfErr result IsNoPlace }
+    {
+        let mut taken = self.sets.take_all(rt, alloc)?;
+        let sets = taken.sets.as_mut_slice();
+        let access = self.access(rt, alloc);
+        let given = checkpoint_giving(&access, desk, sets, self.sets.len(), from);
+        self.sets.put_back(rt, taken);
+        given
+    }
+
+    /// Returns copies of the entries from a place on, at most `most` of them. They begin with the
+    /// first that is kept if the one at the place was dropped. The desk has seen all calls then.
+    ///
+    /// # Errors
+    ///
+    /// [`AllocError`] if allocation fails.
+    pub fn entries<R: Wait>(
+        &self,
+        rt: &R,
+        alloc: Global,
+        desk: &mut DeskAccount<K, B>,
+        from: u64,
+        most: usize,
+    ) -> Result<Excerpt, AllocError>
+        ensures desk { HasSeenMore desk.old desk.new }
+        ensures copies { IfOk result (λ excerpt. excerpt.entries.items ≡ take most (drop excerpt.first (calls desk.new.seen))) }
+        ensures from { IfOk result (λ excerpt. from ≤ excerpt.first) }
+    {
+        self.journal.copy_from(rt, alloc, desk, from, most)
+    }
+
+    // Makes a checkpoint unless another call has made one while this one waited for the topology
+    // guard, so that the journal has places again.
+    pub(crate) fn checkpoint_if_short<R: Wait>(&self, rt: &R, alloc: Global) -> Result<(), IocError>
+        ensures refused { IfErr result IsNoPlace }
+    {
+        let _guard = self.sets.guard_topology(rt);
+        if !self.journal.is_short(rt) {
+            return Ok(());
+        }
+        self.checkpoint_now(rt, alloc)
+    }
+
+    // Makes a checkpoint. The caller holds the topology guard.
+    fn checkpoint_now<R: Wait>(&self, rt: &R, alloc: Global) -> Result<(), IocError>
+        ensures refused { IfErr result IsNoPlace }
+    {
         for _ in rt.forever() {
             if self.try_checkpoint(rt, alloc)? {
+                self.journal.spread_places(rt);
                 return Ok(());
             }
         }

@@ -12,17 +12,19 @@ ghost use Rattle.std.specs.FinMap.{len};
 ghost use Rattle.ioc_engine_core.specs.Loading.{IsSpare};
 ghost use Rattle.ioc_engine_core.specs.Served.{WasTold, WasServed, CallIsRefused, GetIsRefused};
 
+use crate::clock::Clock;
 use crate::spare_parts::SpareParts;
-use ioc_callback::OnceQueue;
 use ioc_device::Device;
 use ioc_events::{Event, Reply};
 use ioc_fields::FieldNo;
 use ioc_history::{DeskAccount, EngineCounts, Receipt, RequestTickets, SharedJournal};
 use ioc_journaled_set::{JournalAccess, JournaledSet, Served, SetsName, SharedNotifications};
-use ioc_ledger::TallyShare;
+use ioc_ledger::{TallyShare, Ticket};
 use ioc_names::RecordNo;
 use ioc_record::{FieldText, RecordKind};
+use ioc_scan::{Listed, ScanLists};
 use ioc_set_store::EventBuffers;
+use ioc_shared_queues::{CallbackQueues, RecordRequest};
 use ioc_topology::{Directory, Locked};
 use ioc_values::IocError;
 use std::alloc::Global;
@@ -30,8 +32,11 @@ use std::marker::Model;
 use std::sync::atomic::AtomicU64;
 use std::sync::{Mutex, Wait};
 
-/// The records of a database in their lock sets, each set under its own lock, and the journal of
-/// all calls. Contracts see the number of records.
+/// A request that waits on a queue of an engine, with its ticket.
+pub type QueuedRequest<K, B> = RecordRequest<RequestTickets<K, B>>;
+
+/// The records of a database in their lock sets, each set under its own lock, the journal of all
+/// calls, the scan lists, and the queues of requests that wait. Contracts see the number of records.
 #[derive(Drop)]
 pub struct EngineCore<K: RecordKind + Drop, B: SetsName<K, D>, D: Device> {
     pub(crate) sets: Directory<JournaledSet<K, B, D>>,
@@ -39,9 +44,13 @@ pub struct EngineCore<K: RecordKind + Drop, B: SetsName<K, D>, D: Device> {
     // Locked while the lock of a set is held, and before the journal.
     pub(crate) puts: Mutex<SharedNotifications<K, B>>,
     // Locked while no other lock is held.
-    pub(crate) once: Mutex<OnceQueue<RequestTickets<K, B>>>,
-    // The number of items that events have dropped because 256 were sent already.
+    pub(crate) lists: Mutex<ScanLists>,
+    pub(crate) queues: CallbackQueues<QueuedRequest<K, B>>,
+    // The number of items of events that were dropped: 256 were sent already, or a change of a scan
+    // list couldn't be done.
     pub(crate) dropped: AtomicU64,
+    // The number of requests of scans that were refused.
+    pub(crate) refused: AtomicU64,
     // Locked at the end alone: a share may be sent to other threads, but not be seen by several.
     pub(crate) spare: Mutex<SpareParts<K, B>>,
 }
@@ -63,13 +72,14 @@ impl<K: RecordKind + Drop, B: SetsName<K, D>, D: Device> Model for EngineCore<K,
 
 impl<K: RecordKind + Drop, B: SetsName<K, D>, D: Device> EngineCore<K, B, D> {
     /// Creates an engine with these sets, the journal of its calls, the table of its puts with
-    /// notification, the list of its once requests, and the parts of the ledgers of counts that no
-    /// set has. The sets were made for all records of the load.
+    /// notification, the scan lists, the queues, and the parts of the ledgers of counts that no set
+    /// has. The sets were made for all records of the load.
     pub fn new(
         sets: Directory<JournaledSet<K, B, D>>,
         journal: SharedJournal<K, B>,
         puts: SharedNotifications<K, B>,
-        once: OnceQueue<RequestTickets<K, B>>,
+        lists: ScanLists,
+        queues: CallbackQueues<QueuedRequest<K, B>>,
         spare: TallyShare<EngineCounts<K, B>>,
     ) -> Self
         requires known { (n : ℕ) → Has B.base n → n < sets }
@@ -81,15 +91,19 @@ impl<K: RecordKind + Drop, B: SetsName<K, D>, D: Device> EngineCore<K, B, D> {
             sets,
             journal,
             puts: Mutex::new(puts),
-            once: Mutex::new(once),
+            lists: Mutex::new(lists),
+            queues,
             dropped: AtomicU64::new(0),
+            refused: AtomicU64::new(0),
             spare: Mutex::new(SpareParts::new(spare)),
         }
     }
 
-    /// Closes the engine: no call begins from then on. A call that has begun is finished.
-    pub fn close(&self) {
+    /// Closes the engine: no call begins from then on, and workers that sleep are woken. A call that
+    /// has begun is finished.
+    pub fn close<R: Wait>(&self, rt: &R) {
         self.journal.gate().close();
+        self.queues.close(rt);
     }
 
     /// Returns whether the engine was closed.
@@ -115,10 +129,19 @@ impl<K: RecordKind + Drop, B: SetsName<K, D>, D: Device> EngineCore<K, B, D> {
         self.journal.gate().is_open() || self.may_begin_after_count(rt, alloc)
     }
 
+    // Returns whether a call that was refused is tried again: the journal had no place left, and calls
+    // make checkpoints. Waits for the checkpoint that another call makes, or makes one.
+    #[inline(never)]
+    pub(crate) fn is_tried_again<R: Wait>(&self, rt: &R, alloc: Global, refused: IocError) -> bool {
+        matches!(refused, IocError::JournalFull)
+            && self.journal.makes_checkpoints()
+            && self.checkpoint_if_short(rt, alloc).is_ok()
+    }
+
     #[inline(never)]
     fn may_begin_after_count<R: Wait>(&self, rt: &R, alloc: Global) -> bool {
         if self.journal.gate().takes_count() && self.journal.is_short(rt) {
-            let _ = self.checkpoint(rt, alloc);
+            let _ = self.checkpoint_if_short(rt, alloc);
         }
         !self.is_closed()
     }
@@ -155,59 +178,106 @@ impl<K: RecordKind + Drop, B: SetsName<K, D>, D: Device> EngineCore<K, B, D> {
 }
 
 impl<K: RecordKind + Drop, B: SetsName<K, D>, D: Device> EngineCore<K, B, D> {
-    /// Performs a request, a put or a completion on the set of its record, and then takes what the
-    /// event has sent. Inlined, as are its callees up to the journal, so that each call knows its
-    /// kind of event and the entry is built in its place.
+    /// Performs a request, a put or a completion on the set of its record, at the time that the clock
+    /// gives while the set's lock is held, and then takes what the event has sent. A request that
+    /// comes from a queue spends its ticket, which stays where it is if the call is refused. If the
+    /// journal has no place left and calls make checkpoints, it waits for one. Inlined, as are its
+    /// callees up to the journal, so that each call knows its kind of event and the entry is built in
+    /// its place.
     ///
     /// # Errors
     ///
     /// [`IocError::Stopped`] if the engine was closed. [`IocError::NoRecord`] if there is no record
     /// with this number. [`IocError::NoField`] if the record has no such field. [`IocError::NoMod`]
-    /// if the field can't be put. [`IocError::JournalFull`] if the journal has no place left.
+    /// if the field can't be put. [`IocError::JournalFull`] if the journal has no place left and
+    /// calls make no checkpoints, or one fails.
     /// [`IocError::NoMemory`] if allocation fails. Nothing has changed then. Any other refusal is a
     /// reply, which is added to the journal.
     #[inline(always)]
-    pub fn serve<R: Wait>(
+    pub fn serve<R: Wait, C: Clock>(
         &self,
         rt: &R,
         alloc: Global,
         desk: &mut DeskAccount<K, B>,
         buffers: &mut EventBuffers<K, D>,
+        walked: &mut Vec<Listed>,
         number: RecordNo,
         event: &Event,
-        moment: u64,
+        clock: &C,
+        ticket: &mut Option<Ticket<RequestTickets<K, B>>>,
     ) -> Result<(Reply, Receipt<K, B>), IocError>
         requires ordinary { is_ordinary event.now ≡ true }
         requires names { names event.now ≡ number ∷ [] }
-        ensures served { IfOk result (λ x. WasServed D K.rules B.base D.gives number desk.old moment event.now x.0 desk.new
-            (world_of buffers.new.store)) }
+        ensures served { IfOk result (λ x. (moment : ℕ) × C.gives clock.now moment × WasServed D K.rules B.base D.gives number desk.old
+            moment event.now x.0 desk.new (world_of buffers.new.store)) }
         ensures receipt { IfOk result (λ x. x.1 ≡ desk.new.seen) }
         ensures ended { OnOk result (HaveEnded K.rules B.base (world_of buffers.new.store).ended desk.new.seen
             buffers.new.ended_everywhere.items) }
         ensures refused { IfErr result (CallIsRefused D K.rules B.base self.now number event.now) }
         ensures err { OnErr result (desk.new ≡ desk.old) }
+        ensures ticket { OnErr result (ticket.new ≡ ticket.old) }
+        ensures spent { OnOk result (ticket.new ≡ None) }
+    {
+        for _ in rt.forever() {
+            match self.try_serve(
+                rt, alloc, desk, buffers, walked, number, event, clock, ticket,
+            ) {
+                Ok(told) => return Ok(told),
+                Err(refused) if self.is_tried_again(rt, alloc, refused) => {}
+                Err(refused) => return Err(refused),
+            }
+        }
+        unreachable!()
+    }
+
+    // Performs an event as `serve` does, and is refused if the journal has no place left.
+    #[inline(always)]
+    fn try_serve<R: Wait, C: Clock>(
+        &self,
+        rt: &R,
+        alloc: Global,
+        desk: &mut DeskAccount<K, B>,
+        buffers: &mut EventBuffers<K, D>,
+        walked: &mut Vec<Listed>,
+        number: RecordNo,
+        event: &Event,
+        clock: &C,
+        ticket: &mut Option<Ticket<RequestTickets<K, B>>>,
+    ) -> Result<(Reply, Receipt<K, B>), IocError>
+        requires ordinary { is_ordinary event.now ≡ true }
+        requires names { names event.now ≡ number ∷ [] }
+        ensures served { IfOk result (λ x. (moment : ℕ) × C.gives clock.now moment × WasServed D K.rules B.base D.gives number desk.old
+            moment event.now x.0 desk.new (world_of buffers.new.store)) }
+        ensures receipt { IfOk result (λ x. x.1 ≡ desk.new.seen) }
+        ensures ended { OnOk result (HaveEnded K.rules B.base (world_of buffers.new.store).ended desk.new.seen
+            buffers.new.ended_everywhere.items) }
+        ensures refused { IfErr result (CallIsRefused D K.rules B.base self.now number event.now) }
+        ensures err { OnErr result (desk.new ≡ desk.old) }
+        ensures ticket { OnErr result (ticket.new ≡ ticket.old) }
+        ensures spent { OnOk result (ticket.new ≡ None) }
     {
         if !self.may_begin(rt, alloc) {
             return Err(IocError::Stopped);
         }
         let mut held = self.sets.lock_set(rt, number)?;
+        let moment = clock.now();
         let may_end = held.may_be_taken();
         let access = self.access(rt, alloc);
         let Served {
             reply,
             receipt,
             tickets,
-        } = held.serve(&access, &self.puts, desk, buffers, event, moment)?;
+        } = held.serve(&access, &self.puts, desk, buffers, event, moment, ticket)?;
         held.is_sound();
         if may_end {
             self.sets.settle_flag(number, &held);
         }
         drop(held);
-        self.do_sent(rt, buffers, tickets);
+        self.do_sent(rt, buffers, walked, tickets);
         Ok((reply, receipt))
     }
 
-    /// Returns the text of a field.
+    /// Returns the text of a field, at the time that the clock gives while the set's lock is held.
     ///
     /// # Errors
     ///
@@ -215,16 +285,43 @@ impl<K: RecordKind + Drop, B: SetsName<K, D>, D: Device> EngineCore<K, B, D> {
     /// with this number. [`IocError::NoField`] if the record has no such field.
     /// [`IocError::JournalFull`] if the journal has no place left. [`IocError::NoMemory`] if
     /// allocation fails. Nothing has changed then.
-    pub fn get<R: Wait>(
+    pub fn get<R: Wait, C: Clock>(
         &self,
         rt: &R,
         alloc: Global,
         desk: &mut DeskAccount<K, B>,
         number: RecordNo,
         field: FieldNo,
-        moment: u64,
+        clock: &C,
     ) -> Result<(FieldText, Receipt<K, B>), IocError>
-        ensures told { IfOk result (λ x. WasTold D K.rules B.base number desk.old moment field x.0 desk.new) }
+        ensures told { IfOk result (λ x. (moment : ℕ) × C.gives clock.now moment × WasTold D K.rules B.base number desk.old moment field
+            x.0 desk.new) }
+        ensures receipt { IfOk result (λ x. x.1 ≡ desk.new.seen) }
+        ensures refused { IfErr result (GetIsRefused D K.rules B.base self.now number field) }
+        ensures err { OnErr result (desk.new ≡ desk.old) }
+    {
+        for _ in rt.forever() {
+            match self.try_get(rt, alloc, desk, number, field, clock) {
+                Ok(told) => return Ok(told),
+                Err(refused) if self.is_tried_again(rt, alloc, refused) => {}
+                Err(refused) => return Err(refused),
+            }
+        }
+        unreachable!()
+    }
+
+    // Returns the text of a field as `get` does, and is refused if the journal has no place left.
+    fn try_get<R: Wait, C: Clock>(
+        &self,
+        rt: &R,
+        alloc: Global,
+        desk: &mut DeskAccount<K, B>,
+        number: RecordNo,
+        field: FieldNo,
+        clock: &C,
+    ) -> Result<(FieldText, Receipt<K, B>), IocError>
+        ensures told { IfOk result (λ x. (moment : ℕ) × C.gives clock.now moment × WasTold D K.rules B.base number desk.old moment field
+            x.0 desk.new) }
         ensures receipt { IfOk result (λ x. x.1 ≡ desk.new.seen) }
         ensures refused { IfErr result (GetIsRefused D K.rules B.base self.now number field) }
         ensures err { OnErr result (desk.new ≡ desk.old) }
@@ -233,6 +330,7 @@ impl<K: RecordKind + Drop, B: SetsName<K, D>, D: Device> EngineCore<K, B, D> {
             return Err(IocError::Stopped);
         }
         let mut held = self.sets.lock_set(rt, number)?;
+        let moment = clock.now();
         let told = held.get(&self.access(rt, alloc), desk, number, field, moment);
         held.is_sound();
         told

@@ -12,24 +12,29 @@
 
 mod cancelling;
 mod checkpoint;
+pub mod clock;
 pub mod ended_journal;
 pub mod engine;
 pub mod holding;
 mod link_changes;
 pub mod loading;
 mod notifications;
-mod once_requests;
 pub mod opening;
 mod parts;
+mod posting;
+pub mod queueing;
 pub mod report;
 mod sending;
+pub mod serving;
 pub mod spare_parts;
 pub mod starting;
 
+pub use clock::{Clock, FixedClock};
 pub use ended_journal::EndedJournal;
-pub use engine::EngineCore;
-pub use ioc_journaled_set::{JournaledSet, SharedNotifications};
+pub use engine::{EngineCore, QueuedRequest};
+pub use ioc_journaled_set::{EndedSet, JournaledSet, SharedNotifications};
 pub use loading::with_copies;
 pub use opening::new_cell;
 pub use report::CoreReport;
+pub use serving::Server;
 pub use starting::{StartError, start};

@@ -1,15 +1,17 @@
 //! Link changes of the engine.
-ghost use Rattle.std.specs.Prelude.{◌≡◌, [], IfOk, IfErr, OnOk, OnErr};
+ghost use Rattle.std.specs.Prelude.{◌≡◌, ℕ, [], IfOk, IfErr, OnOk, OnErr};
 ghost use Rattle.ioc_set_store.specs.SetStore.{world_of};
 ghost use Rattle.ioc_topology.specs.Change.{AreKnown, AreLent};
 ghost use Rattle.ioc_journaled_set.specs.Holding.{numbers_of};
 ghost use Rattle.ioc_engine_core.specs.Linked.{other_of, WasLinked, LinkWasRefused};
 
+use crate::clock::Clock;
 use crate::engine::EngineCore;
 use ioc_device::Device;
 use ioc_history::DeskAccount;
 use ioc_journaled_set::{Changed, JournalAccess, JournaledSet, SetsName, change_link};
 use ioc_record::RecordKind;
+use ioc_scan::Listed;
 use ioc_set::LinkChange;
 use ioc_set_store::EventBuffers;
 use ioc_topology::{NewCells, all_sound, are_lent};
@@ -18,8 +20,8 @@ use std::alloc::Global;
 use std::sync::Wait;
 
 impl<K: RecordKind + Drop, B: SetsName<K, D>, D: Device> EngineCore<K, B, D> {
-    // Changes a link of a record of the first of these sets.
-    fn change_lent<R: Wait>(
+    // Changes a link of a record of the first of these sets, at the time of the clock.
+    fn change_lent<R: Wait, C: Clock>(
         &self,
         access: &JournalAccess<'_, K, B, R>,
         desk: &mut DeskAccount<K, B>,
@@ -28,25 +30,30 @@ impl<K: RecordKind + Drop, B: SetsName<K, D>, D: Device> EngineCore<K, B, D> {
         second: &mut JournaledSet<K, B, D>,
         spare: &mut JournaledSet<K, B, D>,
         change: LinkChange,
+        clock: &C,
     ) -> Result<Changed<K, B>, IocError>
         requires base_link { change.base_link ≡ change.link }
         requires lent { AreLent numbers_of change.number (other_of change.link) first.old second.old spare.old }
-        ensures changed { IfOk result (λ c. WasLinked D K.rules B.base change.number change.field change.link desk.old change.moment
-            c.reply c.moved desk.new (world_of buffers.new.store)) }
+        ensures changed { IfOk result (λ c. (moment : ℕ) × C.gives clock.now moment × WasLinked D K.rules B.base change.number change.field
+            change.link desk.old moment c.reply c.moved desk.new (world_of buffers.new.store)) }
         ensures receipt { IfOk result (λ c. c.receipt ≡ desk.new.seen) }
         ensures ended { OnOk result (buffers.new.ended_everywhere.items ≡ []) }
         ensures refused { IfErr result (LinkWasRefused D K.rules B.base self.now change.number change.field change.link) }
         ensures err { OnErr result (desk.new ≡ desk.old) }
     {
         all_sound(first, second, spare);
-        let changed = change_link(access, desk, buffers, first, second, spare, change);
+        let moment = clock.now();
+        let timed = LinkChange { moment, ..change };
+        let changed = change_link(access, desk, buffers, first, second, spare, timed);
         all_sound(first, second, spare);
         changed
     }
 
     /// Changes a link of a record, under the topology guard and the locks of the sets that it
     /// concerns. The set of the record may part in two, or its part joins the set of the record
-    /// that the link leads to. Each record is found in its set afterwards.
+    /// that the link leads to. Each record is found in its set afterwards. The call has the time
+    /// that the clock gives while the locks are held, and not that of `change`. What the change
+    /// sends is done once the locks of the sets are released.
     ///
     /// # Errors
     ///
@@ -55,17 +62,19 @@ impl<K: RecordKind + Drop, B: SetsName<K, D>, D: Device> EngineCore<K, B, D> {
     /// [`IocError::JournalFull`] if the journal has no place left. [`IocError::NoMemory`] if
     /// allocation fails. Nothing is added to the journal then. If DISP forbids the change, the
     /// refusal is a reply, which is added to the journal.
-    pub fn set_link<R: Wait>(
+    pub fn set_link<R: Wait, C: Clock>(
         &self,
         rt: &R,
         alloc: Global,
         desk: &mut DeskAccount<K, B>,
         buffers: &mut EventBuffers<K, D>,
+        walked: &mut Vec<Listed>,
         change: LinkChange,
+        clock: &C,
     ) -> Result<Changed<K, B>, IocError>
         requires base_link { change.base_link ≡ change.link }
-        ensures changed { IfOk result (λ c. WasLinked D K.rules B.base change.number change.field change.link desk.old change.moment
-            c.reply c.moved desk.new (world_of buffers.new.store)) }
+        ensures changed { IfOk result (λ c. (moment : ℕ) × C.gives clock.now moment × WasLinked D K.rules B.base change.number change.field
+            change.link desk.old moment c.reply c.moved desk.new (world_of buffers.new.store)) }
         ensures receipt { IfOk result (λ c. c.receipt ≡ desk.new.seen) }
         ensures ended { OnOk result (buffers.new.ended_everywhere.items ≡ []) }
         ensures known { OnOk result (AreKnown self.now change.number (other_of change.link)) }
@@ -77,17 +86,17 @@ impl<K: RecordKind + Drop, B: SetsName<K, D>, D: Device> EngineCore<K, B, D> {
         }
         let _guard = self.sets.guard_topology(rt);
         let new = self.sets.new_cells(rt, alloc)?;
-        let changed = self.relink(rt, alloc, desk, buffers, &new, change)?;
+        let changed = self.relink(rt, alloc, desk, buffers, &new, change, clock)?;
         // After a refused change the buffers still have what the desk's event before it sent.
         if changed.reply.is_ok() {
-            self.count_dropped(buffers);
+            self.do_changes(rt, buffers, walked);
         }
         Ok(changed)
     }
 
     // Finds and locks the sets of a link change, and changes the link. The caller holds the
     // topology guard.
-    fn relink<'a, R: Wait>(
+    fn relink<'a, R: Wait, C: Clock>(
         &'a self,
         rt: &R,
         alloc: Global,
@@ -95,10 +104,11 @@ impl<K: RecordKind + Drop, B: SetsName<K, D>, D: Device> EngineCore<K, B, D> {
         buffers: &mut EventBuffers<K, D>,
         new: &NewCells<'a, JournaledSet<K, B, D>>,
         change: LinkChange,
+        clock: &C,
     ) -> Result<Changed<K, B>, IocError>
         requires base_link { change.base_link ≡ change.link }
-        ensures changed { IfOk result (λ c. WasLinked D K.rules B.base change.number change.field change.link desk.old change.moment
-            c.reply c.moved desk.new (world_of buffers.new.store)) }
+        ensures changed { IfOk result (λ c. (moment : ℕ) × C.gives clock.now moment × WasLinked D K.rules B.base change.number change.field
+            change.link desk.old moment c.reply c.moved desk.new (world_of buffers.new.store)) }
         ensures receipt { IfOk result (λ c. c.receipt ≡ desk.new.seen) }
         ensures ended { OnOk result (buffers.new.ended_everywhere.items ≡ []) }
         ensures known { OnOk result (AreKnown self.now change.number (other_of change.link)) }
@@ -124,7 +134,7 @@ impl<K: RecordKind + Drop, B: SetsName<K, D>, D: Device> EngineCore<K, B, D> {
             if are_lent(first, second, spare, number, &other) {
                 let access = self.access(rt, alloc);
                 let changed = self.change_lent(
-                    &access, desk, buffers, first, second, spare, change,
+                    &access, desk, buffers, first, second, spare, change, clock,
                 );
                 self.sets.settle_all(rt, &both, new, first, second, spare);
                 return changed;

@@ -1,5 +1,5 @@
 //! Puts with notification.
-ghost use Rattle.std.specs.Prelude.{◌≡◌, ◌⊎◌, IfOk, IfErr, OnOk, OnErr};
+ghost use Rattle.std.specs.Prelude.{◌≡◌, ◌⊎◌, ℕ, IfOk, IfErr, OnOk, OnErr};
 ghost use Rattle.ioc_values.specs.declared.error.IocError.TheVariants.{QueueFull, Stopped};
 ghost use Rattle.ioc_events.specs.declared.event.Event.TheVariants.{Put};
 ghost use Rattle.ioc_history.specs.Places.{IsNoPlace};
@@ -7,6 +7,7 @@ ghost use Rattle.ioc_journaled_set.specs.Puts.{PutsView, WasAsked, NoneMayBegin,
 ghost use Rattle.ioc_set_store.specs.SetStore.{world_of};
 ghost use Rattle.ioc_engine_core.specs.Served.{WasBegun, CallIsRefused};
 
+use crate::clock::Clock;
 use crate::engine::EngineCore;
 use ioc_device::Device;
 use ioc_events::Reply;
@@ -14,6 +15,7 @@ use ioc_history::{DeskAccount, Receipt};
 use ioc_journaled_set::{FieldPut, Served, SetsName};
 use ioc_notify::NotifyId;
 use ioc_record::RecordKind;
+use ioc_scan::Listed;
 use ioc_set_store::EventBuffers;
 use ioc_topology::Locked;
 use ioc_values::IocError;
@@ -24,6 +26,8 @@ impl<K: RecordKind + Drop, B: SetsName<K, D>, D: Device> EngineCore<K, B, D> {
     /// Puts a value into a field with a notification: the records that are
     /// processed for it become part of the put with notification, which ends when the last of them
     /// is done. Its number is in the reply. If the record awaits its device, the put waits for it.
+    /// The call has the time that the clock gives while the set's lock is held, and not that of
+    /// `put`.
     ///
     /// # Errors
     ///
@@ -33,21 +37,53 @@ impl<K: RecordKind + Drop, B: SetsName<K, D>, D: Device> EngineCore<K, B, D> {
     /// about to begin or no number is left. [`IocError::JournalFull`] if the journal has no place
     /// left. [`IocError::NoMemory`] if allocation fails. Nothing has changed then, but the number
     /// may be used up. Any other refusal is a reply, which is added to the journal.
-    pub fn put_notify<R: Wait>(
+    pub fn put_notify<R: Wait, C: Clock>(
         &self,
         rt: &R,
         alloc: Global,
         desk: &mut DeskAccount<K, B>,
         buffers: &mut EventBuffers<K, D>,
+        walked: &mut Vec<Listed>,
         put: FieldPut,
+        clock: &C,
     ) -> Result<(Reply, Receipt<K, B>), IocError>
-        ensures begun { IfOk result (λ x. WasBegun D K.rules B.base D.gives put.number desk.old put.moment put.field put.given
-            x.0 desk.new (world_of buffers.new.store)) }
+        ensures begun { IfOk result (λ x. (moment : ℕ) × C.gives clock.now moment × WasBegun D K.rules B.base D.gives put.number desk.old
+            moment put.field put.given x.0 desk.new (world_of buffers.new.store)) }
         ensures ended { OnOk result (HaveEnded K.rules B.base (world_of buffers.new.store).ended desk.new.seen
             buffers.new.ended_everywhere.items) }
         ensures receipt { IfOk result (λ x. x.1 ≡ desk.new.seen) }
         ensures refused { IfErr result (λ error. ((error ≡ QueueFull) × NoneMayBegin K.rules B.base)
             ⊎ CallIsRefused D K.rules B.base self.now put.number (Put put.number put.field put.given) error) }
+        ensures err { OnErr result (desk.new ≡ desk.old) }
+    {
+        for _ in rt.forever() {
+            match self.try_put_notify(rt, alloc, desk, buffers, walked, &put, clock) {
+                Ok(told) => return Ok(told),
+                Err(refused) if self.is_tried_again(rt, alloc, refused) => {}
+                Err(refused) => return Err(refused),
+            }
+        }
+        unreachable!()
+    }
+
+    // Puts as `put_notify` does, and is refused if the journal has no place left.
+    fn try_put_notify<R: Wait, C: Clock>(
+        &self,
+        rt: &R,
+        alloc: Global,
+        desk: &mut DeskAccount<K, B>,
+        buffers: &mut EventBuffers<K, D>,
+        walked: &mut Vec<Listed>,
+        put: &FieldPut,
+        clock: &C,
+    ) -> Result<(Reply, Receipt<K, B>), IocError>
+        ensures begun { IfOk result (λ x. (moment : ℕ) × C.gives clock.now moment × WasBegun D K.rules B.base D.gives put.now.number desk.old
+            moment put.now.field put.now.given x.0 desk.new (world_of buffers.new.store)) }
+        ensures ended { OnOk result (HaveEnded K.rules B.base (world_of buffers.new.store).ended desk.new.seen
+            buffers.new.ended_everywhere.items) }
+        ensures receipt { IfOk result (λ x. x.1 ≡ desk.new.seen) }
+        ensures refused { IfErr result (λ error. ((error ≡ QueueFull) × NoneMayBegin K.rules B.base)
+            ⊎ CallIsRefused D K.rules B.base self.now put.now.number (Put put.now.number put.now.field put.now.given) error) }
         ensures err { OnErr result (desk.new ≡ desk.old) }
     {
         if !self.may_begin(rt, alloc) {
@@ -56,6 +92,8 @@ impl<K: RecordKind + Drop, B: SetsName<K, D>, D: Device> EngineCore<K, B, D> {
         let number = put.number;
         let mut held = self.sets.lock_set(rt, number)?;
         let access = self.access(rt, alloc);
+        let moment = clock.now();
+        let put = FieldPut { moment, ..*put };
         let told = held.put_notify(&access, &self.puts, desk, buffers, put);
         held.is_sound();
         self.sets.settle_flag(number, &held);
@@ -65,7 +103,7 @@ impl<K: RecordKind + Drop, B: SetsName<K, D>, D: Device> EngineCore<K, B, D> {
             receipt,
             tickets,
         } = told?;
-        self.do_sent(rt, buffers, tickets);
+        self.do_sent(rt, buffers, walked, tickets);
         Ok((reply, receipt))
     }
 
@@ -76,15 +114,40 @@ impl<K: RecordKind + Drop, B: SetsName<K, D>, D: Device> EngineCore<K, B, D> {
     ///
     /// [`IocError::Stopped`] if the engine was closed. [`IocError::JournalFull`] if the journal has
     /// no place left. [`IocError::NoMemory`] if allocation fails. Nothing has changed then.
-    pub fn live<R: Wait>(
+    pub fn live<R: Wait, C: Clock>(
         &self,
         rt: &R,
         alloc: Global,
         desk: &mut DeskAccount<K, B>,
         number: NotifyId,
-        moment: u64,
+        clock: &C,
     ) -> Result<(bool, Receipt<K, B>), IocError>
-        ensures asked { IfOk result (λ x. (puts puts_then : PutsView)
+        ensures asked { IfOk result (λ x. (moment : ℕ) × C.gives clock.now moment × (puts puts_then : PutsView)
+            × WasAsked K.rules B.base puts desk.old moment number puts_then desk.new x.0) }
+        ensures receipt { IfOk result (λ x. x.1 ≡ desk.new.seen) }
+        ensures refused { IfErr result (λ error. (error ≡ Stopped) ⊎ IsNoPlace error) }
+        ensures err { OnErr result (desk.new ≡ desk.old) }
+    {
+        for _ in rt.forever() {
+            match self.try_live(rt, alloc, desk, number, clock) {
+                Ok(told) => return Ok(told),
+                Err(refused) if self.is_tried_again(rt, alloc, refused) => {}
+                Err(refused) => return Err(refused),
+            }
+        }
+        unreachable!()
+    }
+
+    // Replies as `live` does, and is refused if the journal has no place left.
+    fn try_live<R: Wait, C: Clock>(
+        &self,
+        rt: &R,
+        alloc: Global,
+        desk: &mut DeskAccount<K, B>,
+        number: NotifyId,
+        clock: &C,
+    ) -> Result<(bool, Receipt<K, B>), IocError>
+        ensures asked { IfOk result (λ x. (moment : ℕ) × C.gives clock.now moment × (puts puts_then : PutsView)
             × WasAsked K.rules B.base puts desk.old moment number puts_then desk.new x.0) }
         ensures receipt { IfOk result (λ x. x.1 ≡ desk.new.seen) }
         ensures refused { IfErr result (λ error. (error ≡ Stopped) ⊎ IsNoPlace error) }
@@ -94,6 +157,7 @@ impl<K: RecordKind + Drop, B: SetsName<K, D>, D: Device> EngineCore<K, B, D> {
             return Err(IocError::Stopped);
         }
         let mut puts = self.puts.lock(rt);
+        let moment = clock.now();
         puts.ask(&self.access(rt, alloc), desk, number, moment)
     }
 }

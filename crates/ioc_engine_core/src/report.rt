@@ -1,5 +1,6 @@
 //! The end of the engine.
-ghost use Rattle.std.specs.Prelude.{◌≡◌, ◌<◌, ◌+◌, ℕ, All, map};
+ghost use Rattle.std.specs.Prelude.{◌≡◌, ◌<◌, ◌≤◌, ◌+◌, ℕ, [], All, length, map};
+ghost use Rattle.std.specs.Vec.{vec_capacity};
 ghost use Rattle.std.specs.FinMap.{len};
 ghost use Rattle.std.specs.List.{sum_by};
 ghost use Rattle.ioc_history.specs.Counting.{counts_of};
@@ -8,24 +9,25 @@ ghost use Rattle.ioc_history.specs.Legal.{map_of};
 ghost use Rattle.ioc_store.specs.World.{Has};
 ghost use Rattle.ioc_topology.specs.Gathered.{HoldEach};
 ghost use Rattle.ioc_journaled_set.specs.Copies.{IsIn};
-ghost use Rattle.ioc_journaled_set.specs.Holding.{KeepsDevices, numbers_of};
+ghost use Rattle.ioc_journaled_set.specs.Holding.{IsSoundlyHeld, KeepsDevices, numbers_of};
 ghost use Rattle.ioc_journaled_set.specs.SameDevice.{IsDeviceOf};
 ghost use Rattle.ioc_engine_core.specs.Ended.{IsEnd, counts_in};
 ghost use Rattle.ioc_engine_core.specs.Loading.{IsSpare};
-ghost use Rattle.ioc_history.specs.Ticketed.{AreBack, AreTicketed};
-ghost use Rattle.ioc_history.specs.Places.{with_tickets};
+ghost use Rattle.ioc_history.specs.Ticketed.{AreTicketed};
 
 use crate::cancelling::all_sound;
 use crate::ended_journal::EndedJournal;
 use crate::engine::EngineCore;
-use ioc_callback::OnceQueue;
+use crate::serving::give_up_waiting;
 use ioc_device::Device;
 use ioc_history::legal_laws::lists_leave_sound;
-use ioc_history::{Cell, EngineCounts, Journal, JournalName, RequestTickets, TicketTally};
-use ioc_journaled_set::{JournaledSet, SetsName, move_all_on};
+use ioc_history::{Cell, EngineCounts, Journal, JournalName, TicketTally};
+use ioc_journaled_set::{EndedSet, JournaledSet, SetsName, move_all_on};
+use ioc_ledger::laws::counts_are_added;
 use ioc_ledger::{Tally, TallyShare};
 use ioc_record::RecordKind;
 use ioc_set::linking::add_counts;
+use ioc_topology::Gathered;
 use std::alloc::Global;
 use std::sync::Wait;
 
@@ -33,37 +35,23 @@ use std::sync::Wait;
 #[derive(Drop)]
 pub struct CoreReport<K: RecordKind + Drop, B: SetsName<K, D>, D: Device> {
     /// The lock sets, each with its records and their devices.
-    pub sets: Vec<JournaledSet<K, B, D>>,
+    pub sets: Vec<EndedSet<K, B, D>>,
     /// All calls, in one order.
     pub journal: EndedJournal<K, B>,
     /// The numbers of tickets of requests.
     pub tickets: TicketTally,
-    /// The number of once requests that were dropped because 1,000 waited.
-    pub once_dropped: u64,
-    /// The number of items that events have dropped because they had sent 256 already.
+    /// The number of requests that found their queue full.
+    pub requests_dropped: u64,
+    /// The number of items of events that were dropped: an event had sent 256 already, or a change
+    /// of a scan list couldn't be done.
     pub dropped: u64,
-}
-
-// Hands back the tickets of the requests that wait, and returns the number of those that were
-// dropped.
-fn give_up_all<K: RecordKind, B: JournalName<K>>(
-    once: OnceQueue<RequestTickets<K, B>>,
-    journal: &mut Journal<K, B>,
-) -> u64
-    ensures dropped { result ≡ once.dropped }
-    ensures back { AreBack once.tickets journal.old.tickets journal.new.tickets }
-    ensures same { journal.new ≡ with_tickets journal.old journal.new.tickets }
-{
-    let mut queue = once;
-    while let Some(request) = queue.pop() {
-        journal.hand_back(request.ticket);
-    }
-    queue.dropped()
+    /// The number of requests of scans that were refused.
+    pub refused: u64,
 }
 
 // Returns the counts of these sets together.
 fn counts_of<K: RecordKind + Drop, B: SetsName<K, D>, D: Device>(
-    sets: &[JournaledSet<K, B, D>],
+    sets: &[EndedSet<K, B, D>],
 ) -> Tally
     ensures { result ≡ counts_in sets.now }
 {
@@ -74,51 +62,59 @@ fn counts_of<K: RecordKind + Drop, B: SetsName<K, D>, D: Device>(
     tally
 }
 
-// Takes the shares of all these sets, and merges them with the parts that no set has.
-fn merge_shares<K: RecordKind + Drop, B: SetsName<K, D>, D: Device, R: Wait>(
-    rt: &R,
+// Ends all these sets, in reserved memory, and merges their shares with the parts that no set has.
+fn end_all<K: RecordKind + Drop, B: SetsName<K, D>, D: Device>(
     spare: TallyShare<EngineCounts<K, B>>,
-    sets: &mut [JournaledSet<K, B, D>],
-) -> TallyShare<EngineCounts<K, B>>
+    sets: Vec<JournaledSet<K, B, D>>,
+    room: Vec<EndedSet<K, B, D>>,
+) -> (Vec<EndedSet<K, B, D>>, TallyShare<EngineCounts<K, B>>)
     requires none { spare.counts ≡ no_counts }
-    ensures sets { map (λ h. h.set) sets.new ≡ map (λ h. h.set) sets.old }
-    ensures parts { result.parts ≡ spare.parts + sum_by (λ h. len h.set.records) sets.old }
-    ensures counts { result.counts ≡ counts_in sets.old }
+    requires room { (room.items ≡ []) × (length sets.items ≤ vec_capacity room) }
+    ensures sets { result.0.items ≡ sets.items }
+    ensures parts { result.1.parts ≡ spare.parts + sum_by (λ h. len h.set.records) sets.items }
+    ensures counts { result.1.counts ≡ counts_in result.0.items }
 {
+    counts_are_added();
     let mut all = spare;
-    for place in 0..sets.len() {
-        all.merge(sets[place].take_share(rt));
+    let mut ended = room;
+    for set in sets {
+        ended.push_reserved(set.into_ended(&mut all));
     }
-    all
+    (ended, all)
 }
 
-// Moves these sets on to the whole list of the journal, and compares their shares, merged with the
-// parts that no set has, with the book: the counts of the sets are together those of all calls.
+// Moves these sets on to the whole list of the journal, ends them, and compares their shares, merged
+// with the parts that no set has, with the book: the counts of the sets are together those of all
+// calls.
 fn settle<K: RecordKind + Drop, B: SetsName<K, D>, D: Device, R: Wait>(
     rt: &R,
     cell: &Cell,
     journal: &mut Journal<K, B>,
     spare: TallyShare<EngineCounts<K, B>>,
-    sets: &mut [JournaledSet<K, B, D>],
-)
+    gathered: Gathered<JournaledSet<K, B, D>>,
+) -> Vec<EndedSet<K, B, D>>
     requires table { cell.now.table.shared.table_id ≡ B.table }
-    requires all { (count : ℕ) × IsSpare spare count × HoldEach numbers_of sets.old count × ((n : ℕ) → Has B.base n → n < count) }
-    ensures sets { map (λ h. h.set) sets.new ≡ map (λ h. h.set) sets.old }
-    ensures are_in { All (IsIn (map_of K.rules B.base journal.old.filled)) sets.old }
+    requires room { (gathered.room.items ≡ []) × (length gathered.sets.items ≤ vec_capacity gathered.room) }
+    requires all { (count : ℕ) × IsSpare spare count × HoldEach numbers_of gathered.sets.items count
+        × ((n : ℕ) → Has B.base n → n < count) }
+    ensures sets { map (λ h. h.set) result.items ≡ map (λ h. h.set) gathered.sets.items }
+    ensures sound { All (IsSoundlyHeld K.rules B.base) result.items }
+    ensures are_in { All (IsIn (map_of K.rules B.base journal.old.filled)) gathered.sets.items }
     ensures journal { journal.new ≡ journal.old }
-    ensures tally { counts_in sets.old ≡ counts_of K.rules B.base journal.old.filled }
+    ensures tally { counts_in gathered.sets.items ≡ counts_of K.rules B.base journal.old.filled }
 {
     lists_leave_sound::<K>();
     journal.is_legal();
-    move_all_on(rt, cell, journal, sets);
-    let mut share = merge_shares(rt, spare, sets);
+    let Gathered { mut sets, room } = gathered;
+    move_all_on(rt, cell, journal, sets.as_mut_slice());
+    all_sound(sets.as_slice());
+    let (ended, mut share) = end_all(spare, sets, room);
     journal.audit(&mut share);
+    ended
 }
 
 // States that each record of these sets has its device.
-fn all_keep_devices<K: RecordKind + Drop, B: SetsName<K, D>, D: Device>(
-    sets: &[JournaledSet<K, B, D>],
-)
+fn all_keep_devices<K: RecordKind + Drop, B: SetsName<K, D>, D: Device>(sets: &[EndedSet<K, B, D>])
     ensures { All (λ h. KeepsDevices (IsDeviceOf D.gives B.devices) h.set) sets.now }
 {
     for held in sets {
@@ -137,25 +133,28 @@ impl<K: RecordKind + Drop, B: SetsName<K, D>, D: Device> EngineCore<K, B, D> {
             mut sets,
             journal: shared,
             puts: _,
-            once,
+            lists: _,
+            queues,
             dropped,
+            refused,
             spare,
         } = self;
-        let mut all = sets.gather(rt, alloc);
+        give_up_waiting::<K, B, D, R>(rt, &queues, &shared);
+        let gathered = sets.gather(rt, alloc);
         let (cell, mut journal) = shared.into_parts();
+        lists_leave_sound::<K>();
         journal.is_legal();
         let spare = spare.into_inner().into_share();
-        settle(rt, &cell, &mut journal, spare, all.as_mut_slice());
-        all_sound(all.as_slice());
-        all_keep_devices(all.as_slice());
-        let once_dropped = give_up_all(once.into_inner(), &mut journal);
+        let ended = settle(rt, &cell, &mut journal, spare, gathered);
+        all_keep_devices(ended.as_slice());
         let tickets = journal.tickets();
         CoreReport {
-            sets: all,
+            sets: ended,
             journal: EndedJournal::new(journal, cell),
             tickets,
-            once_dropped,
+            requests_dropped: queues.dropped(),
             dropped: dropped.into_inner(),
+            refused: refused.into_inner(),
         }
     }
 }

@@ -1,57 +1,148 @@
 //! What the events of the engine send.
 use crate::engine::EngineCore;
-use crate::once_requests::add_once;
+use crate::queueing::{push_each, push_one};
 use ioc_device::Device;
 use ioc_history::RequestTickets;
 use ioc_journaled_set::SetsName;
 use ioc_ledger::Tickets;
 use ioc_record::RecordKind;
+use ioc_scan::Listed;
+use ioc_scanner::{Asked, take_item};
 use ioc_set_store::EventBuffers;
+use ioc_shared_queues::Rank;
+use ioc_store::OutboxItem;
+use std::alloc::AllocError;
 use std::sync::Wait;
 use std::sync::atomic::Ordering;
 
 impl<K: RecordKind + Drop, B: SetsName<K, D>, D: Device> EngineCore<K, B, D> {
-    // Takes what the last event has sent, while no lock is held. Most events send nothing, and then
+    // Does what the last event has sent, while no lock is held. Most events send nothing, and then
     // there is no ticket.
     #[inline(always)]
     pub(crate) fn do_sent<R: Wait>(
         &self,
         rt: &R,
         buffers: &EventBuffers<K, D>,
+        walked: &mut Vec<Listed>,
         tickets: Tickets<RequestTickets<K, B>>,
     ) {
         if !buffers.items().is_empty() || buffers.dropped() != 0 {
-            self.do_items(rt, buffers, tickets);
+            self.do_items(rt, buffers, walked, tickets);
         }
     }
 
-    // Adds the once requests that the last event has sent to the list, each with a ticket, and counts
-    // the items that the event has dropped. The requests aren't served yet, and posted events and
-    // changes of scan lists have no effect yet. The list is under a lock, so this has no contract; see
-    // that of `add_once`.
+    // Does what a link change has sent: changes of scan lists.
+    pub(crate) fn do_changes<R: Wait>(
+        &self,
+        rt: &R,
+        buffers: &EventBuffers<K, D>,
+        walked: &mut Vec<Listed>,
+    ) {
+        let none = self.journal.begin_called(rt, 0);
+        self.do_sent(rt, buffers, walked, none);
+    }
+
+    // Does what an event has sent, in order: once requests go to their queue, each with a ticket of
+    // the event, posted events to the queues of the records on their lists, and changes to the scan
+    // lists. The items that the event itself has dropped are counted. Lists and queues lie under
+    // locks or are shared, so this has no contract; see those of `take_item`, `push_one` and
+    // `push_each`.
     #[inline(never)]
     fn do_items<R: Wait>(
         &self,
         rt: &R,
         buffers: &EventBuffers<K, D>,
+        walked: &mut Vec<Listed>,
         tickets: Tickets<RequestTickets<K, B>>,
     ) {
         let mut left = tickets;
-        {
-            let mut once = self.once.lock(rt);
-            add_once(buffers.items(), &mut left, &mut once);
+        for item in buffers.items() {
+            self.do_item(rt, item, walked, &mut left);
         }
+        self.hand_back(rt, left);
+        self.count_dropped(buffers.dropped());
+    }
+
+    // Does what an item asks for. One for which allocation fails is dropped and counted.
+    fn do_item<R: Wait>(
+        &self,
+        rt: &R,
+        item: &OutboxItem,
+        walked: &mut Vec<Listed>,
+        tickets: &mut Tickets<RequestTickets<K, B>>,
+    ) {
+        match self.asked(rt, item, walked) {
+            Ok(asked) => self.do_asked(rt, &asked, walked, tickets),
+            Err(_) => self.count_dropped(1),
+        }
+    }
+
+    // Puts the requests that an item asks for on their queues: that of a record, or those of the
+    // records that were walked.
+    fn do_asked<R: Wait>(
+        &self,
+        rt: &R,
+        asked: &Asked,
+        walked: &[Listed],
+        tickets: &mut Tickets<RequestTickets<K, B>>,
+    ) {
+        match asked {
+            Asked::Once(number) => {
+                let mut lane = self.queues.lane();
+                push_one(rt, &self.queues, &mut lane, Rank::Once, *number, tickets);
+            }
+            Asked::Calls => {
+                let begun = self.journal.begin_called(rt, walked.len() as u64);
+                self.push_called(rt, walked, begun);
+            }
+            Asked::Change => {}
+            Asked::Dropped => self.count_dropped(1),
+        }
+    }
+
+    // Changes the scan lists as an item says, and returns what it asks of the queues.
+    fn asked<R: Wait>(
+        &self,
+        rt: &R,
+        item: &OutboxItem,
+        walked: &mut Vec<Listed>,
+    ) -> Result<Asked, AllocError> {
+        if let OutboxItem::Once(number) = item {
+            return Ok(Asked::Once(*number));
+        }
+        let mut lists = self.lists.lock(rt);
+        take_item(&mut lists, item, walked)
+    }
+
+    // Puts a request of each of these records on the callback queue of its priority.
+    pub(crate) fn push_called<R: Wait>(
+        &self,
+        rt: &R,
+        listed: &[Listed],
+        tickets: Tickets<RequestTickets<K, B>>,
+    ) {
+        let mut left = tickets;
+        let mut lane = self.queues.lane();
+        push_each(rt, &self.queues, &mut lane, listed, &mut left);
+        self.hand_back(rt, left);
+    }
+
+    // Hands back the tickets that are left, if there are any.
+    fn hand_back<R: Wait>(&self, rt: &R, left: Tickets<RequestTickets<K, B>>) {
         if !left.is_empty() {
             self.journal.hand_back(rt, left);
         }
-        self.count_dropped(buffers);
     }
 
-    // Counts the items that the last event has dropped.
-    pub(crate) fn count_dropped(&self, buffers: &EventBuffers<K, D>) {
-        let dropped = buffers.dropped();
-        if dropped != 0 {
-            self.dropped.fetch_add(dropped, Ordering::SeqCst);
+    /// Counts a request of a scan that was refused.
+    pub fn count_refused(&self) {
+        self.refused.fetch_add(1, Ordering::SeqCst);
+    }
+
+    // Counts items that were dropped.
+    fn count_dropped(&self, count: u64) {
+        if count != 0 {
+            self.dropped.fetch_add(count, Ordering::SeqCst);
         }
     }
 }

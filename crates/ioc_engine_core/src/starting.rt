@@ -14,20 +14,20 @@ ghost use Rattle.ioc_ledger.specs.Requests.{no_counts};
 ghost use Rattle.ioc_ledger.specs.Shared.{share_view, names_of};
 ghost use Rattle.ioc_engine_core.specs.declared.starting.StartError.TheVariants.{BadValue, NotAtRest, LinkLeaves};
 
-use crate::engine::EngineCore;
+use crate::engine::{EngineCore, QueuedRequest};
 use crate::holding::hold_all;
-use ioc_callback::OnceQueue;
 use ioc_device::Device;
 use ioc_history::legal_laws::lists_leave_sound;
 use ioc_history::{
-    Cell, EngineCounts, Journal, JournalName, KeyPass, Limits, RequestTickets, SharedJournal,
-    TicketCounts, pass,
+    Cell, EngineCounts, Journal, JournalName, KeyPass, Limits, SharedJournal, TicketCounts, pass,
 };
 use ioc_journaled_set::{JournaledSet, SetsName, SharedNotifications};
 use ioc_ledger::{CountBlanks, TallyBook, TallyShare};
 use ioc_record::RecordKind;
+use ioc_scan::ScanLists;
 use ioc_set_records::loaded_laws::dealt_sets_are_parts;
 use ioc_set_records::{Loaded, deal, parts_of};
+use ioc_shared_queues::CallbackQueues;
 use ioc_topology::Directory;
 use std::alloc::{AllocError, Global};
 use std::sync::ledger::Blank;
@@ -60,13 +60,19 @@ fn are_at_rest<K: RecordKind, D>(all: &[Loaded<K, D>]) -> bool
     all.iter().all(|loaded| is_at_rest(&loaded.fields))
 }
 
-// Creates the table of puts with notification, whose pass gets their key, and the list of once
+// Creates the table of puts with notification, whose pass gets their key, and the queues of
 // requests. Both are empty.
 fn new_lists<K: RecordKind, B: JournalName<K>>(
     alloc: Global,
     cell: &Cell,
     master: &mut KeyPass,
-) -> Result<(SharedNotifications<K, B>, OnceQueue<RequestTickets<K, B>>), AllocError>
+) -> Result<
+    (
+        SharedNotifications<K, B>,
+        CallbackQueues<QueuedRequest<K, B>>,
+    ),
+    AllocError,
+>
     requires table { (cell.now.table.shared.table_id ≡ B.table) × (master.old.table_id ≡ B.table) }
     requires master { cell_view master.old ≡ keeper [] (cell_view master.old).born }
     requires born { AreRecords (cell_view master.old).born }
@@ -77,8 +83,8 @@ fn new_lists<K: RecordKind, B: JournalName<K>>(
 {
     let pass = pass::claim_key(cell, master, 2, 0);
     let puts = SharedNotifications::new(alloc, pass)?;
-    let once = OnceQueue::new(alloc)?;
-    Ok((puts, once))
+    let queues = CallbackQueues::new(alloc)?;
+    Ok((puts, queues))
 }
 
 // Returns the part of each record, if an engine can be started with these records. They are passed
@@ -111,7 +117,7 @@ fn startable_parts<K: RecordKind, D>(
     Ok(parts)
 }
 
-// Creates all that an engine has beside the journal: the sets of all parts, the table and the list.
+// Creates all that an engine has beside the journal: the sets of all parts, the table and the queues.
 // The cell, the pass and the share are passed by reference, so a failed allocation drops none of
 // them.
 fn holdings<K: RecordKind + Drop, B: SetsName<K, D>, D: Device>(
@@ -125,7 +131,7 @@ fn holdings<K: RecordKind + Drop, B: SetsName<K, D>, D: Device>(
     (
         Directory<JournaledSet<K, B, D>>,
         SharedNotifications<K, B>,
-        OnceQueue<RequestTickets<K, B>>,
+        CallbackQueues<QueuedRequest<K, B>>,
     ),
     AllocError,
 >
@@ -150,11 +156,12 @@ fn holdings<K: RecordKind + Drop, B: SetsName<K, D>, D: Device>(
     lists_leave_sound::<K>();
     let mut sets = deal(alloc, all, parts)?;
     let directory = hold_all::<K, B, D>(alloc, cell, master, spare, sets.as_mut_slice(), parts)?;
-    let (puts, once) = new_lists::<K, B>(alloc, cell, master)?;
-    Ok((directory, puts, once))
+    let (puts, queues) = new_lists::<K, B>(alloc, cell, master)?;
+    Ok((directory, puts, queues))
 }
 
-/// Starts an engine with these records, each with its device. No record was requested yet. `B`
+/// Starts an engine with these records, each with its device, and with their scan lists. No record
+/// was requested yet. `B`
 /// names the engine: its cell, the world and the devices of the records at the load, the ledger of
 /// places, that of tickets, and those of counts. To start an engine, call a function that is generic
 /// over such a name with `Brand` for `B`.
@@ -170,6 +177,7 @@ pub fn start<K: RecordKind + Drop, B: SetsName<K, D>, D: Device>(
     tickets: Blank,
     counts: CountBlanks,
     all: Vec<Loaded<K, D>>,
+    lists: ScanLists,
     limits: Limits,
 ) -> Result<EngineCore<K, B, D>, StartError>
     requires table { (cell.table.shared.table_id ≡ B.table) × (master.table_id ≡ B.table) }
@@ -191,7 +199,7 @@ pub fn start<K: RecordKind + Drop, B: SetsName<K, D>, D: Device>(
     let parts = startable_parts(alloc, &all, limits)?;
     let mut master = master;
     let (counted, mut spare) = TallyBook::open(counts);
-    let Ok((directory, puts, once)) = holdings::<K, B, D>(
+    let Ok((directory, puts, queues)) = holdings::<K, B, D>(
         alloc,
         &cell,
         &mut master,
@@ -208,5 +216,5 @@ pub fn start<K: RecordKind + Drop, B: SetsName<K, D>, D: Device>(
     let Ok(shared) = SharedJournal::new(alloc, cell, journal, free, limits.checkpoint_at) else {
         return Err(StartError::NoMemory);
     };
-    Ok(EngineCore::new(directory, shared, puts, once, spare))
+    Ok(EngineCore::new(directory, shared, puts, lists, queues, spare))
 }

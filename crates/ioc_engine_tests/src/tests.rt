@@ -2,9 +2,16 @@
 mod calling;
 mod calls;
 mod eight;
+mod moments;
+mod programs;
 mod replayed;
 mod running;
+mod scanned;
+mod scans;
 mod sensor;
 mod sessions;
 mod steps;
+mod timer;
 mod walk;
+mod worked;
+mod workers;

@@ -92,3 +92,5 @@ module _ {R : Type 0} (k : RecordRules R) (lawful : IsLawful k) where
   calls-within mine w (call.Get s field text) counted within not_cancel = within
   calls-within mine w (call.IsLive number live) counted within not_cancel = within
   calls-within mine w (call.Link s field link reply) counted within not_cancel = within
+  calls-within mine w (call.Post name count) counted within not_cancel = within
+  calls-within mine w (call.Interrupt device count) counted within not_cancel = within

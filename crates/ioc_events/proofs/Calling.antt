@@ -20,7 +20,7 @@ use Rattle.ioc_events.specs.declared.event.Call.{Call}
 use Rattle.ioc_events.specs.declared.event.Call.TheVariants as call
 use Rattle.ioc_events.specs.Step.{Stepped, link_refusal, relinked}
 use Rattle.ioc_events.specs.Calls.{Called, called, linked}
-use Rattle.ioc_events.specs.StepRules.{Calls, does_event, shows_field, tells_if_live, keeps_its_link, takes_link, Replay, at_the_end, and_then, KeepsRecords}
+use Rattle.ioc_events.specs.StepRules.{Calls, does_event, shows_field, tells_if_live, keeps_its_link, takes_link, posts_event, interrupts, Replay, at_the_end, and_then, KeepsRecords}
 use Rattle.ioc_events.specs.Starting.{NoneReady}
 use Rattle.ioc_events.specs.Holding.{HoldersAwait}
 use Rattle.ioc_events.proofs.LinkChanges.{link-parts}
@@ -45,6 +45,8 @@ module _ {R : Type 0} (k : RecordRules R) (lawful : IsLawful k) where
   calls-settled answers (tells_if_live _) settled = settled
   calls-settled answers (keeps_its_link _) settled = settled
   calls-settled answers (takes_link {w} {s} {field} {link} kept) settled = relinked-settled w s field link kept settled
+  calls-settled answers posts_event settled = settled
+  calls-settled answers interrupts settled = settled
 
   pub replay-settled : {w w' : World R} {entries : List Entry} → Replay k w entries w' → IsSettled k w → IsSettled k w'
   replay-settled at_the_end settled = settled
@@ -56,6 +58,8 @@ module _ {R : Type 0} (k : RecordRules R) (lawful : IsLawful k) where
   calls-records answers (tells_if_live {w} _) closed = all-kept k lawful w
   calls-records answers (keeps_its_link {w} _) closed = all-kept k lawful w
   calls-records answers (takes_link {w} {s} {field} {link} kept) closed = linked-kept k lawful w s (k.with_link (at k w s) field link) (device_of k (at k w s)) (link-parts k w s field link kept).0
+  calls-records answers (posts_event {w}) closed = all-kept k lawful w
+  calls-records answers (interrupts {w}) closed = all-kept k lawful w
 
   pub calls-none : (answers : Answers) {w w' : World R} {c : Call} {requests : Requests} → Calls k answers w c w' requests → NoneReady k w → NoneReady k w'
   calls-none answers (does_event step) none = step-none k lawful answers step none
@@ -64,6 +68,8 @@ module _ {R : Type 0} (k : RecordRules R) (lawful : IsLawful k) where
   calls-none answers (keeps_its_link _) none = none
   calls-none answers (takes_link {w} {s} {field} {link} _) none =
       none-same k lawful w _ (as_idle-linked k lawful w s field link (device_of k (at k w s))) (rewired-waiting k lawful _ _ s ∙ put-waiting k lawful w s _) none
+  calls-none answers posts_event none = none
+  calls-none answers interrupts none = none
 
   -- The rules allow what `called` says and nothing else.
   pub calls-is : (answers : Answers) {w w' : World R} {c : Call} {requests : Requests} → Calls k answers w c w' requests → called k answers w c ≡ record { world = w'; call = c; requests = requests }
@@ -73,6 +79,8 @@ module _ {R : Type 0} (k : RecordRules R) (lawful : IsLawful k) where
   calls-is answers (tells_if_live {w} {number} is) = ap (λ (b : Bool). record { world = w; call = call.IsLive number b; requests = None }) is
   calls-is answers (keeps_its_link {w} {s} {field} {link} is) = ap (linked k answers w s field link) is
   calls-is answers (takes_link {w} {s} {field} {link} is) = ap (linked k answers w s field link) is
+  calls-is answers posts_event = refl
+  calls-is answers interrupts = refl
 
   link-allowed : (answers : Answers) (w : World R) (s : ℕ) (field : FieldNo) (link : LinkField) (o : Option IocError) → link_refusal k w s field link ≡ o
       → let done = linked k answers w s field link o in Calls k answers w done.call done.world done.requests
@@ -85,6 +93,8 @@ module _ {R : Type 0} (k : RecordRules R) (lawful : IsLawful k) where
   calls-allowed answers w (call.Get s field text) = shows_field refl
   calls-allowed answers w (call.IsLive number live) = tells_if_live refl
   calls-allowed answers w (call.Link s field link reply) = link-allowed answers w s field link _ refl
+  calls-allowed answers w (call.Post name count) = posts_event
+  calls-allowed answers w (call.Interrupt device count) = interrupts
 
   -- A list of calls replays in one way.
   pub replay-is : {w w' w'' : World R} {entries : List Entry} → Replay k w entries w' → Replay k w entries w'' → w' ≡ w''
@@ -102,6 +112,8 @@ module _ {R : Type 0} (k : RecordRules R) (lawful : IsLawful k) where
   calls-told answers n (takes_link {w} {s} {field} {link} _) told =
       let linked_ = told-put k lawful n w s (k.with_link (at k w s) field link) (lawful.link_set_active (at k w s) field link) (ap (λ (c : Common). c.notification) (lawful.link_set_common (at k w s) field link)) told in
       rewired-either k (IsFree k lawful n) _ _ s linked_ (moved-told k lawful n _ s linked_)
+  calls-told answers n posts_event told = told
+  calls-told answers n interrupts told = told
 
   pub calls-awaits : (answers : Answers) {w w' : World R} {c : Call} {requests : Requests} → Calls k answers w c w' requests → IsSettled k w → HoldersAwait k w → HoldersAwait k w'
   calls-awaits answers {w} calls settled await =

@@ -19,7 +19,7 @@ use Rattle.ioc_events.specs.declared.event.Event.TheVariants.{Cancel}
 use Rattle.ioc_events.specs.declared.event.Entry.{Entry}
 use Rattle.ioc_events.specs.declared.reply.Reply.{Reply}
 use Rattle.ioc_events.specs.declared.reply.Reply.TheVariants.{Plain, Notify as Notify-reply}
-use Rattle.ioc_events.specs.StepRules.{Step, Calls, does_event, shows_field, tells_if_live, keeps_its_link, takes_link, Replay, at_the_end, and_then}
+use Rattle.ioc_events.specs.StepRules.{Step, Calls, does_event, shows_field, tells_if_live, keeps_its_link, takes_link, posts_event, interrupts, Replay, at_the_end, and_then}
 use Rattle.ioc_events.specs.declared.event.Call.{Call}
 use Rattle.ioc_events.specs.declared.event.Call.TheVariants as call
 use Rattle.ioc_fields.specs.declared.field_no.FieldNo.{FieldNo}
@@ -162,6 +162,8 @@ module _ {R : Type 0} (k : RecordRules R) (lawful : IsLawful k) where
   calls-counted answers (tells_if_live _) is = is
   calls-counted answers (keeps_its_link _) is = is
   calls-counted answers (takes_link {w} {s} {field} {link} kept) is = of-sound (link-led w s field link kept is).sound
+  calls-counted answers posts_event is = is
+  calls-counted answers interrupts is = is
 
   pub replay-counted : {w w' : World R} {entries : List Entry} → Replay k w entries w' → IsCounted k w → IsCounted k w'
   replay-counted at_the_end is = is
@@ -313,6 +315,8 @@ module _ {R : Type 0} (k : RecordRules R) (lawful : IsLawful k) where
   calls-end answers (keeps_its_link {w} {s} {field} {link} {e} _) is empty = same-ends w (call.Link s field link (Err e)) (λ n begun. begun) empty
   calls-end answers (takes_link {w} {s} {field} {link} kept) is empty =
       led-ends w _ (call.Link s field link (Ok tt)) (λ n begun. begun) (λ n cancelled. cancelled) (sound-of is) (link-led w s field link kept is) empty
+  calls-end answers (posts_event {w} {name} {count}) is empty = same-ends w (call.Post name count) (λ n begun. begun) empty
+  calls-end answers (interrupts {w} {device} {count}) is empty = same-ends w (call.Interrupt device count) (λ n begun. begun) empty
 
   -- Lemmas about cancelled ones, which never end.
 
@@ -345,6 +349,8 @@ module _ {R : Type 0} (k : RecordRules R) (lawful : IsLawful k) where
   calls-over answers n (takes_link {w} {s} {field} {link} kept) is none other =
       let led = link-led w s field link kept is in
       (of-sound led.sound, omega (arith, led.balance n, none))
+  calls-over answers n posts_event is none other = (is, none)
+  calls-over answers n interrupts is none other = (is, none)
 
   stays-over : {w w' : World R} (entry : Entry) (n : ℕ) {requests : Requests} → Calls k (listed entry.answers) (begun_at entry.moment w) entry.call w' requests → IsCounted k w
       → lives n w.live ≡ 0 → (Begins entry.call n → ⊥) → IsCounted k w' × (stands w' n ≡ 0)

@@ -460,3 +460,5 @@ module _ {R : Type 0} (k : RecordRules R) (lawful : IsLawful k) (mine : ℕ → 
   call-local w v (call.Link s field link reply) shut alike apart other_apart within other_within asks =
       subst (λ (o : Option IocError). AgreeCall k mine w v (linked k answers w s field link (link_refusal k w s field link)) (linked k answers v s field link o)) (refusal-same w v s field link alike within)
       (link-agrees w v s field link (link_refusal k w s field link) shut alike within)
+  call-local w v (call.Post name count) shut alike apart other_apart within other_within asks = unchanged-call shut alike refl
+  call-local w v (call.Interrupt device count) shut alike apart other_apart within other_within asks = unchanged-call shut alike refl

@@ -22,6 +22,8 @@ named (call.Event event reply) = names event
 named (call.Get s field text) = s ∷ []
 named (call.IsLive number live) = []
 named (call.Link s field link reply) = s ∷ named_by (use_of link)
+named (call.Post name count) = []
+named (call.Interrupt device count) = []
 
 -- What comes of a call: the database afterwards, the call with the reply that it has here, and the
 -- requests that were made.
@@ -41,3 +43,5 @@ module _ {R : Type 0} (k : RecordRules R) (answers : Answers) where
   called w (call.Get s field text) = record { world = w; call = call.Get s field (shown k w s field); requests = None }
   called w (call.IsLive number live) = record { world = w; call = call.IsLive number (is_live number w.live); requests = None }
   called w (call.Link s field link reply) = linked w s field link (link_refusal k w s field link)
+  called w (call.Post name count) = record { world = w; call = call.Post name count; requests = None }
+  called w (call.Interrupt device count) = record { world = w; call = call.Interrupt device count; requests = None }

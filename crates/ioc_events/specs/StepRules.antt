@@ -164,6 +164,12 @@ module _ {R : Type 0} (k : RecordRules R) (answers : Answers) where
     takes_link : {w : World R} {s : ℕ} {field : FieldNo} {link : LinkField}
         → link_refusal k w s field link ≡ Nothing_
         → Calls w (call.Link s field link (Ok tt)) (relinked k w s field link) None
+    -- A posted event, and an interrupt of devices, put requests on queues. These are calls of their
+    -- own, so how many they are says nothing about the database.
+    posts_event : {w : World R} {name : List ℕ} {count : ℕ}
+        → Calls w (call.Post name count) w None
+    interrupts : {w : World R} {device : List ℕ} {count : ℕ}
+        → Calls w (call.Interrupt device count) w None
 
 module _ {R : Type 0} (k : RecordRules R) where
   -- The events of a list, one after another, lead from one database to another, each at its time

@@ -1,14 +1,16 @@
 //! Events of a database, calls, and history entries.
-ghost use Rattle.std.specs.Prelude.{◌≡◌};
+ghost use Rattle.std.specs.Prelude.{◌≡◌, IfOk};
 
 use crate::reply::Reply;
 use ioc_dbcommon::LinkField;
 use ioc_device::Answer;
 use ioc_fields::FieldNo;
+use ioc_links::MAX_DEVICE_BYTES;
 use ioc_names::RecordNo;
 use ioc_notify::NotifyId;
 use ioc_record::FieldText;
-use ioc_values::{Finished, Input, IocError};
+use ioc_values::{Finished, Input, IocError, Short, Text};
+use std::alloc::{AllocError, Global};
 use std::marker::Model;
 
 /// What is done to the records of a database, with the arguments of its caller.
@@ -66,6 +68,12 @@ pub enum Call {
     IsLive(NotifyId, bool),
     /// A change of the link of a link field.
     Link(RecordNo, FieldNo, LinkField, Result<(), IocError>),
+    /// A posted event with this name, and the number of requests that were begun for it. It changes
+    /// no record.
+    Post(Text, u64),
+    /// An interrupt of the devices whose links begin with this word, and the number of requests that
+    /// were begun for it. It changes no record.
+    Interrupt(Short<MAX_DEVICE_BYTES>, u64),
 }
 
 /// The answers of devices in an event, in order. Contracts see it as their list.
@@ -90,6 +98,26 @@ impl KeptAnswers {
     {
         KeptAnswers { answers }
     }
+
+    /// Returns the answers.
+    pub fn as_slice(&self) -> &[Answer]
+        ensures { result.now ≡ self.now }
+    {
+        self.answers.as_slice()
+    }
+
+    /// Copies the answers.
+    ///
+    /// # Errors
+    ///
+    /// [`AllocError`] if allocation fails.
+    pub fn copy(&self, alloc: Global) -> Result<Self, AllocError>
+        ensures { IfOk result (λ copy. copy ≡ self.now) }
+    {
+        let mut answers = Vec::new(alloc);
+        answers.extend_from_slice(self.answers.as_slice())?;
+        Ok(KeptAnswers { answers })
+    }
 }
 
 /// An entry of a history: a call, its time stamp, and the answers of devices in it.
@@ -99,6 +127,24 @@ pub struct Entry {
     pub moment: u64,
     pub call: Call,
     pub answers: KeptAnswers,
+}
+
+impl Entry {
+    /// Copies the entry.
+    ///
+    /// # Errors
+    ///
+    /// [`AllocError`] if allocation fails.
+    pub fn copy(&self, alloc: Global) -> Result<Self, AllocError>
+        ensures { IfOk result (λ copy. copy ≡ self.now) }
+    {
+        let answers = self.answers.copy(alloc)?;
+        Ok(Entry {
+            moment: self.moment,
+            call: self.call,
+            answers,
+        })
+    }
 }
 
 /// An event with its time stamp, the answers of devices in it, and its reply.

@@ -15,9 +15,9 @@ use Rattle.ioc_history.specs.KeyLaws.{has_left, has_right}
 use Rattle.ioc_history.specs.Line.{Continues, keeper, holder, noted}
 use Rattle.ioc_history.specs.Legal.{IsLegal, map_of}
 use Rattle.ioc_history.specs.Account.{DeskView, desk_view, desk_key, journalled, calls, Below, MayBegin, IsAccount, HasCalled}
-use Rattle.ioc_history.specs.Counting.{one_if_request, once_by, counts_of, AreTickets, AreTicketsOf, DoesCount, IsFew, IsRecorded, MayAppend, BothMayAppend}
+use Rattle.ioc_history.specs.Counting.{one_if_request, once_by, counts_of, AreTicketsOf, DoesCount, IsFew, IsRecorded, MayAppend, BothMayAppend}
 use Rattle.ioc_history.specs.Desks.{LeadsFrom, IsKept, IsDesk, IsReceipt}
-use Rattle.ioc_history.specs.Ticketed.{TicketsView}
+use Rattle.ioc_history.specs.Tickets.{TicketsView, AreTickets}
 use Rattle.ioc_history.proofs.Adding.{account_then, below_then, called}
 use Rattle.ioc_history.proofs.Bases.{still_leads}
 use Rattle.ioc_history.proofs.Calls.{below_other, counted}
@@ -109,7 +109,7 @@ module _ {R : Type 0} {k : RecordRules R} {base : World R} {v : View} {n next : 
 
   -- As many tickets begin as once requests are sent.
   pub begun-so : (batch r : ℕ) → r ≡ one_if_request made.entry.call
-      → ((requests once : ℕ) → AreTickets tickets.counts tickets.sent requests once → (r + requests) + (sent + once) < 2 ^ 64 → batch ≡ sent)
+      → ((requests once : ℕ) → AreTickets tickets requests once → (r + requests) + (sent + once) < 2 ^ 63 → batch ≡ sent)
       → (log : List Note) → log ≡ v.seen ++ noted made keys ∷ [] → IsFew k base log → batch ≡ sent
   begun-so batch r request_is begun log is few =
       begun-then k base v.seen (noted made keys) sent r more.sends request_is tickets batch kept.tickets_are begun (subst (IsFew k base) is few)
@@ -118,7 +118,7 @@ module _ {R : Type 0} {k : RecordRules R} {base : World R} {v : View} {n next : 
   pub kept-then : {items_then : List JournalEntry} {tickets_then : TicketsView} {book_then : Tally} (id_then : TableId) (w : View) (r : ℕ)
       → (Has (desk_key n) (desk_key n ∷ []) → Has (desk_key n) v.born) → id_then ≡ id → w ≡ keeper (v.seen ++ noted made keys ∷ []) v.born
       → items_then ≡ items ++ made ∷ [] → r ≡ one_if_request made.entry.call
-      → ((requests once : ℕ) → AreTickets tickets.counts tickets.sent requests once → AreTickets tickets_then.counts tickets_then.sent (r + requests) (sent + once))
+      → ((requests once : ℕ) → AreTickets tickets requests once → AreTickets tickets_then (r + requests) (sent + once))
       → IsRecorded share before after book book_then → IsKept k base table id_then w items_then dropped from desks tickets_then book_then
   kept-then {items_then} {tickets_then} {book_then} id_then w r born same keeps filled request_is ticketed recorded =
       let told = sym (ap (λ (x : View). x.seen) keeps) in
@@ -136,6 +136,6 @@ module _ {R : Type 0} {k : RecordRules R} {base : World R} {v : View} {n next : 
         account = subst (IsAccount k base) told more.account;
         given = λ key has kind. kept.given key (subst (Has key) born_is has) kind;
         new_desk = λ m le. subst (λ (l : List Note). Below m 0 (calls l)) told (below_other v.seen made keys m (λ is. omega (arith, is, le, known, desk_is)) (kept.new_desk m le));
-        tickets_are = subst (λ (l : List Note). AreTicketsOf k base l tickets_then.counts tickets_then.sent) told (tickets-then k base v.seen (noted made keys) sent r more.sends request_is tickets tickets_then kept.tickets_are ticketed);
+        tickets_are = subst (λ (l : List Note). AreTicketsOf k base l tickets_then) told (tickets-then k base v.seen (noted made keys) sent r more.sends request_is tickets tickets_then kept.tickets_are ticketed);
         counted = subst (λ (l : List Note). book_then ≡ counts_of k base l) told (counts-then k base v.seen (noted made keys) share before after book book_then more.counts kept.counted recorded);
       }

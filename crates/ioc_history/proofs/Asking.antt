@@ -24,6 +24,8 @@ module _ {R : Type 0} (k : RecordRules R) where
   question-world answers w (call.IsLive number live) is = refl
   question-world answers w (call.Event event reply) is = cc
   question-world answers w (call.Link s field link reply) is = cc
+  question-world answers w (call.Post name count) is = cc
+  question-world answers w (call.Interrupt device count) is = cc
 
   -- The reply to a question doesn't depend on the time stamp, nor on the reply that is written in it.
   question-reply : (answers others : Answers) (moment : ℕ) (w : World R) (asked : Call) → is_question asked ≡ true → (called k answers (begun_at moment w) asked).call ≡ (called k others w asked).call
@@ -32,6 +34,8 @@ module _ {R : Type 0} (k : RecordRules R) where
   question-reply answers others moment w (call.IsLive number live) is = refl
   question-reply answers others moment w (call.Event event reply) is = cc
   question-reply answers others moment w (call.Link s field link reply) is = cc
+  question-reply answers others moment w (call.Post name count) is = cc
+  question-reply answers others moment w (call.Interrupt device count) is = cc
 
   -- A question cancels nothing.
   no-cancel : (m v : World R) (asked : Call) → is_question asked ≡ true → CancelsWithin k m v asked
@@ -39,6 +43,8 @@ module _ {R : Type 0} (k : RecordRules R) where
   no-cancel m v (call.IsLive number live) is = tt
   no-cancel m v (call.Event event reply) is = cc
   no-cancel m v (call.Link s field link reply) is = tt
+  no-cancel m v (call.Post name count) is = tt
+  no-cancel m v (call.Interrupt device count) is = tt
 
   same-holders : (moment : ℕ) (v : World R) (number : ℕ) → holders k (begun_at moment v) number ≡ holders k v number
   unfolding holders begun begun_at

@@ -11,7 +11,7 @@ use Rattle.ioc_events.specs.declared.event.Call.{Call}
 use Rattle.ioc_events.specs.declared.event.Call.TheVariants as call
 use Rattle.ioc_events.specs.Holding.{Begins}
 use Rattle.ioc_events.specs.Calls.{called}
-use Rattle.ioc_events.specs.StepRules.{Calls, does_event, shows_field, tells_if_live, keeps_its_link, takes_link}
+use Rattle.ioc_events.specs.StepRules.{Calls, does_event, shows_field, tells_if_live, keeps_its_link, takes_link, posts_event, interrupts}
 use Rattle.ioc_events.proofs.Beginning.{step-begins}
 use Rattle.ioc_history.specs.declared.entry.Note.{Note}
 use Rattle.ioc_history.specs.Account.{number_given}
@@ -31,6 +31,8 @@ module _ {R : Type 0} (k : RecordRules R) where
     call-gives answers (tells_if_live _) number is = absurd is
     call-gives answers (keeps_its_link _) number is = absurd is
     call-gives answers (takes_link _) number is = absurd is
+    call-gives answers posts_event number is = absurd is
+    call-gives answers interrupts number is = absurd is
 
     note-gives : (m : World R) (n : Note) (number : ℕ) → Fits k m n → Begins (entry_of n).call number → number_given (entry_of n).call ≡ Some number
     unfolding done

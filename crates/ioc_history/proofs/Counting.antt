@@ -107,6 +107,8 @@ module _ {R : Type 0} (k : RecordRules R) (answers : Answers) where
   call-none w (call.Get s field text) is = same-none w (call.Get s field (shown k w s field))
   call-none w (call.Link s field link reply) is = link-none w s field link (link_refusal k w s field link)
   call-none w (call.IsLive number live) is = same-none w (call.IsLive number (is_live number w.live))
+  call-none w (call.Post name count) is = same-none w (call.Post name count)
+  call-none w (call.Interrupt device count) is = same-none w (call.Interrupt device count)
   call-none w (call.Event event reply) is = cc
 
   link-completes-none : (w : World R) (s : ℕ) (field : FieldNo) (link : LinkField) (refusal : Option IocError) → is_completion (linked k answers w s field link refusal).call ≡ false
@@ -118,6 +120,8 @@ module _ {R : Type 0} (k : RecordRules R) (answers : Answers) where
   not-completing w (call.Get s field text) is = refl
   not-completing w (call.Link s field link reply) is = link-completes-none w s field link (link_refusal k w s field link)
   not-completing w (call.IsLive number live) is = refl
+  not-completing w (call.Post name count) is = refl
+  not-completing w (call.Interrupt device count) is = refl
   not-completing w (call.Event event reply) is = cc
 
 module _ {R : Type 0} (k : RecordRules R) where

@@ -137,6 +137,8 @@ module _ {R : Type 0} (k : RecordRules R) where
     own-within (call.Get s field text) named = named
     own-within (call.IsLive number live) named = named
     own-within (call.Link s field link reply) named = named
+    own-within (call.Post name count) named = named
+    own-within (call.Interrupt device count) named = named
 
     cancel-within : (number : ℕ) (reply : Reply) → CancelsWithin k m v (call.Event (Cancel number) reply) → IsWithin k mine second (Cancel number)
     unfolding at begun begun_at
@@ -164,6 +166,8 @@ module _ {R : Type 0} (k : RecordRules R) where
     all-within (call.Get s field text) named cancels = other-within (call.Get s field text) named (λ number is. is)
     all-within (call.Link s field link reply) named cancels = other-within (call.Link s field link reply) named (λ number is. is)
     all-within (call.IsLive number live) named cancels = other-within (call.IsLive number live) named (λ number is. is)
+    all-within (call.Post name count) named cancels = other-within (call.Post name count) named (λ number is. is)
+    all-within (call.Interrupt device count) named cancels = other-within (call.Interrupt device count) named (λ number is. is)
 
     pub agree : AgreeCall k mine first second (done k v n) (done k m n)
     unfolding done

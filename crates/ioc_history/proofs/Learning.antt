@@ -12,23 +12,32 @@ use Rattle.ioc_history.specs.Desks.{IsDesk}
 use Rattle.ioc_history.proofs.Calls.{no_longer, below_on, calls_on, account_longer}
 
 module _ {R : Type 0} {k : RecordRules R} {base : World R} {table id : TableId} {v : View} {n next : ℕ} (desk : IsDesk k base table id v n next)
-    (told : List Note) (account : IsAccount k base told) (goes_on : Continues v.seen v.owns (longer v.seen told)) where
-  go : Continues v.seen (desk_key n ∷ []) (longer v.seen told)
+    (log : List Note) (account : IsAccount k base log) (goes_on : Continues v.seen v.owns log) where
+  go : Continues v.seen (desk_key n ∷ []) log
   go = (goes_on.0, goes_on.1, λ q a. goes_on.2 q (subst (Has q) (sym (ap (λ (x : View). x.owns) desk.holds)) a))
 
-  longest : IsAccount k base (longer v.seen told)
-  longest = account_longer k base v.seen told desk.account account
-
-  pub desk-learns : (id_then : TableId) (w : View) → id_then ≡ id → w ≡ holder (longer v.seen told) v.owns → IsDesk k base table id_then w n next
-  desk-learns id_then w same holds =
+  -- A desk that moves on to a list which continues without its key.
+  pub desk-moves : (id_then : TableId) (w : View) → id_then ≡ id → w ≡ holder log v.owns → IsDesk k base table id_then w n next
+  desk-moves id_then w same holds =
       let seen = sym (ap (λ (x : View). x.seen) holds) in
       record {
         same = same ∙ desk.same;
         holds = holds ∙ ap₂ holder seen (ap (λ (x : View). x.owns) desk.holds);
-        below = subst (λ (l : List Note). Below n next (calls l)) seen (below_on v.seen (longer v.seen told) n next go longest.keyed desk.below);
-        count = subst (λ (l : List Note). next ≤ length l) seen (omega (arith, desk.count, no_longer v.seen (longer v.seen told) (desk_key n ∷ []) go));
-        account = subst (IsAccount k base) seen longest;
+        below = subst (λ (l : List Note). Below n next (calls l)) seen (below_on v.seen log n next go account.keyed desk.below);
+        count = subst (λ (l : List Note). next ≤ length l) seen (omega (arith, desk.count, no_longer v.seen log (desk_key n ∷ []) go));
+        account = subst (IsAccount k base) seen account;
       }
 
+  pub calls-stay : calls_by n (calls log) ≡ calls_by n (calls v.seen)
+  calls-stay = calls_on v.seen log n go account.keyed
+
+module _ {R : Type 0} {k : RecordRules R} {base : World R} {table id : TableId} {v : View} {n next : ℕ} (desk : IsDesk k base table id v n next)
+    (told : List Note) (account : IsAccount k base told) (goes_on : Continues v.seen v.owns (longer v.seen told)) where
+  longest : IsAccount k base (longer v.seen told)
+  longest = account_longer k base v.seen told desk.account account
+
+  pub desk-learns : (id_then : TableId) (w : View) → id_then ≡ id → w ≡ holder (longer v.seen told) v.owns → IsDesk k base table id_then w n next
+  desk-learns = desk-moves desk (longer v.seen told) longest goes_on
+
   pub same-calls : (w : View) → w ≡ holder (longer v.seen told) v.owns → calls_by n (calls w.seen) ≡ calls_by n (calls v.seen)
-  same-calls w holds = ap (λ (x : View). calls_by n (calls x.seen)) holds ∙ calls_on v.seen (longer v.seen told) n go longest.keyed
+  same-calls w holds = ap (λ (x : View). calls_by n (calls x.seen)) holds ∙ calls-stay desk (longer v.seen told) longest goes_on

@@ -9,6 +9,7 @@ mod CountsThen
 mod Doing
 mod Endings
 mod Ends
+mod Excerpts
 mod Few
 mod Giving
 mod Lasting
@@ -18,10 +19,12 @@ mod Lists
 pub mod Moves
 mod Moving
 mod Pieces
+mod Postings
 mod Replaying
 mod Rescanning
 mod Rewiring
 mod Sharing
+mod Ticketing
 mod TicketsThen
 mod Uniting
 mod Written

@@ -7,7 +7,7 @@ use Rattle.ioc_history.specs.Legal.{done, map_of, Fits, IsLegal}
 use Rattle.ioc_history.specs.Laws.{GoesOn}
 
 module _ {R : Type 0} (k : RecordRules R) where
-  legal-join : (xs ys : List Note) (m : World R) → IsLegal k m xs → IsLegal k (map_of k m xs) ys → IsLegal k m (xs ++ ys)
+  pub legal-join : (xs ys : List Note) (m : World R) → IsLegal k m xs → IsLegal k (map_of k m xs) ys → IsLegal k m (xs ++ ys)
   legal-join [] ys m first then = then
   legal-join (x ∷ xs) ys m first then = (first.0, legal-join xs ys (done k m x).world first.1 then)
 

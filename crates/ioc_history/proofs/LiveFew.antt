@@ -16,7 +16,7 @@ use Rattle.ioc_events.specs.declared.event.Call.{Call}
 use Rattle.ioc_events.specs.declared.event.Call.TheVariants as call
 use Rattle.ioc_events.specs.Holding.{IsCounted, Begins}
 use Rattle.ioc_events.specs.Calls.{called}
-use Rattle.ioc_events.specs.StepRules.{Replay, at_the_end, and_then, Calls, does_event, shows_field, tells_if_live, keeps_its_link, takes_link}
+use Rattle.ioc_events.specs.StepRules.{Replay, at_the_end, and_then, Calls, does_event, shows_field, tells_if_live, keeps_its_link, takes_link, posts_event, interrupts}
 use Rattle.ioc_events.proofs.Beginning.{step-begins}
 use Rattle.ioc_history.specs.declared.entry.Note.{Note}
 use Rattle.ioc_history.specs.Legal.{entry_of, done, Fits}
@@ -91,6 +91,8 @@ module _ {R : Type 0} (k : RecordRules R) where
     by-call (call.Get s field text) place fresh = none-begun (λ n isnt. fresh n isnt (λ is. is))
     by-call (call.IsLive number live) place fresh = none-begun (λ n isnt. fresh n isnt (λ is. is))
     by-call (call.Link s field link reply) place fresh = none-begun (λ n isnt. fresh n isnt (λ is. is))
+    by-call (call.Post name count) place fresh = none-begun (λ n isnt. fresh n isnt (λ is. is))
+    by-call (call.Interrupt device count) place fresh = none-begun (λ n isnt. fresh n isnt (λ is. is))
 
   -- A call begins a put with notification only if there is a place for it.
   begins-place : (answers : Answers) {w after : World R} {made : Call} {requests : Requests} → Calls k answers w made after requests → (number : ℕ) → Begins made number → has_place w number ≡ true
@@ -99,6 +101,8 @@ module _ {R : Type 0} (k : RecordRules R) where
   begins-place answers (tells_if_live _) number is = absurd is
   begins-place answers (keeps_its_link _) number is = absurd is
   begins-place answers (takes_link _) number is = absurd is
+  begins-place answers posts_event number is = absurd is
+  begins-place answers interrupts number is = absurd is
 
   -- The event of a note.
 

@@ -1,5 +1,5 @@
 -- Desks, and the calls that they made, in one list of all calls. The journal is this project's own.
-use Rattle.std.specs.Prelude.{◌≡◌, ◌≢◌, ℕ, ◌+◌, ◌<◌, List, [], ◌∷◌, ◌++◌, if◌then◌else◌, nat_eq, length, Option, Some, None, Contains, slice_get}
+use Rattle.std.specs.Prelude.{◌≡◌, ◌≢◌, ℕ, ◌+◌, ◌<◌, ◌≤◌, drop, List, [], ◌∷◌, ◌++◌, if◌then◌else◌, nat_eq, length, Option, Some, None, Contains, slice_get}
 use Rattle.std.specs.List.{AllPairs, cons_option}
 use Rattle.std.specs.Option.{IfSome}
 use Rattle.atomic_table.specs.declared.shared.Seat.{Seat}
@@ -48,6 +48,17 @@ calls (n ∷ ns) = n.entry ∷ calls ns
 abbrev pub calls_by : ℕ → List JournalEntry → List JournalEntry
 calls_by desk [] = []
 calls_by desk (e ∷ es) = if nat_eq e.desk desk then e ∷ calls_by desk es else calls_by desk es
+
+-- Holds if a desk has seen more of the calls of others, and has made none meanwhile.
+pub record HasSeenMore (before after : DeskView) : Type 0 where
+  pub number : after.number ≡ before.number
+  pub next : after.next ≡ before.next
+  pub begins : Begins before.seen after.seen
+  pub own : calls_by before.number (calls after.seen) ≡ calls_by before.number (calls before.seen)
+
+-- Holds if these are all entries from a place on, which is the one that was asked for or a later one.
+abbrev pub IsGiven : ℕ → List JournalEntry → ℕ → List JournalEntry → Type 0
+IsGiven from all first entries = (from ≤ first) × (entries ≡ drop first all)
 
 -- Holds if the calls of a desk have numbers below this one.
 abbrev pub Below : (desk call : ℕ) → List JournalEntry → Type 0

@@ -1,11 +1,10 @@
 -- The counts of calls, the requests among them, and the once requests that they send. Application
 -- Developer's Guide, "Scanning": scanOnce. The counts are this project's own.
-use Rattle.std.specs.Prelude.{◌≡◌, ℕ, ◌+◌, ◌<◌, ◌≤◌, ◌^◌, Bool, false, List, [], ◌∷◌, length, Option, Some, None, MatchOption}
+use Rattle.std.specs.Prelude.{◌≡◌, ℕ, ◌+◌, ◌<◌, ◌^◌, Bool, true, false, List, [], ◌∷◌, length, Option, Some, None, MatchOption}
 use Rattle.std.specs.Option.{IfSome}
 use Rattle.ioc_ledger.specs.Requests.{Requests, counted_all, no_counts}
 use Rattle.ioc_ledger.specs.Shared.{ShareView, share_view}
 use Rattle.ioc_ledger.specs.declared.tally.Tally.{Tally}
-use Rattle.ioc_ledger.specs.Counts.{Counts}
 use Rattle.ioc_record.specs.RecordRules.{RecordRules}
 use Rattle.ioc_store.specs.World.{World, begun_at}
 use Rattle.ioc_store.specs.Given.{later_among}
@@ -20,6 +19,7 @@ use Rattle.ioc_history.specs.declared.entry.Note.{Note}
 use Rattle.ioc_history.specs.declared.cell.View.{View}
 use Rattle.ioc_history.specs.Key.{Key}
 use Rattle.ioc_history.specs.Legal.{entry_of, done, map_of}
+use Rattle.ioc_history.specs.Tickets.{TicketsView, AreTickets}
 use Rattle.ioc_history.specs.Account.{AfterAny, AfterBoth, MayFollow, BothMayFollow, MayBegin}
 
 -- The records of the once requests among these items, in order.
@@ -28,6 +28,11 @@ once_in [] = []
 once_in (Once number ∷ items) = number ∷ once_in items
 once_in (Post _ ∷ items) = once_in items
 once_in (Change _ ∷ items) = once_in items
+
+-- Whether a call is a request.
+abbrev pub is_request : Call → Bool
+is_request (call.Event (Process s) reply) = true
+is_request _ = false
 
 -- 1 for a request, else 0.
 abbrev pub one_if_request : Call → ℕ
@@ -43,13 +48,6 @@ is_completion _ = false
 abbrev pub requests_in : List Note → ℕ
 requests_in [] = 0
 requests_in (n ∷ notes) = one_if_request (entry_of n).call + requests_in notes
-
--- Holds if each request has spent a ticket, and each once request that was sent had one begun for
--- it; only these two begin tickets. Nothing is said if they are 2^64 or more.
-pub record AreTickets (t : Counts) (sent requests once : ℕ) : Type 0 where
-  pub spent : requests + once < 2 ^ 64 → t.spent ≡ requests
-  pub sent_are : requests + once < 2 ^ 64 → sent ≡ once
-  pub begun : requests + once < 2 ^ 64 → t.begun ≤ requests + once
 
 -- Holds if the share, if there is one, has a part, and the counts before an event.
 abbrev pub IsBacked : Option ShareView → Tally → Type 0
@@ -149,11 +147,10 @@ module _ {R : Type 0} (k : RecordRules R) where
       pub counts : BothMayCount one.seen one.owns other.seen other.owns made share before after
       pub backed : IsBacked share before
 
-    -- Holds if the requests of these calls and the once requests that they send are fewer than 2^64.
+    -- Holds if the requests of these calls and the once requests that they send are fewer than 2^63.
     abbrev pub IsFew : List Note → Type 0
-    IsFew log = requests_in log + once_sent base log < 2 ^ 64
+    IsFew log = requests_in log + once_sent base log < 2 ^ 63
 
-    -- Holds if these are the tickets of the calls of a list, and the number of those that were begun
-    -- for once requests.
-    abbrev pub AreTicketsOf : List Note → Counts → ℕ → Type 0
-    AreTicketsOf log tickets sent = AreTickets tickets sent (requests_in log) (once_sent base log)
+    -- Holds if these are the tickets of the calls of a list.
+    abbrev pub AreTicketsOf : List Note → TicketsView → Type 0
+    AreTicketsOf log tickets = AreTickets tickets (requests_in log) (once_sent base log)

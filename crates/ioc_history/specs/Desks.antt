@@ -12,7 +12,7 @@ use Rattle.ioc_history.specs.Key.{Key, Has}
 use Rattle.ioc_history.specs.Line.{keeper, holder}
 use Rattle.ioc_history.specs.Legal.{IsSound, map_of}
 use Rattle.ioc_history.specs.Base.{IsBaseOf}
-use Rattle.ioc_history.specs.Ticketed.{TicketsView}
+use Rattle.ioc_history.specs.Tickets.{TicketsView}
 use Rattle.ioc_history.specs.Counting.{AreTicketsOf, counts_of}
 use Rattle.ioc_history.specs.Account.{calls, desk_key, Below, IsAccount}
 
@@ -37,7 +37,7 @@ module _ {R : Type 0} (k : RecordRules R) (base : World R) (table id : TableId) 
     -- Only desks below this number have keys and calls.
     pub given : (key : Key) → Has key v.born → key.0 ≡ 1 → key.1 < desks
     pub new_desk : (d : ℕ) → desks ≤ d → Below d 0 (calls v.seen)
-    pub tickets_are : AreTicketsOf k base v.seen tickets.counts tickets.sent
+    pub tickets_are : AreTicketsOf k base v.seen tickets
     pub counted : book ≡ counts_of k base v.seen
 
   -- The invariant of a desk: its pass owns its key, its calls have numbers below the next one,

@@ -15,5 +15,7 @@ pub mod LinkChange
 pub mod Pieces
 pub mod Places
 pub mod PlacesCode
+pub mod Posting
 pub mod Ticketed
+pub mod Tickets
 pub mod Unnamed

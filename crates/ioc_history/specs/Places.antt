@@ -3,7 +3,7 @@ use Rattle.std.specs.Prelude.{◌≡◌, ◌⊎◌, ◌≤◌, ◌+◌, ℕ, Lis
 use Rattle.ioc_values.specs.declared.error.IocError.{IocError}
 use Rattle.ioc_values.specs.declared.error.IocError.TheVariants.{NoMemory, JournalFull}
 use Rattle.ioc_history.specs.declared.limits.Limits.{Limits}
-use Rattle.ioc_history.specs.Ticketed.{TicketsView}
+use Rattle.ioc_history.specs.Tickets.{TicketsView}
 
 -- The filled places, the number of places that have memory, and the limit of that number.
 pub record PlacesOf (X : Type 0) : Type 0 where

@@ -6,7 +6,7 @@ use Rattle.ioc_history.specs.declared.entry.Note.{Note}
 use Rattle.ioc_history.specs.contracts.entry.JournalEntry as entry_row
 use Rattle.ioc_history.specs.contracts.entry.Note as note_row
 use Rattle.ioc_ledger.specs.Counts.{counts}
-use Rattle.ioc_history.specs.Ticketed.{tickets_view}
+use Rattle.ioc_history.specs.Tickets.{tickets_view}
 use Rattle.ioc_history.specs.Places.{PlacesOf, JournalOf, places_of, journal_of}
 
 abbrev pub places_code : {X : Type 0} → Coded X → Coded (PlacesOf X)
@@ -21,7 +21,7 @@ entries_code = places_code entry_row.the_row.coded
 
 abbrev pub journal_code : Coded (JournalOf Note)
 journal_code =
-    code_by (List Note × (ℕ × (ℕ × (ℕ × (ℕ × (ℕ × (ℕ × (ℕ × (ℕ × ℕ))))))))) (coded× (coded_list note_row.the_row.coded) (coded× coded_ℕ (coded× coded_ℕ (coded× coded_ℕ (coded× coded_ℕ (coded× coded_ℕ (coded× coded_ℕ (coded× coded_ℕ (coded× coded_ℕ coded_ℕ)))))))))
-    (λ j. (j.filled, (j.dropped, (j.given, (j.limit, (j.desks, (j.tickets.counts.begun, (j.tickets.counts.spent, (j.tickets.counts.back, (j.tickets.counts.out, j.tickets.sent))))))))))
-    (λ p. journal_of p.0 p.1.0 p.1.1.0 p.1.1.1.0 p.1.1.1.1.0 (tickets_view (counts p.1.1.1.1.1.0 p.1.1.1.1.1.1.0 p.1.1.1.1.1.1.1.0 p.1.1.1.1.1.1.1.1.0) p.1.1.1.1.1.1.1.1.1))
+    code_by (List Note × (ℕ × (ℕ × (ℕ × (ℕ × (ℕ × (ℕ × (ℕ × (ℕ × (ℕ × (ℕ × ℕ))))))))))) (coded× (coded_list note_row.the_row.coded) (coded× coded_ℕ (coded× coded_ℕ (coded× coded_ℕ (coded× coded_ℕ (coded× coded_ℕ (coded× coded_ℕ (coded× coded_ℕ (coded× coded_ℕ (coded× coded_ℕ (coded× coded_ℕ coded_ℕ)))))))))))
+    (λ j. (j.filled, (j.dropped, (j.given, (j.limit, (j.desks, (j.tickets.counts.begun, (j.tickets.counts.spent, (j.tickets.counts.back, (j.tickets.counts.out, (j.tickets.sent, (j.tickets.called, j.tickets.served))))))))))))
+    (λ p. journal_of p.0 p.1.0 p.1.1.0 p.1.1.1.0 p.1.1.1.1.0 (tickets_view (counts p.1.1.1.1.1.0 p.1.1.1.1.1.1.0 p.1.1.1.1.1.1.1.0 p.1.1.1.1.1.1.1.1.0) p.1.1.1.1.1.1.1.1.1.0 p.1.1.1.1.1.1.1.1.1.1.0 p.1.1.1.1.1.1.1.1.1.1.1))
     (λ _. refl)

@@ -39,6 +39,13 @@ impl<K: RecordKind, B: JournalName<K>> Model for DeskAccount<K, B> {
 }
 
 impl<K: RecordKind, B: JournalName<K>> DeskAccount<K, B> {
+    /// Returns the number of the desk.
+    pub fn number(&self) -> u64
+        ensures { result ≡ self.now.number }
+    {
+        self.number
+    }
+
     /// Moves on to the list of a receipt, if that is longer than the list that the desk has seen.
     /// Afterwards both lists are beginnings of the one that the desk knows.
     pub fn learn<R: Wait>(&mut self, rt: &R, cell: &Cell, receipt: &mut Receipt<K, B>)

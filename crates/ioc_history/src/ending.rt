@@ -1,10 +1,11 @@
 //! What is known of the journal at the end of an engine and at checkpoints.
-ghost use Rattle.std.specs.Prelude.{◌≡◌, []};
+ghost use Rattle.std.specs.Prelude.{◌≡◌, ◌≤◌, ℕ, []};
 ghost use Rattle.crossbeam_utils.specs.Seq.{cell_view};
-ghost use Rattle.ioc_history.specs.Line.{keeper, holder, Continues};
+ghost use Rattle.ioc_history.specs.Line.{keeper, holder, Begins, Continues};
 ghost use Rattle.ioc_history.specs.Legal.{IsLegal, IsSound};
-ghost use Rattle.ioc_history.specs.Account.{IsAccount, IsHolder};
+ghost use Rattle.ioc_history.specs.Account.{IsAccount, IsHolder, calls, calls_by, desk_view};
 
+use crate::desk::DeskAccount;
 use crate::journal::Journal;
 use crate::journal_name::JournalName;
 use crate::shared_journal::SharedJournal;
@@ -39,6 +40,26 @@ impl<K: RecordKind, B: JournalName<K>> Journal<K, B> {
         ensures same { self.new ≡ self.old }
     {
         learn_whole(rt, cell, &mut self.pass, set);
+    }
+
+    /// Returns the number of desks that were opened, which have the numbers below it. No other has
+    /// made a call.
+    pub fn desks(&self) -> u64
+        ensures count { result ≡ self.now.desks }
+        ensures none { (number : ℕ) → self.now.desks ≤ number → calls_by number (calls self.now.filled) ≡ [] }
+    {
+        self.desks
+    }
+
+    /// Moves a desk on to the whole list. It has made no call but those that it had seen.
+    pub fn compare_desk<R: Wait>(&mut self, rt: &R, cell: &Cell, desk: &mut DeskAccount<K, B>)
+        requires table { cell.now.table.shared.table_id ≡ B.table }
+        ensures desk { desk.new ≡ desk_view desk.old.number desk.old.next self.old.filled }
+        ensures begins { Begins desk.old.seen self.old.filled }
+        ensures calls { calls_by desk.old.number (calls self.old.filled) ≡ calls_by desk.old.number (calls desk.old.seen) }
+        ensures same { self.new ≡ self.old }
+    {
+        learn_whole(rt, cell, &mut self.pass, &mut desk.pass);
     }
 
     /// The world at the load is sound, and the list is legal from there on.

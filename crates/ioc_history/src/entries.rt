@@ -1,5 +1,5 @@
 //! The entries of a journal.
-ghost use Rattle.std.specs.Prelude.{◌≡◌, ◌≤◌, ◌<◌, ◌↔◌, ◌⊎◌, ◌+◌, ◌-◌, ◌^◌, [], ◌∷◌, ◌++◌, length, IfOk, slice_get};
+ghost use Rattle.std.specs.Prelude.{◌≡◌, ◌≤◌, ◌<◌, ◌↔◌, ◌⊎◌, ◌+◌, ◌-◌, ◌^◌, [], ◌∷◌, ◌++◌, length, take, drop, IfOk, slice_get};
 ghost use Rattle.std.specs.Option.{option_map};
 ghost use Rattle.ioc_history.specs.Places.{AreAllowed, places_of};
 ghost use Rattle.std.specs.Vec.{vec_len, vec_capacity};
@@ -157,6 +157,42 @@ impl<K, B: JournalName<K>> Entries<K, B> {
             return item_at(&self.current, index);
         }
         None
+    }
+
+    /// Copies the entries from a place on, at most `most` of them.
+    ///
+    /// # Errors
+    ///
+    /// [`AllocError`] if allocation fails.
+    pub fn copy_from(
+        &self,
+        alloc: Global,
+        from: u64,
+        most: usize,
+    ) -> Result<Vec<JournalEntry>, AllocError>
+        ensures { IfOk result (λ copies. copies.items ≡ take most (drop from self.now.filled)) }
+    {
+        let mut copies = Vec::new(alloc);
+        let mut place = from;
+        for _ in 0..most.min(self.len()) {
+            let Some(entry) = self.at(place) else {
+                return Ok(copies);
+            };
+            copies.push(entry.copy(alloc)?)?;
+            place += 1;
+        }
+        Ok(copies)
+    }
+
+    /// Copies all entries from a place on.
+    ///
+    /// # Errors
+    ///
+    /// [`AllocError`] if allocation fails.
+    pub fn copy_rest(&self, alloc: Global, from: u64) -> Result<Vec<JournalEntry>, AllocError>
+        ensures { IfOk result (λ copies. copies.items ≡ drop from self.now.filled) }
+    {
+        self.copy_from(alloc, from, self.len())
     }
 
     /// Returns the number of places that have no memory yet.

@@ -1,8 +1,9 @@
 //! The entries of the list.
-ghost use Rattle.std.specs.Prelude.{◌≡◌, if◌then◌else◌};
-ghost use Rattle.ioc_history.specs.Counting.{one_if_request};
+ghost use Rattle.std.specs.Prelude.{◌≡◌, if◌then◌else◌, IfOk};
+ghost use Rattle.ioc_history.specs.Counting.{is_request, one_if_request};
 
 use ioc_events::{Call, Entry, Event};
+use std::alloc::{AllocError, Global};
 use std::collections::LinkedList;
 
 /// A call of a desk and its effect.
@@ -17,9 +18,26 @@ pub struct JournalEntry {
 }
 
 impl JournalEntry {
+    /// Copies the entry.
+    ///
+    /// # Errors
+    ///
+    /// [`AllocError`] if allocation fails.
+    pub fn copy(&self, alloc: Global) -> Result<Self, AllocError>
+        ensures { IfOk result (λ copy. copy ≡ self.now) }
+    {
+        let entry = self.entry.copy(alloc)?;
+        Ok(JournalEntry {
+            desk: self.desk,
+            call: self.call,
+            entry,
+        })
+    }
+
     /// Returns whether the call is a request.
     pub fn is_request(&self) -> bool
-        ensures { one_if_request self.now.entry.call ≡ (if result then 1 else 0) }
+        ensures is { result ≡ is_request self.now.entry.call }
+        ensures one { one_if_request self.now.entry.call ≡ (if result then 1 else 0) }
     {
         matches!(self.entry.call, Call::Event(Event::Process { .. }, _))
     }

@@ -3,7 +3,8 @@ ghost use Rattle.std.specs.Prelude.{◌≡◌, None, IfSome};
 ghost use Rattle.ioc_history.specs.Counting.{IsBacked, IsCountedOn, IsGivenBack, IsRecorded};
 
 use crate::journal_name::JournalName;
-use ioc_ledger::{CountNames, Tally, TallyBook, TallyShare};
+use crate::request_tickets::RequestTickets;
+use ioc_ledger::{CountNames, Tally, TallyBook, TallyShare, Ticket};
 use std::marker::PhantomData;
 
 /// Names the ledgers of an engine's counts.
@@ -21,6 +22,8 @@ impl<K, B: JournalName<K>> CountNames for EngineCounts<K, B> {
 pub struct EventCounts<K, B: JournalName<K>> {
     /// The number of once requests that it sends.
     pub sent: u64,
+    /// The ticket that the request came with from a queue, if it did.
+    pub ticket: Option<Ticket<RequestTickets<K, B>>>,
     /// The share of the set on which the event was done, or `None` if the event counts nothing.
     pub share: Option<TallyShare<EngineCounts<K, B>>>,
     /// The counts of the set before the event.
@@ -34,9 +37,11 @@ impl<K, B: JournalName<K>> EventCounts<K, B> {
     pub fn none() -> Self
         ensures share { result.share ≡ None }
         ensures sent { result.sent ≡ 0 }
+        ensures ticket { result.ticket ≡ None }
     {
         EventCounts {
             sent: 0,
+            ticket: None,
             share: None,
             before: Tally::default(),
             after: Tally::default(),
@@ -44,18 +49,21 @@ impl<K, B: JournalName<K>> EventCounts<K, B> {
     }
 }
 
-// Records what an event counts in the book, and returns the share of its set.
+// Records in the book what an event has counted from one tally to another, and returns the share of
+// its set.
 #[inline(always)]
 pub(crate) fn record_event<K, B: JournalName<K>>(
     book: &mut TallyBook<EngineCounts<K, B>>,
-    counts: EventCounts<K, B>,
+    share: Option<TallyShare<EngineCounts<K, B>>>,
+    before: &Tally,
+    after: &Tally,
 ) -> Option<TallyShare<EngineCounts<K, B>>>
-    requires backed { IsBacked counts.share counts.before }
-    requires adds { IfSome counts.share (λ _. IsCountedOn counts.before counts.after) }
-    ensures share { IsGivenBack counts.share counts.after result }
-    ensures book { IsRecorded counts.share counts.before counts.after book.old book.new }
+    requires backed { IsBacked share before.now }
+    requires adds { IfSome share (λ _. IsCountedOn before.now after.now) }
+    ensures share { IsGivenBack share after.now result }
+    ensures book { IsRecorded share before.now after.now book.old book.new }
 {
-    let mut share = counts.share?;
-    book.record(&mut share, &counts.before, &counts.after);
+    let mut share = share?;
+    book.record(&mut share, before, after);
     Some(share)
 }

@@ -7,10 +7,11 @@ ghost use Rattle.ioc_history.specs.Desks.{IsReceipt};
 ghost use Rattle.ioc_history.specs.Legal.{IsLegal, IsSound};
 ghost use Rattle.ioc_values.specs.declared.error.IocError.TheVariants.{JournalFull};
 ghost use Rattle.ioc_history.specs.Account.{AreNoDesks, AreRecords, IsHolder, HasCalled, Added, AddedByBoth, AreMerged, calls, calls_by, journalled};
-ghost use Rattle.ioc_history.specs.Counting.{MayAppend, BothMayAppend, IsGivenBack, IsFew, counts_of};
+ghost use Rattle.ioc_history.specs.Counting.{MayAppend, BothMayAppend, IsGivenBack, IsFew, is_request, counts_of};
 ghost use Rattle.ioc_ledger.specs.Requests.{no_counts};
 ghost use Rattle.ioc_ledger.specs.Shared.{MayDivide, AreDivided};
-ghost use Rattle.ioc_history.specs.Ticketed.{tickets_view, AreBack, AreTicketed};
+ghost use Rattle.ioc_history.specs.Ticketed.{AreTicketed};
+ghost use Rattle.ioc_history.specs.Tickets.{tickets_view, TakesTicket, AreCalled, AreBack};
 ghost use Rattle.ioc_ledger.specs.Counts.{counts};
 ghost use Rattle.ioc_history.specs.Places.{AreAllowed, journal_of, one_more_desk, with_tickets};
 
@@ -45,7 +46,7 @@ pub struct Journal<K: RecordKind, B: JournalName<K>> {
     // The number of calls whose entries were dropped, and where these lead.
     pub(crate) dropped: u64,
     pub(crate) from: Option<JournalBase<K>>,
-    desks: u64,
+    pub(crate) desks: u64,
     pub(crate) tickets: TicketCounts<K, B>,
     // The counts of all calls.
     pub(crate) counted: TallyBook<EngineCounts<K, B>>,
@@ -130,7 +131,7 @@ impl<K: RecordKind, B: JournalName<K>> Journal<K, B> {
         requires given { AreNoDesks (cell_view master).born }
         requires name { blank.name ≡ B.places }
         requires parts { blank.parts ≡ 2 ^ 64 - 1 }
-        requires none { (tickets ≡ tickets_view (counts 0 0 0 0) 0) × (counted ≡ no_counts) }
+        requires none { (tickets ≡ tickets_view (counts 0 0 0 0) 0 0 0) × (counted ≡ no_counts) }
         requires limits { AreAllowed limits }
         requires sound { IsSound K.rules B.base }
         ensures { IfOk result (λ x. x.0 ≡ journal_of [] 0 x.1 limits.journal 0 tickets) }
@@ -150,7 +151,7 @@ impl<K: RecordKind, B: JournalName<K>> Journal<K, B> {
         master: KeyPass,
     ) -> Self
         requires none { (entries.filled ≡ []) × (counted ≡ no_counts) }
-        requires tickets { tickets ≡ tickets_view (counts 0 0 0 0) 0 }
+        requires tickets { tickets ≡ tickets_view (counts 0 0 0 0) 0 0 0 }
         requires table { master.table_id ≡ B.table }
         requires pass { cell_view master ≡ keeper [] (cell_view master).born }
         requires given { AreNoDesks (cell_view master).born }
@@ -249,6 +250,7 @@ impl<K: RecordKind, B: JournalName<K>> Journal<K, B> {
         ensures call { HasCalled K.rules B.base desk.old S.entry desk.new }
         ensures receipt { result.receipt ≡ desk.new.seen }
         ensures tickets { IsFew K.rules B.base self.new.filled → result.tickets ≡ counts.sent }
+        ensures taken { TakesTicket (is_request S.entry.call) counts.ticket self.old.tickets self.new.tickets }
         ensures share { IsGivenBack counts.share counts.after result.share }
         ensures list { self.new ≡ journal_of desk.new.seen self.old.dropped self.old.given self.old.limit self.old.desks self.new.tickets }
         ensures set { (set.new.table_id ≡ set.old.table_id) × (cell_view set.new ≡ holder self.new.filled (cell_view set.old).owns) }
@@ -264,8 +266,13 @@ impl<K: RecordKind, B: JournalName<K>> Journal<K, B> {
             &mut desk.pass,
             &made,
         );
-        let tickets = self.tickets.add(is_request, counts.sent);
-        let share = record_event(&mut self.counted, counts);
+        let tickets = self.tickets.add(is_request, counts.ticket, counts.sent);
+        let share = record_event(
+            &mut self.counted,
+            counts.share,
+            &counts.before,
+            &counts.after,
+        );
         self.entries.fill(place, made);
         desk.next += 1;
         Appended::new(index, pass, tickets, share)
@@ -297,6 +304,7 @@ impl<K: RecordKind, B: JournalName<K>> Journal<K, B> {
         ensures call { HasCalled K.rules B.base desk.old S.entry desk.new }
         ensures receipt { result.receipt ≡ desk.new.seen }
         ensures tickets { IsFew K.rules B.base self.new.filled → result.tickets ≡ counts.sent }
+        ensures taken { TakesTicket (is_request S.entry.call) counts.ticket self.old.tickets self.new.tickets }
         ensures share { IsGivenBack counts.share counts.after result.share }
         ensures list { self.new ≡ journal_of desk.new.seen self.old.dropped self.old.given self.old.limit self.old.desks self.new.tickets }
         ensures one { (one.new.table_id ≡ one.old.table_id) × (cell_view one.new ≡ holder self.new.filled P.keys) }
@@ -316,8 +324,13 @@ impl<K: RecordKind, B: JournalName<K>> Journal<K, B> {
             &mut desk.pass,
             &made,
         );
-        let tickets = self.tickets.add(is_request, counts.sent);
-        let share = record_event(&mut self.counted, counts);
+        let tickets = self.tickets.add(is_request, counts.ticket, counts.sent);
+        let share = record_event(
+            &mut self.counted,
+            counts.share,
+            &counts.before,
+            &counts.after,
+        );
         self.entries.fill(place, made);
         desk.next = call + 1;
         Appended::new(index, pass, tickets, share)
@@ -339,8 +352,21 @@ impl<K: RecordKind, B: JournalName<K>> Journal<K, B> {
         self.tickets.hand_back_many(tickets);
     }
 
+    /// Begins tickets for requests that are put on callback queues. Fewer than `count` are begun if
+    /// more than 2^63 would have been begun for callback queues.
+    pub fn begin_called(&mut self, count: u64) -> Tickets<RequestTickets<K, B>>
+        ensures called { AreCalled result self.old.tickets self.new.tickets }
+        ensures most { result ≤ count }
+        ensures all { IsFew K.rules B.base self.old.filled → self.old.tickets.called + count ≤ 2 ^ 63 → result ≡ count }
+        ensures same { self.new ≡ with_tickets self.old self.new.tickets }
+    {
+        self.tickets.call(count)
+    }
+
     /// Returns the numbers of tickets: each request among the calls has spent one, and one was begun
-    /// for each once request that the calls have sent, if these are fewer than 2^64 together.
+    /// for each once request that the calls have sent, if these are fewer than 2^63 together. So many
+    /// were begun as requests have spent without bringing one, and for once requests and callback
+    /// queues.
     pub fn tickets(&self) -> TicketTally
         ensures { AreTicketed K.rules B.base self.now.filled result }
     {

@@ -1,5 +1,5 @@
 //! The limits of an engine.
-ghost use Rattle.std.specs.Prelude.{◌≡◌, ◌↔◌, IsTrue};
+ghost use Rattle.std.specs.Prelude.{◌≡◌, ◌/◌, ◌↔◌, IsTrue};
 ghost use Rattle.ioc_history.specs.Places.{AreAllowed};
 
 /// The limits of an engine. The number of places in its journal is the number of calls that it can
@@ -9,23 +9,35 @@ pub struct Limits {
     /// The number of places in the journal, for entries and for calls on their way: from 1 to
     /// 4,194,304.
     pub journal: u64,
-    /// If fewer places than this are free, a call makes a checkpoint first: at most `journal`. If it
-    /// is 0, checkpoints are made only by `checkpoint`.
+    /// If fewer places than this are free, a call makes a checkpoint first: at most `journal`, and by
+    /// default a quarter of it. If it is 0, checkpoints are made only by `checkpoint`.
     pub checkpoint_at: u64,
 }
 
 impl Default for Limits {
-    ghost is_default = { λ limits. (limits.journal ≡ 100000) × (limits.checkpoint_at ≡ 0) };
+    ghost is_default = { λ limits. (limits.journal ≡ 100000) × (limits.checkpoint_at ≡ 25000) };
 
     fn default() -> Limits {
         Limits {
             journal: 100_000,
-            checkpoint_at: 0,
+            checkpoint_at: 25_000,
         }
     }
 }
 
 impl Limits {
+    /// Returns limits with a journal of this many places, and a checkpoint if fewer than a quarter of
+    /// them are free.
+    pub fn of(journal: u64) -> Self
+        ensures journal { result.journal ≡ journal }
+        ensures quarter { result.checkpoint_at ≡ journal / 4 }
+    {
+        Limits {
+            journal,
+            checkpoint_at: journal / 4,
+        }
+    }
+
     /// Returns whether the limits are within their ranges.
     pub fn are_allowed(&self) -> bool
         ensures { IsTrue result ↔ AreAllowed self.now }

@@ -160,6 +160,16 @@ impl<K: RecordKind, B: JournalName<K>> SharedJournal<K, B> {
         }
     }
 
+    /// Spreads free places over all stripes, as after a checkpoint, which frees all places of one.
+    pub fn spread_places<R: Wait>(&self, rt: &R) {
+        self.places.spread(rt);
+    }
+
+    /// Returns whether calls make checkpoints by themselves.
+    pub fn makes_checkpoints(&self) -> bool {
+        self.checkpoint_at != 0
+    }
+
     /// Returns the gate that each call looks at before it begins.
     #[inline(always)]
     pub fn gate(&self) -> &Gate {
@@ -173,10 +183,14 @@ impl<K: RecordKind, B: JournalName<K>> SharedJournal<K, B> {
         self.places.len(rt).saturating_add(left) < self.checkpoint_at
     }
 
-    // Takes a place for a caller from a new piece of memory, or else from any stripe.
+    // Takes a place for a caller from a stripe that has many, else from a new piece of memory, or else
+    // from any stripe.
     fn refill<R: Wait>(&self, rt: &R, alloc: Global, caller: u64) -> Result<Place<K, B>, IocError>
         ensures refused { IfErr result IsNoPlace }
     {
+        if let Some(place) = self.places.take_from_others(rt, caller) {
+            return Ok(place);
+        }
         match self.grow(rt, alloc, caller) {
             Ok(place) => Ok(place),
             Err(refused) => self.places.collect(rt, caller).ok_or(refused),

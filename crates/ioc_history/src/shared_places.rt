@@ -89,6 +89,46 @@ impl<K, B: JournalName<K>> SharedPlaces<K, B> {
         self.lock_stripe(rt, caller).give_back(place);
     }
 
+    /// Spreads the places of the first stripe over all stripes.
+    pub fn spread<R: Wait>(&self, rt: &R) {
+        let mut first = lock_soon(rt, &self.stripes[0]);
+        let each = first.len() / STRIPES as u64;
+        for at in 1..STRIPES {
+            let mut stripe = lock_soon(rt, &self.stripes[at]);
+            first.move_to(each, &mut stripe);
+        }
+    }
+
+    /// Takes a place for a caller from another stripe, and moves half of that stripe's places to the
+    /// caller's. Each stripe is locked in turn. Returns `None` if none of them has more than a few.
+    pub fn take_from_others<R: Wait>(&self, rt: &R, caller: u64) -> Option<Place<K, B>> {
+        let own = stripe_of(caller);
+        for at in 0..STRIPES {
+            if at != own {
+                let mut moved = self.half_of(rt, at);
+                if let Some(place) = moved.take() {
+                    let mut stripe = lock_soon(rt, &self.stripes[own]);
+                    moved.move_to(u64::MAX, &mut stripe);
+                    return Some(place);
+                }
+            }
+        }
+        None
+    }
+
+    // Takes half of the places of a stripe, or none if it has few.
+    fn half_of<R: Wait>(&self, rt: &R, at: usize) -> FreePlaces<K, B>
+        requires { at < 8 }
+    {
+        let mut stripe = lock_soon(rt, &self.stripes[at]);
+        let mut half = stripe.none();
+        let count = stripe.len();
+        if count > BATCH {
+            stripe.move_to(count / 2, &mut half);
+        }
+        half
+    }
+
     /// Collects the places of all stripes, under all their locks, and takes one for a caller. Its
     /// stripe keeps some of the others. Returns `None` only if no stripe has a place while all are
     /// locked.

@@ -22,8 +22,7 @@ module _ {R D : Type 0} (k : RecordRules R) (base : World R) where
   abbrev pub EachIsLent : (ℕ → Option D → Type 0) → TableId → List (SetState R D) → List (Option Pass) → Type 0
   EachIsLent had table sets passes = (i : ℕ) (d : SetState R D) (e : Option Pass) → i < length sets → IsLent k base had table (slice_index_or sets i d) (slice_index_or passes i e)
 
--- Holds if the share beside each of these sets, if there is one, has its counts and a part for each
--- of its records.
+-- Holds if the share beside each of these sets has its counts and a part for each of its records.
 abbrev pub EachIsCounted : {R D : Type 0} → List (SetState R D) → List (Option ShareView) → Type 0
 EachIsCounted {R} {D} sets shares = (i : ℕ) (d : SetState R D) (e : Option ShareView) → i < length sets → IsCounted (slice_index_or shares i e) (slice_index_or sets i d)
 

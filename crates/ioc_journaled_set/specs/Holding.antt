@@ -1,7 +1,8 @@
 -- Sets under their locks, and the calls on them. Application Developer's Guide, "Database Locking,
 -- Scanning, and Processing". The journal is this project's own.
 use Rattle.std.specs.Prelude.{◌≡◌, ◌⊎◌, ℕ, Bool, true, false, List, [], Option, Some, None, MatchOption, unwrap_or, Ok}
-use Rattle.std.specs.Option.{option_map, IfSome}
+use Rattle.std.specs.Option.{option_map}
+use Rattle.ioc_ledger.specs.Requests.{no_counts}
 use Rattle.ioc_ledger.specs.Shared.{ShareView, share_view}
 use Rattle.std.specs.FinMap.{get, keys, len}
 use Rattle.atomic_table.specs.Seated.{TableId}
@@ -48,10 +49,10 @@ numbers_of v = keys v.set.records
 abbrev pub KeepsDevices : {R D : Type 0} → (ℕ → Option D → Type 0) → SetState R D → Type 0
 KeepsDevices had h = (n : ℕ) → Has (now_of h) n → had n (get h.devices n)
 
--- Holds if a set's share of the engine's counts, if there is one, has one part for each of the set's
--- records, and the set's counts.
+-- Holds if a set's share of the engine's counts has one part for each of the set's records, and the
+-- set's counts. Only a set without records and without counts has no share.
 abbrev pub IsCounted : {R D : Type 0} → Option ShareView → SetState R D → Type 0
-IsCounted share h = IfSome share (λ s. s ≡ share_view (len h.records) h.tally)
+IsCounted share h = unwrap_or share (share_view 0 no_counts) ≡ share_view (len h.records) h.tally
 
 -- The list that the pass has seen, which is empty without a pass.
 abbrev pub seen_by : Option Pass → List Note

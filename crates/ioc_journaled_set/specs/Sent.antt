@@ -14,7 +14,7 @@ use Rattle.ioc_history.specs.CountLaws.{CountsNothing}
 use Rattle.ioc_history.specs.Counting.{once_in, IsFew}
 
 -- Holds if there are as many tickets as once requests among these items, provided that the requests
--- and once requests of all calls are fewer than 2^64.
+-- and once requests of all calls are fewer than 2^63.
 abbrev pub AreTicketsFor : {R : Type 0} → RecordRules R → World R → List Note → List OutboxItem → ℕ → Type 0
 AreTicketsFor k base log items tickets = IsFew k base log → tickets ≡ length (once_in items)
 

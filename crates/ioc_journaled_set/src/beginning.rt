@@ -68,7 +68,16 @@ impl<K: RecordKind + Drop, B: SetsName<K, D>, D: Device> JournaledSet<K, B, D> {
             field: put.field,
             value: put.given,
         };
-        let begun = self.serve_counted(access, puts, desk, buffers, &event, put.moment);
+        let mut ticket = None;
+        let begun = self.serve_counted(
+            access,
+            puts,
+            desk,
+            buffers,
+            &event,
+            put.moment,
+            &mut ticket,
+        );
         if begun.is_err() {
             puts.lock(access.rt).give_back(number);
         }

@@ -1,13 +1,13 @@
 //! The share that a set has of the engine's counts.
-ghost use Rattle.std.specs.Prelude.{◌≡◌, ◌<◌, ◌≤◌, ◌-◌, length, None, Some};
+ghost use Rattle.std.specs.Prelude.{◌≡◌, ◌<◌, ◌≤◌, ◌-◌, length, IsSome, None, Some};
 ghost use Rattle.std.specs.FinMap.{len};
 ghost use Rattle.ioc_history.specs.Counting.{once_in};
 ghost use Rattle.ioc_ledger.specs.Shared.{share_view, less_awaited};
 ghost use Rattle.ioc_set.specs.Linking.{awaited_alone};
 ghost use Rattle.ioc_set_store.specs.SetStore.{world_of};
 
-use ioc_history::{EngineCounts, EventCounts, JournalName, SharedJournal};
-use ioc_ledger::{Tally, TallyShare};
+use ioc_history::{EngineCounts, EventCounts, JournalName, RequestTickets, SharedJournal};
+use ioc_ledger::{Tally, TallyShare, Ticket};
 use ioc_record::RecordKind;
 use ioc_set::LockSet;
 use ioc_set_store::EventBuffers;
@@ -27,49 +27,44 @@ fn count_once(items: &[OutboxItem]) -> u64
     count
 }
 
-/// Waits, and never returns.
-#[inline(never)]
-pub(crate) fn wait_forever<R: Wait>(rt: &R)
-    ensures { ⊥ }
-{
-    for _ in rt.forever() {}
-    unreachable!()
-}
-
-/// Takes the share of a set with records. It is there until the engine has ended, and nothing is
-/// done on a set after that: waits forever if it is taken already.
-pub(crate) fn take_share<K: RecordKind, B: JournalName<K>, R: Wait>(
-    rt: &R,
+/// Takes the share of a set with records.
+#[inline(always)]
+pub(crate) fn take_share<K: RecordKind, B: JournalName<K>>(
     share: &mut Option<TallyShare<EngineCounts<K, B>>>,
 ) -> TallyShare<EngineCounts<K, B>>
+    requires there { IsSome share.old }
     ensures share { share.old ≡ Some result }
     ensures taken { share.new ≡ None }
 {
     let Some(own) = share.take() else {
-        wait_forever(rt);
         unreachable!();
     };
     own
 }
 
 /// Returns what an event on a set has counted: the set's share, with its counts before and after the
-/// event, and the number of once requests that the event has sent.
+/// event, and the number of once requests that the event has sent. Takes the ticket that the event
+/// came with, if it came from a queue.
 #[inline(always)]
 pub(crate) fn counts_since<K: RecordKind, B: JournalName<K>, D>(
     share: TallyShare<EngineCounts<K, B>>,
     before: Tally,
     set: &LockSet<K, D>,
     buffers: &EventBuffers<K, D>,
+    ticket: &mut Option<Ticket<RequestTickets<K, B>>>,
 ) -> EventCounts<K, B>
     ensures share { result.share ≡ Some share }
     ensures counts { (result.before ≡ before) × (result.after ≡ set.now.tally) }
     ensures sent { result.sent ≡ length (once_in (world_of buffers.now.store).outbox) }
+    ensures ticket { result.ticket ≡ ticket.old }
+    ensures spent { ticket.new ≡ None }
 {
     EventCounts {
         sent: count_once(buffers.items()),
         share: Some(share),
         before,
         after: set.tally(),
+        ticket: ticket.take(),
     }
 }
 

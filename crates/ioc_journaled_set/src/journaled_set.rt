@@ -11,7 +11,6 @@ ghost use Rattle.ioc_set.specs.SetState.{NoneIsLive, folded, now_of};
 ghost use Rattle.ioc_set.specs.NoCalls.{no_call};
 ghost use Rattle.ioc_set.specs.Doing.{is_ordinary};
 ghost use Rattle.ioc_history.specs.Places.{IsNoPlace};
-ghost use Rattle.ioc_set_records.specs.Slots.{devices_of, records_of};
 ghost use Rattle.ioc_set_store.specs.SetStore.{world_of};
 ghost use Rattle.ioc_history.specs.Account.{number_begun};
 ghost use Rattle.ioc_journaled_set.specs.Puts.{BeginsUnder, HaveEnded};
@@ -19,7 +18,7 @@ ghost use Rattle.ioc_journaled_set.specs.Holding.{is_on_record, IsCounted, IsLen
 ghost use Rattle.ioc_journaled_set.specs.SameDevice.{IsDeviceOf};
 
 use crate::call_laws::calls_have_laws;
-use crate::counts::{counts_since, wait_forever};
+use crate::counts::{counts_since, take_share};
 use crate::journal_access::JournalAccess;
 use crate::running::{Served, run_counted, run_with_answers};
 use crate::sets_name::SetsName;
@@ -29,28 +28,28 @@ use ioc_events::{Call, Entry, Event, KeptAnswers};
 use ioc_fields::FieldNo;
 use ioc_history::count_laws::questions_count_nothing;
 use ioc_history::legal_laws::{events_are_held, holding_lasts};
-use ioc_history::{Cell, DeskAccount, EngineCounts, EventCounts, KeyPass, Receipt, pass};
-use ioc_ledger::TallyShare;
+use ioc_history::{
+    Cell, DeskAccount, EngineCounts, EventCounts, KeyPass, Receipt, RequestTickets, pass,
+};
+use ioc_ledger::{TallyShare, Ticket};
 use ioc_names::RecordNo;
 use ioc_notify::NotifyId;
 use ioc_notify::table_laws::lines_tell_holders;
 use ioc_record::{FieldText, RecordKind};
 use ioc_set::{LockSet, sets_stay_without_puts};
-use ioc_set_records::Slot;
 use ioc_set_store::EventBuffers;
 use ioc_values::IocError;
 use std::alloc::Global;
 use std::marker::Model;
 use std::sync::{Mutex, Wait};
 
-/// A set, the pass that owns the keys of its records, and its share of the engine's counts; a set
-/// without records needs neither. Contracts see the set, and the beginning of the journal's list that
+/// A set, the pass that owns the keys of its records, and its share of the engine's counts; only a
+/// set without records may have neither. Contracts see the set, and the beginning of the journal's list that
 /// the pass has seen: the set is equal to the world of all records at its own records.
 #[derive(Drop)]
 pub struct JournaledSet<K: RecordKind, B: SetsName<K, D>, D: Device> {
     pub set: LockSet<K, D>,
     pub(crate) pass: Option<KeyPass>,
-    // Taken once the engine has ended.
     pub(crate) share: Option<TallyShare<EngineCounts<K, B>>>,
 }
 
@@ -91,33 +90,12 @@ impl<K: RecordKind, B: SetsName<K, D>, D: Device> JournaledSet<K, B, D> {
         }
     }
 
-    /// States that each of its records has the device of the load, as the device's own answers left
-    /// it, or none if it had none.
-    pub fn keeps_devices(&self)
-        ensures { KeepsDevices (IsDeviceOf D.gives B.devices) self.now.set }
-    {
-        let _ = &self.set;
-    }
-
     /// Clears the set's history.
     pub fn fold(&mut self)
         ensures set { self.new.set ≡ folded self.old.set }
         ensures seen { self.new.seen ≡ self.old.seen }
     {
         self.set.fold();
-    }
-
-    /// Returns the records in ascending order of their numbers, each with its device.
-    pub fn into_slots(self) -> Vec<Slot<K, D>>
-        ensures records { records_of result.items ≡ self.set.records }
-        ensures devices { devices_of result.items ≡ self.set.devices }
-    {
-        let JournaledSet {
-            set,
-            pass: _,
-            share: _,
-        } = self;
-        set.into_members().into_slots()
     }
 
     /// Returns the set, the pass that owns the keys of its records, and its share of the engine's
@@ -183,6 +161,7 @@ impl<K: RecordKind + Drop, B: SetsName<K, D>, D: Device> JournaledSet<K, B, D> {
         buffers: &mut EventBuffers<K, D>,
         event: &Event,
         moment: u64,
+        ticket: &mut Option<Ticket<RequestTickets<K, B>>>,
     ) -> Result<Served<K, B>, IocError>
         requires ordinary { is_ordinary event.now ≡ true }
         requires there { (n : ℕ) → Contains (names event.now) n → Contains (numbers_of self.old) n }
@@ -196,6 +175,8 @@ impl<K: RecordKind + Drop, B: SetsName<K, D>, D: Device> JournaledSet<K, B, D> {
             buffers.new.ended_everywhere.items) }
         ensures refused { IfErr result IsNoPlace }
         ensures err { OnErr result ((self.new ≡ self.old) × (desk.new ≡ desk.old)) }
+        ensures ticket { OnErr result (ticket.new ≡ ticket.old) }
+        ensures spent { OnOk result (ticket.new ≡ None) }
     {
         calls_have_laws::<K>();
         sets_stay_without_puts::<K, D>();
@@ -225,11 +206,8 @@ impl<K: RecordKind + Drop, B: SetsName<K, D>, D: Device> JournaledSet<K, B, D> {
         let Some(mut pass) = self.pass.take() else {
             unreachable!();
         };
-        let Some(share) = self.share.take() else {
-            wait_forever(access.rt);
-            unreachable!();
-        };
-        let counts = counts_since(share, before, &self.set, buffers);
+        let share = take_share(&mut self.share);
+        let counts = counts_since(share, before, &self.set, buffers, ticket);
         let appended = access
             .journal
             .append(access.rt, place, &mut pass, desk, entry, counts);
@@ -253,6 +231,7 @@ impl<K: RecordKind + Drop, B: SetsName<K, D>, D: Device> JournaledSet<K, B, D> {
         buffers: &mut EventBuffers<K, D>,
         event: &Event,
         moment: u64,
+        ticket: &mut Option<Ticket<RequestTickets<K, B>>>,
     ) -> Result<Served<K, B>, IocError>
         requires on_record { is_on_record event.now ≡ true }
         requires there { (n : ℕ) → Contains (names event.now) n → Contains (numbers_of self.old) n }
@@ -266,6 +245,8 @@ impl<K: RecordKind + Drop, B: SetsName<K, D>, D: Device> JournaledSet<K, B, D> {
             buffers.new.ended_everywhere.items) }
         ensures refused { IfErr result IsNoPlace }
         ensures err { OnErr result ((self.new ≡ self.old) × (desk.new ≡ desk.old)) }
+        ensures ticket { OnErr result (ticket.new ≡ ticket.old) }
+        ensures spent { OnOk result (ticket.new ≡ None) }
     {
         calls_have_laws::<K>();
         lines_tell_holders();
@@ -275,11 +256,8 @@ impl<K: RecordKind + Drop, B: SetsName<K, D>, D: Device> JournaledSet<K, B, D> {
         let Some(mut pass) = self.pass.take() else {
             unreachable!();
         };
-        let Some(share) = self.share.take() else {
-            wait_forever(access.rt);
-            unreachable!();
-        };
-        let counts = counts_since(share, tally, &self.set, buffers);
+        let share = take_share(&mut self.share);
+        let counts = counts_since(share, tally, &self.set, buffers, ticket);
         let mut guard = lock_for(access.rt, puts, event);
         let all = &mut *guard;
         all.is_counted();
@@ -297,14 +275,15 @@ impl<K: RecordKind + Drop, B: SetsName<K, D>, D: Device> JournaledSet<K, B, D> {
     }
 
     /// Performs a request, a put or a completion on the set, and adds it to the journal.
-    /// [`EventBuffers::ended`] returns the puts with notification that end by it.
+    /// [`EventBuffers::ended`] returns the puts with notification that end by it. A request that
+    /// comes from a queue spends its own ticket; any other call comes with `None`.
     ///
     /// # Errors
     ///
     /// [`IocError::NoField`] or [`IocError::NoMod`] for a put if the record has no such field or
     /// the field can't be put, [`IocError::JournalFull`] if the journal has no place left, and
-    /// [`IocError::NoMemory`] if allocation fails. Nothing has changed then. Any other refusal is a
-    /// reply, which is added to the journal too.
+    /// [`IocError::NoMemory`] if allocation fails. Nothing has changed then, and the ticket is still
+    /// there. Any other refusal is a reply, which is added to the journal too.
     #[inline(always)]
     pub fn serve<R: Wait>(
         &mut self,
@@ -314,6 +293,7 @@ impl<K: RecordKind + Drop, B: SetsName<K, D>, D: Device> JournaledSet<K, B, D> {
         buffers: &mut EventBuffers<K, D>,
         event: &Event,
         moment: u64,
+        ticket: &mut Option<Ticket<RequestTickets<K, B>>>,
     ) -> Result<Served<K, B>, IocError>
         requires ordinary { is_ordinary event.now ≡ true }
         requires there { (n : ℕ) → Contains (names event.now) n → Contains (numbers_of self.old) n }
@@ -325,12 +305,14 @@ impl<K: RecordKind + Drop, B: SetsName<K, D>, D: Device> JournaledSet<K, B, D> {
             buffers.new.ended_everywhere.items) }
         ensures refused { IfErr result (IsNoCall K.rules self.old.set event.now) }
         ensures err { OnErr result ((self.new ≡ self.old) × (desk.new ≡ desk.old)) }
+        ensures ticket { OnErr result (ticket.new ≡ ticket.old) }
+        ensures spent { OnOk result (ticket.new ≡ None) }
     {
         self.test_call(event)?;
         if self.set.none_is_live() {
-            return self.serve_alone(access, desk, buffers, event, moment);
+            return self.serve_alone(access, desk, buffers, event, moment, ticket);
         }
-        self.serve_counted(access, puts, desk, buffers, event, moment)
+        self.serve_counted(access, puts, desk, buffers, event, moment, ticket)
     }
 
     /// The text of a field, kept in the journal with its moment. It changes nothing in the set.

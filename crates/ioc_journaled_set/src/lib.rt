@@ -15,7 +15,7 @@ pub mod changing;
 mod checkpoint;
 mod copying;
 mod counts;
-mod ending;
+pub mod ending;
 mod field_put;
 pub mod give_up_laws;
 mod giving_up;
@@ -31,7 +31,8 @@ pub mod shared_notifications;
 pub mod together;
 
 pub use changing::{Changed, change_link};
-pub use checkpoint::{checkpoint_on, move_all_on};
+pub use checkpoint::{checkpoint_giving, checkpoint_on, move_all_on};
+pub use ending::EndedSet;
 pub use field_put::FieldPut;
 pub use giving_up::cancel_on;
 pub use journal_access::JournalAccess;

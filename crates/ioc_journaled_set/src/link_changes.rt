@@ -147,7 +147,7 @@ impl<K: RecordKind + Drop, B: SetsName<K, D>, D: Device> JournaledSet<K, B, D> {
             unreachable!();
         };
         let mut other = pass::copy(access.journal.cell(), &mut pass);
-        let mut share = take_share(access.rt, &mut self.share);
+        let mut share = take_share(&mut self.share);
         let rest_share = divide_share(access.rt, access.journal, &mut share, started, &rest);
         let after = LinkedSets {
             stay: &self.set,
@@ -257,9 +257,9 @@ impl<K: RecordKind + Drop, B: SetsName<K, D>, D: Device> JournaledSet<K, B, D> {
         let Some(mut beside) = other.pass.take() else {
             unreachable!();
         };
-        let mut share = take_share(access.rt, &mut self.share);
+        let mut share = take_share(&mut self.share);
         let rest_share = divide_share(access.rt, access.journal, &mut share, started, &rest);
-        let others = take_share(access.rt, &mut other.share);
+        let others = take_share(&mut other.share);
         share.merge(others);
         let after = LinkedSets {
             stay: &self.set,

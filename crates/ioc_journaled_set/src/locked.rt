@@ -1,4 +1,5 @@
 //! Journaled sets under the locks of a directory.
+use crate::ending::EndedSet;
 use crate::journaled_set::JournaledSet;
 use crate::sets_name::SetsName;
 use ioc_device::Device;
@@ -10,6 +11,8 @@ use std::alloc::Global;
 
 impl<K: RecordKind + Drop, B: SetsName<K, D>, D: Device> Locked for JournaledSet<K, B, D> {
     ghost use Rattle.ioc_journaled_set.specs.Holding.{IsSoundlyHeld, numbers_of};
+
+    type Ended = EndedSet<K, B, D>;
 
     ghost numbers = { λ h. numbers_of h };
 

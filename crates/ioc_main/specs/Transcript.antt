@@ -8,7 +8,7 @@ use Rattle.ioc_dblex.specs.Macros.{Defined}
 use Rattle.ioc_dbfile.specs.Loader.{Loading}
 use Rattle.ioc_dbfile.specs.Finished.{loaded_by}
 use Rattle.ioc_main.specs.declared.fault.RunFault.{RunFault}
-use Rattle.ioc_program.specs.declared.ending.Stage.TheVariants.{Loading as while_loading, Line as in_line}
+use Rattle.ioc_program.specs.declared.ending.Stage.TheVariants.{Loading as while_loading, Line as in_line, Run as in_a_run}
 use Rattle.ioc_main.specs.declared.fault.RunFault.TheVariants.{BadDb, Read, Write, Memory}
 use Rattle.ioc_main.specs.Script.{lines_of}
 use Rattle.ioc_sim.specs.Machine.{first_machine}
@@ -38,12 +38,13 @@ IsDatabase macros text = (database : Loading Record) × (loaded macros text ≡ 
 -- If the text is refused, the fault is its first one and nothing is written. Nothing is written
 -- either if allocation fails while the database is loaded. If the script stops, or allocation fails
 -- in one of its lines, a beginning of the transcript is written; after a failed write it is not the
--- whole transcript.
+-- whole transcript. Allocation fails nowhere else.
 abbrev pub StopsWith : RunFault → List Defined → List ℕ → Option (List ℕ) → Option (List ℕ) → Option (List ℕ) → Type 0
 StopsWith (BadDb fault) macros text script old new = (loaded macros text ≡ Err fault) × Keeps old new
 StopsWith (Memory while_loading) macros text script old new = Keeps old new
 StopsWith (Memory in_line) macros text script old new =
     IsDatabase macros text × IfSome script (λ script. WritesFront old (transcript_of macros text script) new)
+StopsWith (Memory in_a_run) macros text script old new = ⊥
 StopsWith (Read reason) macros text script old new =
     IsDatabase macros text × IfSome script (λ script. WritesFront old (transcript_of macros text script) new)
 StopsWith Write macros text script old new =

@@ -8,13 +8,13 @@ use Rattle.std.specs.declared.io.ErrorKind.TheVariants as kind
 use Rattle.ioc_values.specs.Words.{fault_text as db_fault_text}
 use Rattle.ioc_program.specs.declared.reason.Reason.{Reason}
 use Rattle.ioc_program.specs.declared.reason.Reason.TheVariants as reason
-use Rattle.ioc_program.specs.declared.ending.Stage.TheVariants.{Loading, Line}
+use Rattle.ioc_program.specs.declared.ending.Stage.TheVariants.{Loading, Line, Run}
 use Rattle.ioc_program.specs.declared.ending.FileRole.{FileRole}
 use Rattle.ioc_program.specs.declared.ending.FileRole.TheVariants.{Database, Script, Journal}
 use Rattle.ioc_program.specs.declared.ending.UsageFault.{UsageFault}
 use Rattle.ioc_program.specs.declared.ending.UsageFault.TheVariants.{NoDefinition, NoArgument, NotText}
 use Rattle.ioc_program.specs.declared.ending.Stop.{Stop}
-use Rattle.ioc_program.specs.declared.ending.Stop.TheVariants.{Shown, Refused, Usage, Unreadable, BadDb, Write, Memory}
+use Rattle.ioc_program.specs.declared.ending.Stop.TheVariants.{Shown, Refused, Usage, Unreadable, Unwritable, BadDb, Write, Memory}
 use Rattle.ioc_program.specs.declared.ending.Ending.{Ending}
 use Rattle.ioc_program.specs.declared.ending.Stream.{Stream}
 use Rattle.ioc_program.specs.declared.ending.Stream.TheVariants as stream
@@ -67,6 +67,7 @@ status_of (BadDb fault) = 1
 status_of (Refused text) = 2
 status_of (Usage fault) = 2
 status_of (Unreadable role path reason) = 3
+status_of (Unwritable role path reason) = 3
 status_of (Write reason) = 3
 status_of (Memory stage) = 4
 
@@ -76,10 +77,12 @@ stop_text (Shown text) = string_bytes text
 stop_text (Refused text) = string_bytes text
 stop_text (Usage fault) = usage_text fault ++ codes " (--help tells what it takes)"
 stop_text (Unreadable role path reason) = codes "cannot read " ++ role_text role ++ codes " '" ++ string_bytes path ++ codes "': " ++ reason_text reason
+stop_text (Unwritable role path reason) = codes "cannot write " ++ role_text role ++ codes " '" ++ string_bytes path ++ codes "': " ++ reason_text reason
 stop_text (BadDb fault) = db_fault_text fault
 stop_text (Write reason) = codes "cannot write the replies: " ++ reason_text reason
 stop_text (Memory Loading) = codes "out of memory while loading"
 stop_text (Memory Line) = codes "out of memory in a line of the script"
+stop_text (Memory Run) = codes "out of memory"
 
 -- The stream of the text: what was asked for goes to standard output, faults to standard error.
 unfoldable pub stream_of : Stop → Stream

@@ -31,6 +31,8 @@ pub enum Stage {
     Loading,
     /// In a line of the script.
     Line,
+    /// While a program ran that has no script.
+    Run,
 }
 
 /// What is wrong with the words of the command line, beside what the parser of words refuses.
@@ -55,6 +57,8 @@ pub enum Stop {
     Usage(UsageFault),
     /// The file of this path could not be opened or read.
     Unreadable(FileRole, String, Reason),
+    /// The file of this path could not be created or written.
+    Unwritable(FileRole, String, Reason),
     /// The database text is invalid.
     BadDb(DbFault),
     /// What the program says could not be written.
@@ -107,7 +111,7 @@ impl Stop {
             Stop::Shown(_) => 0,
             Stop::BadDb(_) => 1,
             Stop::Refused(_) | Stop::Usage(_) => 2,
-            Stop::Unreadable(..) | Stop::Write(_) => 3,
+            Stop::Unreadable(..) | Stop::Unwritable(..) | Stop::Write(_) => 3,
             Stop::Memory(_) => 4,
         }
     }
@@ -199,10 +203,14 @@ impl fmt::Display for Stop {
             Stop::Unreadable(role, path, reason) => {
                 write!(f, "cannot read {role} '{path}': {reason}")
             }
+            Stop::Unwritable(role, path, reason) => {
+                write!(f, "cannot write {role} '{path}': {reason}")
+            }
             Stop::BadDb(fault) => fault.fmt(f),
             Stop::Write(reason) => write!(f, "cannot write the replies: {reason}"),
             Stop::Memory(Stage::Loading) => f.write_str("out of memory while loading"),
             Stop::Memory(Stage::Line) => f.write_str("out of memory in a line of the script"),
+            Stop::Memory(Stage::Run) => f.write_str("out of memory"),
         }
     }
 }

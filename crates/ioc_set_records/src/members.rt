@@ -8,7 +8,7 @@ ghost use Rattle.ioc_set_records.specs.Answers.{Gives, GivesAt};
 ghost use Rattle.ioc_set_records.specs.Changed.{all_changed};
 ghost use Rattle.ioc_set_records.specs.Contents.{nothing, record_at, with_device, DevicesAreOwned, BaseHasTheSame, RecordsAreLikeTheirBase};
 ghost use Rattle.ioc_set_records.specs.Joined.{links_of, IsPart, HasLink, HasFreeLink};
-ghost use Rattle.ioc_set_records.specs.Slots.{contents_of};
+ghost use Rattle.ioc_set_records.specs.Slots.{AreAscending, contents_of};
 
 use crate::changing::{Change, change_slots};
 use crate::connected::are_one_part;
@@ -82,7 +82,8 @@ impl<K, D> Members<K, D> {
 
     /// Returns the records in ascending order of their numbers, each with its device and its base.
     pub fn into_slots(self) -> Vec<Slot<K, D>>
-        ensures { contents_of result.items ≡ self }
+        ensures contents { contents_of result.items ≡ self }
+        ensures ascending { AreAscending result.items }
     {
         let Members {
             slots,

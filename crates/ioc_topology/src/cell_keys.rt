@@ -17,13 +17,24 @@ use std::sync::Mutex;
 /// it has no set, and has one until it is left. It also has the room for all sets that
 /// [`Directory::gather`](crate::Directory::gather) needs.
 #[derive(Drop)]
-pub(crate) struct CellKeys<S> {
+pub(crate) struct CellKeys<S: Locked> {
     // The keys that have a set.
     keys: Slab<()>,
     // Room for the set of each key.
     room: Vec<S>,
+    // Room for what becomes of these sets.
+    ended: Vec<S::Ended>,
     ghost is_empty: { room.items ≡ [] },
     ghost has_room: { slab_len keys ≤ vec_capacity room },
+    ghost none_ended: { ended.items ≡ [] },
+    ghost has_room_to_end: { slab_len keys ≤ vec_capacity ended },
+}
+
+/// The keys that have a set, with room for their sets and for what becomes of them.
+pub(crate) struct Rooms<S: Locked> {
+    pub(crate) keys: Slab<()>,
+    pub(crate) sets: Vec<S>,
+    pub(crate) ended: Vec<S::Ended>,
 }
 
 impl<S: Locked> CellKeys<S> {
@@ -34,6 +45,7 @@ impl<S: Locked> CellKeys<S> {
         CellKeys {
             keys: Slab::new(alloc),
             room: Vec::new(alloc),
+            ended: Vec::new(alloc),
         }
     }
 
@@ -45,15 +57,20 @@ impl<S: Locked> CellKeys<S> {
         self.keys.capacity()
     }
 
-    /// Returns the keys that have a set, and a list with room for their sets. The keys are
-    /// forgotten. Allocates nothing.
-    pub fn take_room(&mut self, alloc: Global) -> (Slab<()>, Vec<S>)
-        ensures keys { result.0 ≡ self.old.keys }
-        ensures empty { result.1.items ≡ [] }
-        ensures room { slab_len result.0 ≤ vec_capacity result.1 }
+    /// Returns the keys that have a set, and lists with room for their sets and for what becomes of
+    /// them. The keys are forgotten. Allocates nothing.
+    pub fn take_room(&mut self, alloc: Global) -> Rooms<S>
+        ensures keys { result.keys ≡ self.old.keys }
+        ensures empty { (result.sets.items ≡ []) × (result.ended.items ≡ []) }
+        ensures room { slab_len result.keys ≤ vec_capacity result.sets }
+        ensures room_to_end { slab_len result.keys ≤ vec_capacity result.ended }
     {
-        let CellKeys { keys, room } = mem::replace(self, CellKeys::new(alloc));
-        (keys, room)
+        let CellKeys { keys, room, ended } = mem::replace(self, CellKeys::new(alloc));
+        Rooms {
+            keys,
+            sets: room,
+            ended,
+        }
     }
 
     /// Takes a key that no set has, with its cell, which has a set without records. The lock of the
@@ -71,6 +88,7 @@ impl<S: Locked> CellKeys<S> {
         ensures err { OnErr result (SameValues self.old.keys self.new.keys) }
     {
         self.room.reserve(self.keys.len() + 1)?;
+        self.ended.reserve(self.keys.len() + 1)?;
         self.keys.reserve(1)?;
         let lock = lock_of(alloc, cells, self.keys.vacant_key())?;
         let key = self.keys.insert_reserved(());

@@ -1,25 +1,41 @@
 //! Gathers all sets when the engine ends.
-ghost use Rattle.std.specs.Prelude.{◌≡◌, ◌↔◌, ◌<◌, ℕ, false, IsTrue, slice_index_or};
+ghost use Rattle.std.specs.Prelude.{◌≡◌, ◌↔◌, ◌<◌, ◌≤◌, ℕ, [], false, length, IsTrue, slice_index_or};
+ghost use Rattle.std.specs.Vec.{vec_capacity};
 ghost use Rattle.ioc_topology.specs.Gathered.{HoldEach, IsMarked, IsClaimed};
 
+use crate::cell_keys::Rooms;
 use crate::directory::{Directory, SetCell, set_in};
 use crate::locked::Locked;
 use std::alloc::Global;
 use std::mem;
 use std::sync::Wait;
 
+/// All sets of a directory.
+#[derive(Drop)]
+pub struct Gathered<S: Locked> {
+    /// The sets.
+    pub sets: Vec<S>,
+    /// An empty list with room for what becomes of them.
+    pub room: Vec<S::Ended>,
+}
+
 impl<S: Locked> Directory<S> {
     /// Takes all sets out of the directory, which is left for no record. Together they have each
     /// record that the directory was made for, and none twice. Waits forever if a record is
     /// missing. Takes time proportional to the number of records. Allocates nothing: what it needs
     /// has its room since the directory or the cells were made.
-    pub fn gather<R: Wait>(&mut self, rt: &R, alloc: Global) -> Vec<S>
-        ensures all { HoldEach S.numbers result.items self.old }
+    pub fn gather<R: Wait>(&mut self, rt: &R, alloc: Global) -> Gathered<S>
+        ensures all { HoldEach S.numbers result.sets.items self.old }
+        ensures room { (result.room.items ≡ []) × (length result.sets.items ≤ vec_capacity result.room) }
         ensures left { self.new ≡ 0 }
     {
         let count = self.homes.len();
         let mut marks = self.marks.take(alloc);
-        let (keys, mut sets) = self.keys.get_mut().take_room(alloc);
+        let Rooms {
+            keys,
+            mut sets,
+            ended,
+        } = self.keys.get_mut().take_room(alloc);
         self.homes.clear();
         for (key, ()) in keys {
             if let Some(set) = take_set(alloc, self.cells.as_mut_slice(), key) {
@@ -27,7 +43,7 @@ impl<S: Locked> Directory<S> {
             }
         }
         if hold_each(sets.as_slice(), marks.as_mut_slice(), count) {
-            return sets;
+            return Gathered { sets, room: ended };
         }
         for _ in rt.forever() {}
         unreachable!()

@@ -16,7 +16,7 @@ mod marks;
 pub mod taken;
 
 pub use directory::Directory;
-pub use gather::hold_each;
+pub use gather::{Gathered, hold_each};
 pub use link_cells::{LinkCells, NewCells, all_sound, are_lent};
 pub use locked::Locked;
 pub use taken::Taken;

@@ -9,6 +9,10 @@ use std::alloc::Global;
 pub trait Locked: Drop {
     ghost use Rattle.std.specs.Prelude.{ℕ, List};
 
+    /// What becomes of a set when the engine ends. [`Directory::gather`](crate::Directory::gather)
+    /// returns room for it.
+    type Ended: Drop;
+
     /// The numbers of its records, in any order.
     ghost numbers: { Self → List ℕ };
 

@@ -46,6 +46,13 @@ pub enum Told {
     Live(bool),
 }
 
+impl Told {
+    /// Returns whether this is the text of a field.
+    pub fn is_text(&self, text: &str) -> bool {
+        *self == Told::Text(FieldText::cut(text.as_bytes()))
+    }
+}
+
 /// The reply to a call, its place in the journal, and the number of records that it moved to other
 /// sets.
 #[derive(Clone, Copy)]

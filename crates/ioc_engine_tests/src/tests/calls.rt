@@ -2,11 +2,14 @@
 use crate::tests::calling::Call;
 use crate::tests::eight::{CALLS, RECORDS, THREADS, text};
 use crate::tests::running::{Ended, Work, run_text};
+use crate::tests::scanned;
 use crate::tests::sensor::Sensor;
 use crate::tests::sessions::AtEnd::{self, Counts, Devices, Records, Sets};
 use crate::tests::sessions::{Session, sessions};
 use crate::tests::steps::Step::{self, Makes};
 use crate::tests::steps::{Says, Wanted};
+use crate::tests::worked::WORKED;
+use crate::tests::workers::{EACH, POSTS};
 use ioc_engine::{DeviceName, FieldText, IocError, Limits, Tally, TicketTally};
 use std::alloc::{AllocError, Global};
 use std::fmt::Write;
@@ -15,11 +18,17 @@ use std::sync::{Arc, Wait};
 use std::test::Fail;
 use std::thread::Threads;
 
-// Returns devices with asynchronous answers and these names.
+// Returns devices with these names. The one named `seven` answers at once, and the answers of all
+// others are asynchronous.
 fn later(alloc: Global, names: &[&[u8]]) -> Result<Vec<(DeviceName, Sensor)>, AllocError> {
     let mut devices = Vec::new(alloc);
     for name in names {
-        devices.push((DeviceName::cut(name), Sensor::Later))?;
+        let sensor = if *name == b"seven".as_slice() {
+            Sensor::Odd(7)
+        } else {
+            Sensor::Later
+        };
+        devices.push((DeviceName::cut(name), sensor))?;
     }
     Ok(devices)
 }
@@ -37,6 +46,19 @@ fn tally_of(processed: u64, started: u64, completed: u64) -> Tally {
     }
 }
 
+// Returns the numbers of tickets where none is out.
+fn tickets_of(sent: u64, called: u64, served: u64, spent: u64, handed_back: u64) -> TicketTally {
+    TicketTally {
+        begun: spent.saturating_add(handed_back),
+        sent,
+        called,
+        served,
+        spent,
+        handed_back,
+        out: 0,
+    }
+}
+
 // Returns whether this is found at the end.
 fn is_found(ended: &Ended, wanted: AtEnd) -> bool {
     match wanted {
@@ -46,20 +68,17 @@ fn is_found(ended: &Ended, wanted: AtEnd) -> bool {
         AtEnd::Active(count) => ended.active == count,
         AtEnd::FirstPlace(place) => ended.first_place == place,
         AtEnd::Base(text, waiting) => ended.base == Some((FieldText::cut(text), waiting)),
-        AtEnd::Dropped(dropped, once) => ended.dropped == dropped && ended.once_dropped == once,
+        AtEnd::Dropped(dropped, once) => ended.dropped == dropped && ended.requests_dropped == once,
         AtEnd::Tickets(sent, spent, handed_back) => {
-            ended.tickets
-                == TicketTally {
-                    begun: spent.saturating_add(handed_back),
-                    sent,
-                    spent,
-                    handed_back,
-                    out: 0,
-                }
+            ended.tickets == tickets_of(sent, 0, 0, spent, handed_back)
+        }
+        AtEnd::Queued(sent, called, served, spent, handed_back) => {
+            ended.tickets == tickets_of(sent, called, served, spent, handed_back)
         }
         Counts(processed, started, completed) => {
             ended.tally == tally_of(processed, started, completed)
         }
+        AtEnd::Counted(tally) => ended.tally == tally,
     }
 }
 
@@ -84,17 +103,17 @@ fn limited(journal: u64) -> Limits {
     }
 }
 
-// Runs the calls of a session.
+// Runs the calls of a session by this work.
 fn run_session<R: Threads + Wait + Sync>(
     rt: &R,
     alloc: Global,
     session: &Session,
+    work: Work<'_>,
 ) -> Result<(usize, bool), IocError> {
     let limits = match session.places {
         Some(journal) => limited(journal),
         None => Limits::default(),
     };
-    let work = Work::Steps(session.steps);
     let devices = later(alloc, session.later)?;
     let ended = run_text(rt, alloc, session.text, devices, limits, work);
     Ok(result(ended, session.end))
@@ -107,7 +126,8 @@ fn failing<R: Threads + Wait + Sync>(
     sessions: &[Session],
 ) -> Result<Option<&'static str>, IocError> {
     for session in sessions {
-        if run_session(rt, alloc, session)? != (session.steps.len(), true) {
+        let work = Work::Steps(session.steps);
+        if run_session(rt, alloc, session, work)? != (session.steps.len(), true) {
             return Ok(Some(session.name));
         }
     }
@@ -119,6 +139,74 @@ fn calls_of_a_desk(rt: HostRuntime) -> Result<(), Fail> {
     for sessions in &sessions() {
         assert_eq!(rt; failing(&rt, rt.alloc(), sessions)?, None);
     }
+    Ok(())
+}
+
+// Returns the name of the first of the sessions with a worker that has another result, if there is
+// one.
+fn failing_worked<R: Threads + Wait + Sync>(
+    rt: &R,
+    alloc: Global,
+) -> Result<Option<&'static str>, IocError> {
+    let raised = AtomicU64::new(1);
+    for session in &WORKED {
+        let work = Work::Served {
+            first: session.steps,
+            others: &[],
+            asked: &raised,
+        };
+        if run_session(rt, alloc, session, work)? != (session.steps.len(), true) {
+            return Ok(Some(session.name));
+        }
+    }
+    Ok(None)
+}
+
+#[test]
+fn requests_for_one_worker(rt: HostRuntime) -> Result<(), Fail> {
+    assert_eq!(rt; failing_worked(&rt, rt.alloc())?, None);
+    Ok(())
+}
+
+// A record with a device, and one that waits for an event and reads it.
+const COMPLETED: &[u8] = b"record(longin,\"d\"){field(INP,\"@d\")}
+record(longin,\"w\"){field(SCAN,Event) field(EVNT,done) field(INP,\"d\")}
+";
+
+static STARTS: [Step; 2] = [
+    Makes(Call::Process(b"d"), Wanted::Says(Says::Processed)),
+    Step::Waits(b"w.VAL", b"5"),
+];
+
+static COMPLETES: [Step; 2] = [
+    Makes(Call::Complete(b"d", 1, 5), Wanted::Says(Says::Plain)),
+    Step::Posts(b"done", 1),
+];
+
+// Returns whether a thread of its own completes a record once its device was called, and then
+// posts an event whose request a worker serves.
+fn is_completed_beside<R: Threads + Wait + Sync>(rt: &R, alloc: Global) -> Result<bool, IocError> {
+    let asked = flag(alloc)?;
+    let mut devices = Vec::new(alloc);
+    let starting = Sensor::Starting(Arc::try_clone(&asked)?);
+    devices.push((DeviceName::cut(b"d"), starting))?;
+    let work = Work::Served {
+        first: &STARTS,
+        others: &COMPLETES,
+        asked: &asked,
+    };
+    let ended = run_text(rt, alloc, COMPLETED, devices, Limits::default(), work);
+    let wanted = [
+        Counts(2, 1, 1),
+        AtEnd::Dropped(0, 0),
+        AtEnd::Queued(0, 1, 1, 2, 0),
+    ];
+    Ok(result(ended, &wanted) == (4, true))
+}
+
+#[test]
+fn completed_by_another_thread(rt: HostRuntime) -> Result<(), Fail> {
+    assert!(rt; is_completed_beside(&rt, rt.alloc())?);
     Ok(())
 }
 
@@ -274,6 +362,26 @@ fn entries_after_a_checkpoint(rt: HostRuntime) -> Result<(), Fail> {
     Ok(())
 }
 
+// The clock is read while the lock of the record's set is held.
+#[test]
+fn times_never_fall(rt: HostRuntime) -> Result<(), Fail> {
+    assert!(rt; is_there(&rt, rt.alloc(), Work::Moments)?);
+    Ok(())
+}
+
+// The journal's calls on one map give the records that four threads leave that scan, beside two
+// that put records on other lists and change links.
+#[test]
+fn scans_beside_changes(rt: HostRuntime) -> Result<(), Fail> {
+    let text = scanned::text(rt.alloc())?;
+    let none = Vec::new(rt.alloc());
+    let work = Work::Scanned;
+    let limits = Limits::default();
+    let ended = run_text(&rt, rt.alloc(), text.as_bytes(), none, limits, work);
+    assert_eq!(rt; result(ended, &[]), (1, true));
+    Ok(())
+}
+
 // The number of puts with notification that can be live.
 const LIVE: u64 = 256;
 
@@ -398,5 +506,137 @@ fn is_without_end<R: Threads + Wait + Sync>(rt: &R, alloc: Global) -> Result<boo
 #[test]
 fn checkpoints_of_its_own(rt: HostRuntime) -> Result<(), Fail> {
     assert!(rt; is_without_end(&rt, rt.alloc())?);
+    Ok(())
+}
+
+// Two records that wait for one event, whose devices have these names.
+const TWO_CALLED: &[u8] = b"record(longin,\"a\"){field(SCAN,Event) field(EVNT,go) field(INP,\"@d\")}
+record(longin,\"b\"){field(SCAN,Event) field(EVNT,go) field(INP,\"@e\")}
+";
+
+// Returns whether two threads serve two requests at once: the device of the first one answers once
+// the second one's was called.
+fn work_at_once<R: Threads + Wait + Sync>(rt: &R, alloc: Global) -> Result<bool, IocError> {
+    let asked = flag(alloc)?;
+    let answered = flag(alloc)?;
+    let mut devices = Vec::new(alloc);
+    let holding = Sensor::Holding(Arc::try_clone(&asked)?, Arc::try_clone(&answered)?);
+    devices.push((DeviceName::cut(b"d"), holding))?;
+    devices.push((
+        DeviceName::cut(b"e"),
+        Sensor::Raising(Arc::try_clone(&answered)?),
+    ))?;
+    let work = Work::Workers {
+        asked: &asked,
+        answered: &answered,
+    };
+    let ended = run_text(rt, alloc, TWO_CALLED, devices, Limits::default(), work);
+    let wanted = [Counts(2, 0, 0), AtEnd::Queued(0, 2, 2, 2, 0)];
+    Ok(result(ended, &wanted) == (1, true))
+}
+
+#[test]
+fn two_workers_at_once(rt: HostRuntime) -> Result<(), Fail> {
+    assert!(rt; work_at_once(&rt, rt.alloc())?);
+    Ok(())
+}
+
+// Returns a database text with a record for each event of the threads that post.
+fn called_text(alloc: Global) -> Result<String, AllocError> {
+    let mut text = String::new(alloc);
+    for number in 0..EACH {
+        writeln!(
+            text,
+            "record(longin,\"r{number}\"){{field(SCAN,Event) field(EVNT,go{number})}}"
+        )?;
+    }
+    Ok(text)
+}
+
+// Returns whether the tickets of all requests that were posted are spent or handed back, and none
+// was dropped.
+fn tickets_add_up(ended: &Ended) -> bool {
+    let tickets = ended.tickets;
+    ended.held == EACH + EACH
+        && tickets.called == (EACH * POSTS) as u64
+        && tickets.begun == tickets.called
+        && tickets.served == tickets.spent
+        && tickets.spent.saturating_add(tickets.handed_back) == tickets.begun
+        && tickets.out == 0
+        && ended.dropped == 0
+        && ended.requests_dropped == 0
+        && ended.tally.begun == tickets.spent
+}
+
+// Returns whether the tickets add up where threads post events and as many serve their requests. The
+// journal has few places, so each thread waits for checkpoints, and no event is refused.
+fn do_tickets_add_up<R: Threads + Wait + Sync>(rt: &R, alloc: Global) -> Result<bool, IocError> {
+    let text = called_text(alloc)?;
+    let none = Vec::new(alloc);
+    let limits = Limits {
+        journal: 16,
+        checkpoint_at: 8,
+    };
+    let Some(end) = run_text(rt, alloc, text.as_bytes(), none, limits, Work::Pushers) else {
+        return Ok(false);
+    };
+    Ok(tickets_add_up(&end))
+}
+
+#[test]
+fn four_pushers_and_four_workers(rt: HostRuntime) -> Result<(), Fail> {
+    assert!(rt; do_tickets_add_up(&rt, rt.alloc())?);
+    Ok(())
+}
+
+// The number of records that wait for one event, one more than a callback queue holds.
+const CALLED: usize = 2001;
+
+// Returns a database text with that many records.
+fn crowded_text(alloc: Global) -> Result<String, AllocError> {
+    let mut text = String::new(alloc);
+    for number in 0..CALLED {
+        writeln!(
+            text,
+            "record(longin,\"r{number}\"){{field(SCAN,Event) field(EVNT,go)}}"
+        )?;
+    }
+    Ok(text)
+}
+
+static CROWD: [Step; 2] = [Step::Posts(b"go", 2001), Step::Serves(2000)];
+
+// Returns whether one of the requests of an event finds its queue full, and all others are served.
+fn is_one_dropped<R: Threads + Wait + Sync>(rt: &R, alloc: Global) -> Result<bool, IocError> {
+    let text = crowded_text(alloc)?;
+    let none = Vec::new(alloc);
+    let work = Work::Steps(&CROWD);
+    let ended = run_text(rt, alloc, text.as_bytes(), none, Limits::default(), work);
+    let wanted = [
+        Counts(2000, 0, 0),
+        AtEnd::Dropped(0, 1),
+        AtEnd::Queued(0, 2001, 2000, 2000, 1),
+    ];
+    Ok(result(ended, &wanted) == (2, true))
+}
+
+#[test]
+fn one_request_too_many(rt: HostRuntime) -> Result<(), Fail> {
+    assert!(rt; is_one_dropped(&rt, rt.alloc())?);
+    Ok(())
+}
+
+// Returns whether all threads that sleep while no request waits end once the engine is closed.
+fn do_sleepers_end<R: Threads + Wait + Sync>(rt: &R, alloc: Global) -> Result<bool, IocError> {
+    let text = b"record(longin,\"a\"){}\n";
+    let none = Vec::new(alloc);
+    let ended = run_text(rt, alloc, text, none, Limits::default(), Work::Sleepers);
+    let wanted = [AtEnd::Dropped(0, 0), AtEnd::Queued(0, 0, 0, 0, 0)];
+    Ok(result(ended, &wanted) == (EACH + 1, true))
+}
+
+#[test]
+fn close_while_workers_sleep(rt: HostRuntime) -> Result<(), Fail> {
+    assert!(rt; do_sleepers_end(&rt, rt.alloc())?);
     Ok(())
 }

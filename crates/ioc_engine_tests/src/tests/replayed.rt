@@ -1,7 +1,8 @@
 //! The calls of many threads, made again by one thread on one map in the order of the journal.
-use crate::tests::calling::Told;
+use crate::tests::calling::{Told, link_reply};
 use ioc_engine::{
-    Database, Finished, Input, IocError, Macros, NotifyId, RecordNo, Reply, Value, load,
+    Call as JournalCall, Database, Event, Finished, Input, IocError, JournalEntry, Macros,
+    NotifyId, RecordNo, Reply, Value, load,
 };
 use ioc_events::run_get;
 use ioc_fields::{CommonField, FieldNo, OwnField};
@@ -139,6 +140,38 @@ impl OneThread {
         Ok(self.machine.link(&self.names, number, FORWARD, &link)?)
     }
 
+    // Makes a request or a put of a journal, and returns its reply, or `None` if it is another
+    // event.
+    fn answer_event(&mut self, event: &Event) -> Result<Option<Reply>, AllocError> {
+        Ok(match event {
+            Event::Process { record } => Some(self.process(*record)?),
+            Event::Put {
+                record,
+                field,
+                value: Input::Value(Value::Text(text)),
+            } => Some(self.machine.put(*record, *field, text.as_slice())?),
+            _ => None,
+        })
+    }
+
+    /// Makes a request, a put or a link change of a journal at its time, and returns whether the
+    /// reply is the same. Returns false for any other call.
+    ///
+    /// # Errors
+    ///
+    /// [`AllocError`] if allocation fails.
+    pub fn replies_as(&mut self, kept: &JournalEntry) -> Result<bool, AllocError> {
+        self.machine.set_moment(kept.entry.moment);
+        match &kept.entry.call {
+            JournalCall::Event(event, reply) => Ok(self.answer_event(event)? == Some(*reply)),
+            JournalCall::Link(record, field, link, told) => {
+                let reply = self.machine.link(&self.names, *record, *field, &link.link)?;
+                Ok(Told::Reply(reply) == link_reply(*told))
+            }
+            _ => Ok(false),
+        }
+    }
+
     // Makes a call that isn't a get, and returns its reply.
     fn answer(&mut self, alloc: Global, number: RecordNo, call: Call) -> Result<Reply, IocError> {
         match call {
@@ -196,6 +229,23 @@ fn in_order(alloc: Global, calls: &[Kept]) -> Result<Option<Vec<Kept>>, AllocErr
     Ok(Some(ordered))
 }
 
+/// Returns the records of this text on one map, with room for the numbers of this many puts with
+/// notification, or `None` if the text can't be loaded.
+///
+/// # Errors
+///
+/// [`AllocError`] if allocation fails.
+pub fn loaded(alloc: Global, text: &[u8], puts: usize) -> Result<Option<OneThread>, AllocError> {
+    let Ok(Database { names, records }) = load(alloc, text, &Macros::new(alloc)) else {
+        return Ok(None);
+    };
+    Ok(Some(OneThread {
+        machine: Machine::new(alloc, records)?,
+        names,
+        numbers: vec![in alloc; None; puts.saturating_add(1)]?,
+    }))
+}
+
 /// Makes these calls on one map of the records of this text, in the order of their places. Returns
 /// the records, or `None` if the text can't be loaded, the places aren't the first ones of the
 /// journal, or a reply differs.
@@ -207,13 +257,8 @@ pub fn replayed(alloc: Global, text: &[u8], calls: &[Kept]) -> Result<Option<One
     let Some(ordered) = in_order(alloc, calls)? else {
         return Ok(None);
     };
-    let Ok(Database { names, records }) = load(alloc, text, &Macros::new(alloc)) else {
+    let Some(mut one) = loaded(alloc, text, ordered.len())? else {
         return Ok(None);
-    };
-    let mut one = OneThread {
-        machine: Machine::new(alloc, records)?,
-        names,
-        numbers: vec![in alloc; None; ordered.len().saturating_add(1)]?,
     };
     for kept in ordered {
         if !one.replies_alike(alloc, kept)? {

@@ -3,8 +3,12 @@
 ghost use Rattle.ioc_engine.specs.Named.{IsNamedBy};
 
 use crate::tests::eight::eight;
+use crate::tests::moments::moments_rise;
+use crate::tests::scanned::is_scanned_alike;
 use crate::tests::sensor::{Sensor, seen};
 use crate::tests::steps::{Step, follow};
+use crate::tests::timer::Timer;
+use crate::tests::workers::{one_worker, pushers_and_workers, sleepers, two_workers};
 use ioc_engine::{
     Call, Clock, CountingClock, Device, DeviceName, Engine, EngineName, Event, FieldText, Input,
     IocError, JournalEntry, Limits, LoadError, Macros, Numbered, Outcome, Receipt, Reply, Report,
@@ -40,6 +44,27 @@ pub enum Work<'a> {
     Learns,
     /// A call before a checkpoint and one after it, and their entries.
     Drops,
+    /// Two threads serve two requests, of which the first waits in its device until the second is
+    /// done.
+    Workers {
+        asked: &'a AtomicU64,
+        answered: &'a AtomicU64,
+    },
+    /// The first calls, while a thread serves the requests that wait. The others follow in a thread
+    /// of their own once the flag is raised. The clock always shows 4.
+    Served {
+        first: &'a [Step],
+        others: &'a [Step],
+        asked: &'a AtomicU64,
+    },
+    /// Threads that post events, and threads that serve the requests.
+    Pushers,
+    /// Threads that sleep because no request waits, until the engine is closed.
+    Sleepers,
+    /// Requests of one record by eight threads, and their time stamps.
+    Moments,
+    /// Scans beside puts and link changes, and the same calls on one map.
+    Scanned,
 }
 
 /// What is found at the end of an engine.
@@ -59,7 +84,7 @@ pub struct Ended {
     /// The number of items that events dropped.
     pub dropped: u64,
     /// The number of once requests that were dropped.
-    pub once_dropped: u64,
+    pub requests_dropped: u64,
     /// The place of the first entry that the journal has.
     pub first_place: u64,
     /// The field VAL of the first record at the last checkpoint, and the number of puts with
@@ -105,7 +130,15 @@ fn done<
             one.saturating_add(other)
         }
         Work::Eight => eight(rt, alloc, engine).unwrap_or(0),
-        Work::Learns | Work::Drops => 0,
+        Work::Workers { asked, answered } => two_workers(rt, engine, asked, answered),
+        Work::Served {
+            first,
+            others,
+            asked,
+        } => one_worker(rt, engine, first, others, asked),
+        Work::Pushers => pushers_and_workers(rt, alloc, engine).unwrap_or(0),
+        Work::Sleepers => sleepers(rt, alloc, engine).unwrap_or(0),
+        Work::Learns | Work::Drops | Work::Moments | Work::Scanned => 0,
     }
 }
 
@@ -156,7 +189,7 @@ fn end<B: EngineName<D>, D: Device, C: Clock + Drop, R: Wait>(
     let tally = report.tally();
     let tickets = report.tickets();
     let dropped = report.dropped();
-    let once_dropped = report.once_dropped();
+    let requests_dropped = report.requests_dropped();
     let first_place = report.first_place();
     let base = base_of(&report);
     let Ok(records) = report.into_records(alloc) else {
@@ -171,7 +204,7 @@ fn end<B: EngineName<D>, D: Device, C: Clock + Drop, R: Wait>(
         tally,
         tickets,
         dropped,
-        once_dropped,
+        requests_dropped,
         first_place,
         base,
     })
@@ -289,9 +322,17 @@ fn told(is_found: bool) -> Ended {
         tally: Tally::default(),
         tickets: TicketTally::default(),
         dropped: 0,
-        once_dropped: 0,
+        requests_dropped: 0,
         first_place: 0,
         base: None,
+    }
+}
+
+// Returns the clock of an engine with which this is done.
+fn clock_of(work: Work<'_>) -> Timer {
+    match work {
+        Work::Served { .. } => Timer::Fixed(4),
+        _ => Timer::Counting(CountingClock::new()),
     }
 }
 
@@ -305,13 +346,15 @@ fn run<B: EngineName<D> + Send + Sync, D: Device + Send + Sync, R: Threads + Wai
 ) -> Option<Ended>
     requires named { IsNamedBy B.table B.base B.devices B.places B.tickets B.counts seed }
 {
-    let clock = CountingClock::new();
-    let Ok(engine) = Engine::<B, D, CountingClock>::start(alloc, seed, clock, limits) else {
+    let clock = clock_of(work);
+    let Ok(engine) = Engine::<B, D, Timer>::start(rt, alloc, seed, clock, limits) else {
         return None;
     };
     match work {
         Work::Learns => return Some(told(has_learnt(rt, engine))),
         Work::Drops => return Some(told(has_dropped(rt, engine))),
+        Work::Moments => return Some(told(moments_rise(rt, alloc, engine).unwrap_or(false))),
+        Work::Scanned => return Some(told(is_scanned_alike(rt, alloc, engine).unwrap_or(false))),
         _ => (),
     }
     let held = done(rt, alloc, &engine, work);

@@ -15,6 +15,12 @@ pub enum Sensor {
     Holding(Arc<AtomicU64, Global>, Arc<AtomicU64, Global>),
     /// All its answers are asynchronous.
     Later,
+    /// Answers at once: this number, and two more each time.
+    Odd(i32),
+    /// Raises the flag when it is called, and answers at once.
+    Raising(Arc<AtomicU64, Global>),
+    /// Raises the flag when it is called, and answers later.
+    Starting(Arc<AtomicU64, Global>),
 }
 
 /// Returns whether a flag was raised in time.
@@ -38,6 +44,19 @@ fn hold(asked: &AtomicU64, answered: &AtomicU64) -> Answer {
     }
 }
 
+// Answers with a number, to which 2 is added.
+fn count(next: &mut i32) -> Answer {
+    let now = *next;
+    *next = now.wrapping_add(2);
+    Answer::Done(Value::Long(now))
+}
+
+// Raises a flag, and returns this answer.
+fn raise(flag: &AtomicU64, answer: Answer) -> Answer {
+    flag.store(1, Ordering::SeqCst);
+    answer
+}
+
 impl Device for Sensor {
     ghost gives = { λ _ _ _ _ _. Unit {0} };
 
@@ -45,13 +64,17 @@ impl Device for Sensor {
         match self {
             Sensor::Holding(asked, answered) => hold(asked, answered),
             Sensor::Later => Answer::Later,
+            Sensor::Odd(next) => count(next),
+            Sensor::Raising(flag) => raise(flag, Answer::Done(Value::Long(7))),
+            Sensor::Starting(flag) => raise(flag, Answer::Later),
         }
     }
 
     fn write(&mut self, _value: Value, _moment: u64) -> Answer {
         match self {
-            Sensor::Holding(_, _) => Answer::Fault,
             Sensor::Later => Answer::Later,
+            Sensor::Holding(_, _) | Sensor::Odd(_) | Sensor::Raising(_) | Sensor::Starting(_) =>
+                Answer::Fault,
         }
     }
 }

@@ -1,10 +1,11 @@
 //! Sessions with an engine: the calls of a desk on the records of a text, and what is
 //! found at the end.
 use crate::tests::calling::Call::{self, Cancel, Complete, Get, Process, Put, PutNotify, SetLink};
+use crate::tests::scans::SCANS;
 use crate::tests::steps::Step::{self, Checkpoint, Closes, Ends, Makes, Parts};
 use crate::tests::steps::Wanted::{At, Fails, Moves, Shows};
 use crate::tests::steps::{Says, Wanted};
-use ioc_engine::IocError;
+use ioc_engine::{IocError, Tally};
 
 /// What is expected at the end of an engine.
 #[derive(Clone, Copy)]
@@ -25,19 +26,26 @@ pub enum AtEnd {
     /// The number of requests, all of which were processed, and those of the answers of devices
     /// that were to come later, and that came.
     Counts(u64, u64, u64),
+    /// These counts.
+    Counted(Tally),
     /// The number of items that events dropped because they had sent 256 already, and that of once
     /// requests that were dropped because 1,000 waited.
     Dropped(u64, u64),
     /// The number of tickets that were begun for once requests, that were spent, and that were
     /// handed back. All were begun for requests or once requests, and none is out.
     Tickets(u64, u64, u64),
+    /// The number of tickets that were begun for once requests and for requests on callback queues,
+    /// that of requests that came with their ticket, and the number of tickets that were spent, and
+    /// that were handed back. None is out.
+    Queued(u64, u64, u64, u64, u64),
 }
 
 /// The calls of a desk on the records of a text.
 pub struct Session {
     pub name: &'static str,
     pub text: &'static [u8],
-    /// The names of the devices, all of whose answers are asynchronous.
+    /// The names of the devices. The one named `seven` answers at once, with 7, 9 and so on; the
+    /// answers of all others are asynchronous.
     pub later: &'static [&'static [u8]],
     /// The number of places in the journal, if it isn't the usual one.
     pub places: Option<u64>,
@@ -658,7 +666,7 @@ record(longin,\"q\"){field(INP,\"@e\")}
 ];
 
 /// Returns all sessions.
-pub fn sessions() -> [&'static [Session]; 6] {
+pub fn sessions() -> [&'static [Session]; 7] {
     [
         &CALLS,
         &CHECKPOINTS,
@@ -666,5 +674,6 @@ pub fn sessions() -> [&'static [Session]; 6] {
         &PUTS,
         &PUTS_OVER_LINK_CHANGES,
         &MORE_PUTS_OVER_LINK_CHANGES,
+        &SCANS,
     ]
 }

@@ -1,10 +1,14 @@
 //! The calls of one desk as lists of steps, each with its expected result.
 use crate::tests::calling::{Answered, Call, Told, looked_up, make};
 use ioc_engine::{
-    Clock, Desk, Device, Engine, EngineName, FieldText, IocError, NotifyId, Outcome, RecordNo,
-    Reply,
+    Clock, Desk, Device, Engine, EngineName, FieldText, IocError, NotifyId, Outcome, Receipt,
+    RecordNo, Reply, Scan,
 };
 use std::sync::Wait;
+use std::thread;
+
+// The number of times that a field is looked at before a test stops waiting.
+const LOOKS: u64 = 1_000_000;
 
 /// A reply.
 #[derive(Clone, Copy)]
@@ -45,6 +49,20 @@ pub enum Step {
     Parts(&'static [&'static [&'static [u8]]]),
     /// A checkpoint of the journal is made.
     Checkpoint,
+    /// A scan with this choice requests this many records.
+    Scans(Scan, usize),
+    /// A scan with this choice fails.
+    ScanFails(Scan, IocError),
+    /// The list of this choice has the records with these names, in this order.
+    Lists(Scan, &'static [&'static [u8]]),
+    /// A posted event asks for this many requests.
+    Posts(&'static [u8], u64),
+    /// An interrupt asks for this many requests.
+    Interrupts(&'static [u8], u64),
+    /// This many requests wait, and are served.
+    Serves(usize),
+    /// A field gets this text, because other threads make calls. The step waits for it.
+    Waits(&'static [u8], &'static [u8]),
     /// The engine is closed, which it wasn't before. It shows no sets, opens no desk and makes no
     /// checkpoint any more.
     Closes,
@@ -160,11 +178,79 @@ fn closes<B: EngineName<D>, D: Device, C: Clock + Drop, R: Wait>(
     engine: &Engine<B, D, C>,
 ) -> bool {
     let was_closed = engine.is_closed();
-    engine.close();
+    engine.close(rt);
     let is_silent = matches!(engine.parts(rt), Err(IocError::Stopped))
         && matches!(engine.desk(rt), Err(IocError::Stopped))
         && matches!(engine.checkpoint(rt), Err(IocError::Stopped));
     !was_closed && engine.is_closed() && is_silent
+}
+
+// Returns whether the list of a choice has the records with these names, in this order.
+fn is_list<B: EngineName<D>, D: Device, C: Clock + Drop, R: Wait>(
+    rt: &R,
+    engine: &Engine<B, D, C>,
+    choice: Scan,
+    names: &[&[u8]],
+) -> bool {
+    let Ok(listed) = engine.scan_list(rt, choice) else {
+        return false;
+    };
+    for (number, name) in listed.iter().zip(names) {
+        if engine.record(name) != Ok(*number) {
+            return false;
+        }
+    }
+    listed.len() == names.len()
+}
+
+// Returns whether this posted event or interrupt asks for this many requests.
+fn is_count<B: EngineName<D>, D: Device>(
+    told: Result<(u64, Receipt<B>), IocError>,
+    wanted: u64,
+) -> bool {
+    match told {
+        Ok((count, _receipt)) => count == wanted,
+        Err(_) => false,
+    }
+}
+
+// Serves the requests that wait, and returns how many there were.
+fn serve_all<B: EngineName<D>, D: Device, C: Clock + Drop, R: Wait>(
+    rt: &R,
+    engine: &Engine<B, D, C>,
+    desk: &mut Desk<B, D>,
+) -> usize {
+    let mut served = 0usize;
+    for _ in 0..10_000 {
+        if !engine.serve_one(rt, desk) {
+            return served;
+        }
+        served = served.saturating_add(1);
+    }
+    served
+}
+
+// Gets a field until it has this text. Returns whether it has it in time.
+fn comes<B: EngineName<D>, D: Device, C: Clock + Drop, R: Wait>(
+    rt: &R,
+    engine: &Engine<B, D, C>,
+    desk: &mut Desk<B, D>,
+    name: &[u8],
+    wanted: &[u8],
+) -> bool {
+    let Ok(channel) = engine.channel(name) else {
+        return false;
+    };
+    for _ in 0..LOOKS {
+        let Ok((shown, _receipt)) = engine.get(rt, desk, channel) else {
+            return false;
+        };
+        if shown == FieldText::cut(wanted) {
+            return true;
+        }
+        thread::yield_now();
+    }
+    false
 }
 
 // Carries out a step, and returns whether it has the expected result.
@@ -179,6 +265,15 @@ fn holds<B: EngineName<D>, D: Device, C: Clock + Drop, R: Wait>(
         Step::Ends(call, wanted, ended) => answers(rt, engine, desk, call, wanted, ended),
         Step::Parts(wanted) => are_parts(rt, engine, wanted),
         Step::Checkpoint => engine.checkpoint(rt).is_ok(),
+        Step::Scans(choice, wanted) => engine.scan(rt, desk, choice) == Ok(wanted),
+        Step::ScanFails(choice, error) => engine.scan(rt, desk, choice) == Err(error),
+        Step::Lists(choice, names) => is_list(rt, engine, choice, names),
+        Step::Posts(name, wanted) => { is_count::<B, D>(engine.post_event(rt, desk, name), wanted) }
+        Step::Interrupts(word, wanted) => {
+            is_count::<B, D>(engine.io_interrupt(rt, desk, word), wanted)
+        }
+        Step::Serves(wanted) => serve_all(rt, engine, desk) == wanted,
+        Step::Waits(name, wanted) => comes(rt, engine, desk, name, wanted),
         Step::Closes => closes(rt, engine),
     }
 }

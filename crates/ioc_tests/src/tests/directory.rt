@@ -463,7 +463,7 @@ fn sizes(sets: &[Numbers]) -> u32 {
 
 // Gathers the sets, and returns their number and their sizes.
 fn gathered(rt: &impl Wait, alloc: Global, sets: &mut Directory<Numbers>) -> (usize, u32) {
-    let all = sets.gather(rt, alloc);
+    let all = sets.gather(rt, alloc).sets;
     (all.len(), sizes(all.as_slice()))
 }
 

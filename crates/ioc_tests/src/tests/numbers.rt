@@ -21,6 +21,8 @@ impl Numbers {
 }
 
 impl Locked for Numbers {
+    type Ended = ();
+
     ghost numbers = { λ s. s.list.items };
 
     ghost sound = { λ _. Unit {0} };

@@ -11,4 +11,4 @@ loop-set-preserved g c =
     let had = IsDeviceOf g.D.Device.gives g.B.SetsName.devices in
     subst (λ (l : List (StoppedRecord g.row.D.Denot)). GivesBack had (c.loop-set.yielded ++ c.in-Some.set ∷ []) l) (sym c.in_ok-add_records.ensures)
     (set_appended had c.loop-set.yielded c.loop-set.all.items (map stopped_of slots) c.in-Some.set c.loop-set.invariant
-    (record { slots = slots; are = refl; records = c.into_slots.ensures.records; devices = c.into_slots.ensures.devices; own = c.keeps_devices.ensures }))
+    (record { slots = slots; are = refl; ascending = c.into_slots.ensures.ascending; records = c.into_slots.ensures.records; devices = c.into_slots.ensures.devices; own = c.keeps_devices.ensures }))

@@ -9,8 +9,8 @@ claim_key-pass-requires-clause-fresh g c has = let record_key = c.requires.born 
 pub returns-in_err-puts-clause-born : goal.returns-in_err-puts-clause-born
 returns-in_err-puts-clause-born g c = no_desks_with _ _ c.requires.born (ap (λ (v : View). v.born) c.claim_key-pass.ensures.kept.1)
 
-pub returns-in_err-once-clause-born : goal.returns-in_err-once-clause-born
-returns-in_err-once-clause-born g c = no_desks_with _ _ c.requires.born (ap (λ (v : View). v.born) c.claim_key-pass.ensures.kept.1)
+pub returns-in_err-queues-clause-born : goal.returns-in_err-queues-clause-born
+returns-in_err-queues-clause-born g c = no_desks_with _ _ c.requires.born (ap (λ (v : View). v.born) c.claim_key-pass.ensures.kept.1)
 
 pub returns-clause-born : goal.returns-clause-born
 returns-clause-born g c = no_desks_with _ _ c.requires.born (ap (λ (v : View). v.born) c.claim_key-pass.ensures.kept.1)

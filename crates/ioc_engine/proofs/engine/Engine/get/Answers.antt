@@ -8,5 +8,5 @@ returns-clause-refused_by_type g c =
 
 pub returns-clause-has_field : goal.returns-clause-has_field
 returns-clause-has_field g c =
-    ok_then _ _ c.get.result (λ x was. told-has g.B.JournalName.base c.args.channel c.types_stay.ensures.held c.record.result c.record.ensures was)
+    ok_then _ _ c.get.result (λ x was. told-has g.B.JournalName.base c.args.channel c.types_stay.ensures.held c.record.result c.record.ensures was.2)
     c.get.ensures.told

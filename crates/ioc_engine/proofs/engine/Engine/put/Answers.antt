@@ -8,5 +8,5 @@ returns-clause-refused_by_type g c =
 
 pub returns-clause-can_be_put : goal.returns-clause-can_be_put
 returns-clause-can_be_put g c =
-    ok_then _ _ c.serve.result (λ x was. served-can g.B.JournalName.base c.args.channel c.types_stay.ensures.held c.record-number.result c.record-number.ensures was)
+    ok_then _ _ c.serve.result (λ x was. served-can g.B.JournalName.base c.args.channel c.types_stay.ensures.held c.record-number.result c.record-number.ensures was.2)
     c.serve.ensures.done

@@ -6,18 +6,22 @@ pub returns-clause-changed : goal.returns-clause-changed
 returns-clause-changed g c =
     let then = c.change_link-changed.new in
     ok_then _ _ c.change_link-changed.result
-    (λ x done. record {
-      first = c.args.first.now;
-      second = c.args.second.now;
-      spare = c.args.spare.now;
-      first_then = then.first;
-      second_then = then.second;
-      spare_then = then.spare;
-      lent = c.requires.lent;
-      before = c.all_sound.ensures;
-      relinks = done;
-      after = c.all_sound-2.ensures;
-    })
+    (λ x done. (
+      c.now-moment.result,
+      c.now-moment.ensures,
+      record {
+        first = c.args.first.now;
+        second = c.args.second.now;
+        spare = c.args.spare.now;
+        first_then = then.first;
+        second_then = then.second;
+        spare_then = then.spare;
+        lent = c.requires.lent;
+        before = c.all_sound.ensures;
+        relinks = done;
+        after = c.all_sound-2.ensures;
+      },
+    ))
     c.change_link-changed.ensures.relinks
 
 pub returns-clause-refused : goal.returns-clause-refused

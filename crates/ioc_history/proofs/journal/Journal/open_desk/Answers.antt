@@ -35,7 +35,7 @@ invariant_of-self g c =
           ⊎_elim (λ (same : desk_key d ≡ k). let n = ap (λ (p : Key). p.1) same in omega arith)
           (λ (was : Has k (cell_view c.self.inside.pass).born). let lt = i.given k was kind in omega arith) (subst (Has k) born has);
       new_desk = λ m le. subst (λ l. Below m 0 (calls l)) (sym seen) (i.new_desk m (omega arith));
-      tickets_are = subst (λ (l : List Note). AreTicketsOf g.K.RecordKind.rules g.B.JournalName.base l c.self.inside.tickets.counts c.self.inside.tickets.sent) (sym seen) i.tickets_are;
+      tickets_are = subst (λ (l : List Note). AreTicketsOf g.K.RecordKind.rules g.B.JournalName.base l c.self.inside.tickets) (sym seen) i.tickets_are;
       counted = subst (λ (l : List Note). c.self.inside.counted ≡ counts_of g.K.RecordKind.rules g.B.JournalName.base l) (sym seen) i.counted;
     }
 

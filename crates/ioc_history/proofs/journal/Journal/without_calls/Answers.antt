@@ -23,6 +23,6 @@ invariant_of-result g c =
       account = subst (IsAccount g.K.RecordKind.rules g.B.JournalName.base) (sym seen) (record { legal = tt; rising = tt; keyed = tt; numbers = λ i j d lt within. absurd (let none : ⊥ = omega (arith, within) in none); puts_keyed = tt });
       given = λ key has kind. absurd (c.requires.given key has kind);
       new_desk = λ m le. subst (λ l. Below m 0 (calls l)) (sym seen) tt;
-      tickets_are = subst (λ (l : List Note). AreTicketsOf g.K.RecordKind.rules g.B.JournalName.base l c.args.tickets.counts c.args.tickets.sent) (sym seen) (none-yet g.K.RecordKind.rules g.B.JournalName.base c.args.tickets c.requires.tickets);
+      tickets_are = subst (λ (l : List Note). AreTicketsOf g.K.RecordKind.rules g.B.JournalName.base l c.args.tickets) (sym seen) (none-yet g.K.RecordKind.rules g.B.JournalName.base c.args.tickets c.requires.tickets);
       counted = subst (λ (l : List Note). c.args.counted ≡ counts_of g.K.RecordKind.rules g.B.JournalName.base l) (sym seen) c.requires.none.1;
     }

@@ -25,7 +25,8 @@ use Rattle.ioc_journaled_set.specs.LinkChanges.{link_change}
 use Rattle.ioc_journaled_set.specs.SameDevice.{IsDeviceOf}
 use Rattle.ioc_ledger.specs.declared.tally.Tally.{Tally}
 use Rattle.ioc_ledger.specs.Shared.{ShareView, share_view}
-use Rattle.ioc_journaled_set.proofs.Shares.{share_is}
+use Rattle.ioc_journaled_set.proofs.Shares.{has_share, none_counted, share_is}
+use Rattle.ioc_journaled_set.proofs.Counting.{some_len}
 use Rattle.ioc_journaled_set.proofs.LinkShares.{freed_len, fewer_parts, started_before, rest_awaits, share_stays, share_leaves, share_joins}
 use Rattle.ioc_journaled_set.proofs.Dealing.{dealt_owner, both_may_follow, known_then}
 use Rattle.ioc_journaled_set.proofs.Leading.{lead_within, lead_apart, after_keeps, rest_keeps, lead_goes_on}
@@ -124,6 +125,19 @@ unreachable-requires-in_default-take g c =
     let there = subst (λ (h : SetState g.row.K.Denot g.row.D.Denot). IsSome (get h.records c.requires.to.0)) (sym also_same) c.requires.to.2 in
     held.owner c.requires.to.0 there
 
+pub take_share-share-requires : goal.take_share-share-requires
+take_share-share-requires g c =
+    let k = g.K.RecordKind.rules in
+    let same : c.self.inside.set ≡ c.args.self.now.set = ap (λ (v : HeldView g.row.K.Denot g.row.D.Denot). v.set) c.self.view_is ∙ c.compare.ensures.same.0 in
+    let has = subst (λ (h : SetState g.row.K.Denot g.row.D.Denot). HasLink k h.records c.args.change.number c.args.change.field) (sym same) c.requires.field in
+    record { there = has_share c.self.inside.share c.self.inside.set c.self.invariant.1 (some_len c.self.inside.set.records c.args.change.number (ap (λ (o : Option g.row.K.Denot). is_some o) has.1)) }
+
+pub take_share-others-requires : goal.take_share-others-requires
+take_share-others-requires g c =
+    let also_same : c.other.inside.set ≡ c.args.other.now.set = ap (λ (v : HeldView g.row.K.Denot g.row.D.Denot). v.set) c.other.view_is ∙ c.compare.ensures.same.1 in
+    let there = subst (λ (h : SetState g.row.K.Denot g.row.D.Denot). IsSome (get h.records c.requires.to.0)) (sym also_same) c.requires.to.2 in
+    record { there = has_share c.other.inside.share c.other.inside.set c.other.invariant.1 (some_len c.other.inside.set.records c.requires.to.0 there) }
+
 pub divide_share-rest_share-requires-clause-parts : goal.divide_share-rest_share-requires-clause-parts
 divide_share-rest_share-requires-clause-parts g c =
     let at = (goal.at.divide_share-rest_share-requires-clause-parts g c).After-take_share-share in
@@ -210,5 +224,5 @@ invariant_of-other-2 g c =
     let k = g.K.RecordKind.rules in
     let nothing = nothing_is_held k g.met.K.RecordKind.lawful.missing_targets g.B.JournalName.base (IsDeviceOf g.D.Device.gives g.B.SetsName.devices) g.B.CellName.table c.lead_into.new.other c.in-Ok.ensures.led.joins.emptied in (
       subst (λ (o : Option Pass). IsHeld k g.B.JournalName.base (IsDeviceOf g.D.Device.gives g.B.SetsName.devices) g.B.CellName.table o c.lead_into.new.other) (sym c.take-2.ensures.after) nothing,
-      subst (λ (o : Option ShareView). IsCounted o c.lead_into.new.other) (sym c.take_share-others.ensures.taken) tt,
+      subst (λ (o : Option ShareView). IsCounted o c.lead_into.new.other) (sym c.take_share-others.ensures.taken) (none_counted c.lead_into.new.other c.in-Ok.ensures.led.joins.emptied),
     )

@@ -1,5 +1,5 @@
 use Rattle.std.proofs.Common.{◌≡◌, ◌≤◌, ℕ, false, List, ◌++◌, Option, Some, sym, ap, ◌∙◌, subst}
-use Rattle.std.specs.Prelude.{Contains, IsSome}
+use Rattle.std.specs.Prelude.{Contains, IsSome, is_some}
 use Rattle.std.specs.FinMap.{get, len}
 use Rattle.crossbeam_utils.specs.Seq.{cell_view}
 use Rattle.ioc_dbcommon.specs.declared.link_field.LinkField.{LinkField}
@@ -24,7 +24,8 @@ use Rattle.ioc_journaled_set.specs.SameDevice.{IsDeviceOf}
 use Rattle.ioc_ledger.specs.declared.tally.Tally.{Tally}
 use Rattle.ioc_ledger.specs.Shared.{ShareView, share_view}
 use Rattle.ioc_set.specs.Linking.{link_change_of}
-use Rattle.ioc_journaled_set.proofs.Shares.{share_is}
+use Rattle.ioc_journaled_set.proofs.Shares.{has_share, share_is}
+use Rattle.ioc_journaled_set.proofs.Counting.{some_len}
 use Rattle.ioc_journaled_set.proofs.LinkShares.{change_len, fewer_parts, started_before, rest_awaits, share_stays, share_leaves}
 use Rattle.ioc_journaled_set.proofs.Dealing.{dealt_owner, both_may_follow, known_then}
 use Rattle.ioc_journaled_set.proofs.Parting.{takes_link, part_within, part_apart, stay_keeps, rest_keeps, part_goes_on}
@@ -84,6 +85,11 @@ module _ (g : Over) (c : After-take_share-share g) where
       let other = cell_view c.copy-other.result in
       let with_link = subst (λ (l : LinkField). AddedByBoth k base pass.seen pass.owns other.seen other.owns (link_change c.args.change.moment c.args.change.number c.args.change.field l) added.0 seen) c.get-chosen.ensures added.1 in
       known_then k base c.args.change.moment c.args.change.number c.args.change.field c.args.change.link pass.seen pass.owns other.seen other.owns (λ (m : World g.row.K.Denot). Holds k m (now_of c.part.new.self) × Holds k m (now_of c.in-Ok.rest)) goes added.0 seen with_link
+
+pub take_share-share-requires : goal.take_share-share-requires
+take_share-share-requires g c =
+    let has = subst (λ (v : HeldView g.row.K.Denot g.row.D.Denot). HasLink g.K.RecordKind.rules v.set.records c.args.change.number c.args.change.field) (sym c.self.view_is) c.requires.field in
+    record { there = has_share c.self.inside.share c.self.inside.set c.self.invariant.1 (some_len c.self.inside.set.records c.args.change.number (ap (λ (o : Option g.row.K.Denot). is_some o) has.1)) }
 
 pub divide_share-rest_share-requires-clause-parts : goal.divide_share-rest_share-requires-clause-parts
 divide_share-rest_share-requires-clause-parts g c =

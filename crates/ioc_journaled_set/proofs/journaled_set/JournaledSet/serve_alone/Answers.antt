@@ -21,7 +21,7 @@ use Rattle.ioc_journaled_set.proofs.Devices.{worked_there, keeps_on}
 use Rattle.ioc_journaled_set.proofs.Ended.{none_have_ended}
 use Rattle.ioc_journaled_set.proofs.Serving.{IsDoneAlone, names_one, ordinary_on, begins_no_put, owner_on, entry_is, none_held, none_ended, may_follow, may_send, may_count, held_then, only, as_many}
 use Rattle.ioc_journaled_set.proofs.Counting.{some_len}
-use Rattle.ioc_journaled_set.proofs.Shares.{backed, counted_then, is_there}
+use Rattle.ioc_journaled_set.proofs.Shares.{backed, counted_then, has_share, is_there}
 use Rattle.ioc_journaled_set.proofs.journaled_set.JournaledSet.serve_alone.Given.{Over}
 use Rattle.ioc_journaled_set.proofs.journaled_set.JournaledSet.serve_alone.Goals.{After-counts_since-counts}
 use Rattle.ioc_journaled_set.proofs.journaled_set.JournaledSet.serve_alone.Goals as goal
@@ -61,6 +61,12 @@ unreachable-requires g c =
     let one = names_one c.args.event.now (ordinary_on c.args.event.now c.requires.ordinary) in
     held.owner one.0 (key_there c.self.inside.set.records one.0 (subst (λ (v : HeldView g.row.K.Denot g.row.D.Denot). Contains (numbers_of v) one.0) (sym c.self.view_is) (c.requires.there one.0 one.1)))
 
+pub take_share-share-requires : goal.take_share-share-requires
+take_share-share-requires g c =
+    let one = names_one c.args.event.now (ordinary_on c.args.event.now c.requires.ordinary) in
+    let there = key_there c.self.inside.set.records one.0 (subst (λ (v : HeldView g.row.K.Denot g.row.D.Denot). Contains (numbers_of v) one.0) (sym c.self.view_is) (c.requires.there one.0 one.1)) in
+    record { there = has_share c.self.inside.share c.self.inside.set c.self.invariant.1 (some_len c.self.inside.set.records one.0 there) }
+
 pub append-appended-requires-clause-set : goal.append-appended-requires-clause-set
 append-appended-requires-clause-set g c =
     let at = (goal.at.append-appended-requires-clause-set g c).After-counts_since-counts in
@@ -88,7 +94,7 @@ pub append-appended-requires-clause-backed : goal.append-appended-requires-claus
 append-appended-requires-clause-backed g c =
     let one = names_one c.args.event.now (ordinary_on c.args.event.now c.requires.ordinary) in
     let there = key_there c.self.inside.set.records one.0 (subst (λ (v : HeldView g.row.K.Denot g.row.D.Denot). Contains (numbers_of v) one.0) (sym c.self.view_is) (c.requires.there one.0 one.1)) in
-    backed c.self.inside.share c.counts_since-counts.result.share c.self.inside.set c.counts_since-counts.result.before (c.counts_since-counts.ensures.share ∙ sym (sym c.take-2.ensures.value ∙ c.in-Some-take.is)) c.self.invariant.1
+    backed c.take_share-share.result c.self.inside.share c.counts_since-counts.result.share c.self.inside.set c.counts_since-counts.result.before c.take_share-share.ensures.share c.counts_since-counts.ensures.share c.self.invariant.1
     (c.counts_since-counts.ensures.counts.0 ∙ c.tally-before.ensures) (some_len c.self.inside.set.records one.0 there)
 
 pub append-appended-requires-clause-begins : goal.append-appended-requires-clause-begins
@@ -107,7 +113,7 @@ invariant_of-self-2 g c =
         devices = keeps_on g.D.Device.gives g.B.SetsName.devices c.self.inside.set c.run_with_answers.new.set held.devices (worked_there c.in-Ok.ensures.ok.work) came;
         holds = subst (λ (x : View). Holds k (map_of k g.B.JournalName.base x.seen) (now_of c.run_with_answers.new.set)) (sym set.1) (held_then (done g at) added.0 _ added.1);
       },
-      counted_then c.self.inside.share c.counts_since-counts.result.share c.append-appended.result.share c.self.inside.set c.run_with_answers.new.set c.counts_since-counts.result.after (c.counts_since-counts.ensures.share ∙ sym (sym c.take-2.ensures.value ∙ c.in-Some-take.is)) c.self.invariant.1
+      counted_then c.take_share-share.result c.self.inside.share c.counts_since-counts.result.share c.append-appended.result.share c.self.inside.set c.run_with_answers.new.set c.counts_since-counts.result.after c.take_share-share.ensures.share c.counts_since-counts.ensures.share c.self.invariant.1
           c.append-appended.ensures.share c.counts_since-counts.ensures.counts.1
           (as_many g.K.RecordKind.rules g.D.Device.gives c.self.inside.set c.run_with_answers.new.set c.args.moment c.args.event.now c.in-Ok.done.0 (world_of c.run_with_answers.new.buffers.store) c.in-Ok.ensures.ok (there g at) c.calls_have_laws.ensures.events held.holds.shut),
     )

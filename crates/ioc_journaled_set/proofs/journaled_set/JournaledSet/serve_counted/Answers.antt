@@ -24,7 +24,7 @@ use Rattle.ioc_journaled_set.proofs.Devices.{worked_there, keeps_on}
 use Rattle.ioc_journaled_set.proofs.Serving.{names_one, no_cancel, owner_on, entry_is, only, as_many, asks_alike, if_some_then}
 use Rattle.ioc_history.specs.Counting.{BothMaySend}
 use Rattle.ioc_journaled_set.proofs.Counting.{some_len}
-use Rattle.ioc_journaled_set.proofs.Shares.{backed, counted_then, is_there}
+use Rattle.ioc_journaled_set.proofs.Shares.{backed, counted_then, has_share, is_there}
 use Rattle.ioc_journaled_set.proofs.Beside.{IsDoneBeside, both_follow, both_send, both_count, held_beside, moved_beside, ended_beside}
 use Rattle.ioc_journaled_set.proofs.Ended.{have_ended}
 use Rattle.ioc_history.specs.Line.{noted}
@@ -73,6 +73,12 @@ unreachable-requires g c =
     let one = names_one c.args.event.now c.requires.on_record in
     held.owner one.0 (key_there c.self.inside.set.records one.0 (subst (λ (v : HeldView g.row.K.Denot g.row.D.Denot). Contains (numbers_of v) one.0) (sym c.self.view_is) (c.requires.there one.0 one.1)))
 
+pub take_share-share-requires : goal.take_share-share-requires
+take_share-share-requires g c =
+    let one = names_one c.args.event.now c.requires.on_record in
+    let there = key_there c.self.inside.set.records one.0 (subst (λ (v : HeldView g.row.K.Denot g.row.D.Denot). Contains (numbers_of v) one.0) (sym c.self.view_is) (c.requires.there one.0 one.1)) in
+    record { there = has_share c.self.inside.share c.self.inside.set c.self.invariant.1 (some_len c.self.inside.set.records one.0 there) }
+
 pub keep_beside-appended-requires-clause-follows : goal.keep_beside-appended-requires-clause-follows
 keep_beside-appended-requires-clause-follows g c =
     let at = (goal.at.keep_beside-appended-requires-clause-follows g c).After-is_counted in
@@ -94,7 +100,7 @@ pub keep_beside-appended-requires-clause-backed : goal.keep_beside-appended-requ
 keep_beside-appended-requires-clause-backed g c =
     let one = names_one c.args.event.now c.requires.on_record in
     let there = key_there c.self.inside.set.records one.0 (subst (λ (v : HeldView g.row.K.Denot g.row.D.Denot). Contains (numbers_of v) one.0) (sym c.self.view_is) (c.requires.there one.0 one.1)) in
-    backed c.self.inside.share c.counts_since-counts.result.share c.self.inside.set c.counts_since-counts.result.before (c.counts_since-counts.ensures.share ∙ sym (sym c.take-2.ensures.value ∙ c.in-Some-take.is)) c.self.invariant.1
+    backed c.take_share-share.result c.self.inside.share c.counts_since-counts.result.share c.self.inside.set c.counts_since-counts.result.before c.take_share-share.ensures.share c.counts_since-counts.ensures.share c.self.invariant.1
     (c.counts_since-counts.ensures.counts.0 ∙ c.tally-tally.ensures) (some_len c.self.inside.set.records one.0 there)
 
 pub keep_beside-appended-requires-clause-begins : goal.keep_beside-appended-requires-clause-begins
@@ -122,7 +128,7 @@ invariant_of-self-2 g c =
         devices = keeps_on g.D.Device.gives g.B.SetsName.devices c.self.inside.set c.run_counted.new.set held.devices (worked_there does.work) came;
         holds = subst (λ (x : View). Holds k (map_of k g.B.JournalName.base x.seen) (now_of c.run_counted.new.set)) (sym pass.1) (held_beside (done g at) added.0 _ added.1);
       },
-      counted_then c.self.inside.share c.counts_since-counts.result.share c.keep_beside-appended.result.share c.self.inside.set c.run_counted.new.set c.counts_since-counts.result.after (c.counts_since-counts.ensures.share ∙ sym (sym c.take-2.ensures.value ∙ c.in-Some-take.is)) c.self.invariant.1
+      counted_then c.take_share-share.result c.self.inside.share c.counts_since-counts.result.share c.keep_beside-appended.result.share c.self.inside.set c.run_counted.new.set c.counts_since-counts.result.after c.take_share-share.ensures.share c.counts_since-counts.ensures.share c.self.invariant.1
           c.keep_beside-appended.ensures.share c.counts_since-counts.ensures.counts.1
           (as_many g.K.RecordKind.rules g.D.Device.gives c.self.inside.set c.run_counted.new.set c.args.moment c.args.event.now c.in_ok-ran.ran.reply (world_of c.run_counted.new.buffers.store) does (there g at) c.calls_have_laws.ensures.events held.holds.shut),
     )

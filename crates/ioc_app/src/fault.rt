@@ -1,0 +1,42 @@
+//! Why a run ends early.
+use ioc_program::Reason;
+use std::alloc::AllocError;
+use std::fmt;
+
+/// Why a run ends before its last line.
+#[derive(Clone, Copy, Debug, PartialEq, Eq)]
+pub enum RunFault {
+    /// The lines of the records couldn't be written.
+    Write(Reason),
+    /// The journal couldn't be written.
+    Journal(Reason),
+    /// Allocation failed before the first tick.
+    Start,
+    /// Allocation failed at a tick or afterwards.
+    Memory,
+}
+
+/// Converts a failed allocation.
+impl From<AllocError> for RunFault {
+    ghost use Rattle.std.specs.Prelude.{◌≡◌};
+    ghost use Rattle.ioc_app.specs.declared.fault.RunFault.TheVariants.{Memory};
+
+    ghost from_gives = { λ _ fault. fault ≡ Memory };
+
+    fn from(_e: AllocError) -> RunFault {
+        RunFault::Memory
+    }
+}
+
+impl fmt::Display for RunFault {
+    fn fmt<W: fmt::Write>(&self, f: &mut fmt::Formatter<W>) -> fmt::Result {
+        match self {
+            RunFault::Write(reason) => write!(f, "cannot write the records: {reason}"),
+            RunFault::Journal(reason) => write!(f, "cannot write the journal: {reason}"),
+            RunFault::Start => f.write_str("out of memory while loading"),
+            RunFault::Memory => f.write_str("out of memory"),
+        }
+    }
+}
+
+impl std::error::Error for RunFault {}

@@ -1,0 +1,137 @@
+//! The journal's file.
+use crate::fault::RunFault;
+use ioc_app_rules::{add_entries, add_entry};
+use ioc_engine::{Desk, Device, Engine, EngineName, Excerpt, Report};
+use ioc_program::Reason;
+use std::alloc::Global;
+use std::io::Write;
+use std::sync::Wait;
+
+// How many bytes of lines are written at once.
+const BYTES_AT_ONCE: usize = 65_536;
+
+// How many entries are copied at once, while calls wait, and how often after each tick.
+const ENTRIES_AT_ONCE: usize = 256;
+
+const COPIES: usize = 256;
+
+/// Writes the entries of a journal as lines, in the order of their places.
+#[derive(Drop)]
+pub struct JournalWriter<J: Write + Drop> {
+    out: J,
+    // The lines that aren't written yet.
+    text: Vec<u8>,
+    // The place of the next entry.
+    place: u64,
+    // The place of the first entry since the last checkpoint.
+    kept: u64,
+    // The largest number of entries that stay in memory after a tick.
+    most: u64,
+}
+
+impl<J: Write + Drop> JournalWriter<J> {
+    /// Creates a writer that has written no entry. If more than `most` entries are in memory after a
+    /// tick, it drops them.
+    pub fn new(alloc: Global, out: J, most: u64) -> Self {
+        JournalWriter {
+            out,
+            text: Vec::new(alloc),
+            place: 0,
+            kept: 0,
+            most,
+        }
+    }
+
+    // Writes the lines that aren't written yet.
+    fn flush(&mut self) -> Result<(), RunFault> {
+        if let Err(error) = self.out.write_all(&self.text) {
+            return Err(RunFault::Journal(Reason::of(&error)));
+        }
+        self.text.clear();
+        Ok(())
+    }
+
+    // Writes the lines that aren't written yet if there are many.
+    fn flush_many(&mut self) -> Result<(), RunFault> {
+        if self.text.len() < BYTES_AT_ONCE {
+            return Ok(());
+        }
+        self.flush()
+    }
+
+    // Adds the lines of these entries, which follow those before.
+    fn add(&mut self, excerpt: &Excerpt) -> Result<(), RunFault> {
+        self.place = add_entries(&mut self.text, excerpt.first, &excerpt.entries)?;
+        self.flush_many()
+    }
+
+    // Adds the lines of the entries that an engine has beyond those before, and returns whether
+    // there may be more.
+    fn add_new<B: EngineName<D>, D: Device, C: Drop, R: Wait>(
+        &mut self,
+        rt: &R,
+        engine: &Engine<B, D, C>,
+        desk: &mut Desk<B, D>,
+    ) -> Result<bool, RunFault> {
+        let excerpt = engine.entries(rt, desk, self.place, ENTRIES_AT_ONCE)?;
+        self.add(&excerpt)?;
+        Ok(excerpt.entries.len() == ENTRIES_AT_ONCE)
+    }
+
+    // Makes a checkpoint, and writes the entries that leave memory.
+    fn checkpoint<B: EngineName<D>, D: Device, C: Drop, R: Wait>(
+        &mut self,
+        rt: &R,
+        engine: &Engine<B, D, C>,
+        desk: &mut Desk<B, D>,
+    ) -> Result<(), RunFault> {
+        let Ok(excerpt) = engine.checkpoint_from(rt, desk, self.place) else {
+            return Err(RunFault::Memory);
+        };
+        self.add(&excerpt)?;
+        self.kept = self.place;
+        self.flush()
+    }
+
+    /// Writes the entries that an engine has beyond those before, and has it drop them if there are
+    /// many.
+    ///
+    /// # Errors
+    ///
+    /// [`RunFault::Journal`] if a write fails. [`RunFault::Memory`] if allocation fails.
+    pub fn write_new<B: EngineName<D>, D: Device, C: Drop, R: Wait>(
+        &mut self,
+        rt: &R,
+        engine: &Engine<B, D, C>,
+        desk: &mut Desk<B, D>,
+    ) -> Result<(), RunFault> {
+        for _ in 0..COPIES {
+            if !self.add_new(rt, engine, desk)? {
+                break;
+            }
+        }
+        if self.place.saturating_sub(self.kept) > self.most {
+            self.checkpoint(rt, engine, desk)?;
+        }
+        Ok(())
+    }
+
+    /// Writes the entries of a report beyond those before.
+    ///
+    /// # Errors
+    ///
+    /// [`RunFault::Journal`] if a write fails. [`RunFault::Memory`] if allocation fails.
+    pub fn write_rest<B: EngineName<D>, D: Device>(
+        &mut self,
+        report: &Report<B, D>,
+    ) -> Result<(), RunFault> {
+        for place in self.place..u64::MAX {
+            let Some(kept) = report.entry_at(place) else {
+                break;
+            };
+            add_entry(&mut self.text, place, kept)?;
+            self.flush_many()?;
+        }
+        self.flush()
+    }
+}

@@ -1,0 +1,43 @@
+-- What a command line asks for.
+use Rattle.std.specs.Prelude.{◌≡◌, ◌≤◌, ℕ, true, List, [], Some, codes, option_map}
+use Rattle.std.specs.Str.Parse.{digits_value, without_leading_plus}
+use Rattle.clap.specs.Words.{App, Row, Rule, Text, first_of, matches_of, new_rule, with_rule}
+use Rattle.clap.specs.declared.builder.value_parser.ValueParser.TheVariants.{Unsigned}
+use Rattle.ioc_program.specs.CommandLine.{definitions_in, definitions_rule, file_rule, macros_rule, program_app}
+use Rattle.ioc_program.specs.Definitions.{all_defined}
+use Rattle.ioc_app_rules.specs.declared.arguments.Args.{Args}
+
+-- The option of a number from 1 on.
+abbrev pub number_rule : Text → ℕ → Rule
+number_rule name most = record (new_rule name) { long = Some name; value_names = 1; required = true; parser = Some (Unsigned 1 most) }
+
+-- The option of a file.
+abbrev pub file_option_rule : Text → Rule
+file_option_rule name = record (new_rule name) { long = Some name; value_names = 1 }
+
+-- The arguments of the program.
+unfoldable pub ioc_words : App
+ioc_words =
+    with_rule (with_rule (with_rule (with_rule (with_rule (with_rule (program_app (codes "ioc"))
+    (file_rule (codes "DB"))) (number_rule (codes "ticks") 1000000)) (number_rule (codes "workers") 64))
+    (file_option_rule (codes "journal"))) definitions_rule) macros_rule
+
+-- The number that the first value of an option has, which lies between 1 and `most`.
+pub record IsNumber (rows : List Row) (id : Text) (most : ℕ) (number : ℕ) : Type 0 where
+  pub word : Text
+  pub given : first_of id rows ≡ Some word
+  pub value : digits_value 10 (without_leading_plus word) ≡ number
+  pub least : 1 ≤ number
+  pub largest : number ≤ most
+
+-- What the matches ask for.
+pub record IsAskedBy (rows : List Row) (args : Args) : Type 0 where
+  pub database : first_of (codes "DB") rows ≡ Some args.database.now
+  pub ticks : IsNumber rows (codes "ticks") 1000000 args.ticks
+  pub workers : IsNumber rows (codes "workers") 64 args.workers
+  pub journal : first_of (codes "journal") rows ≡ option_map (λ s. s.now) args.journal
+  pub macros : all_defined [] (definitions_in rows) ≡ Some args.macros
+
+-- The same of the words, by what the program makes of them.
+unfoldable pub IsAskedByWords : List Text → Args → Type 0
+IsAskedByWords words args = IsAskedBy (matches_of ioc_words words) args

@@ -1,0 +1,136 @@
+//! The command line of the program.
+use clap::{Arg, ArgAction, Command, value_parser};
+use ioc_dblex::Macros;
+use ioc_program::{
+    Program, Stop, UsageFault, definitions_argument, file_argument, macros_in, macros_option, parse,
+};
+use std::alloc::{AllocError, Global};
+
+/// The program, with its exit statuses behind its arguments.
+pub const PROGRAM: Program = Program {
+    name: "ioc-audit",
+    version: "0.1.0",
+    about: "Loads the database text DB, in which the macros NAME stand for VALUE, \
+        makes the calls of the journal JOURNAL on it again, and tells whether all entries agree.",
+    notes: "\
+An entry agrees if its place and its call number are the next ones, and if the records before it and \
+    the answers of its devices give its reply and use all of these answers.
+
+The exit status: 0 all entries agree, 1 the database is refused, an entry differs or a line is no \
+    entry, 2 the command line is wrong, 3 a file cannot be read or what is found cannot be written, \
+    4 memory ran out",
+};
+
+// The names of arguments.
+const DATABASE: &str = "DB";
+
+const JOURNAL: &str = "JOURNAL";
+
+const AT: &str = "at";
+
+const SHOW: &str = "show";
+
+const TRACE: &str = "trace";
+
+const SETS: &str = "sets";
+
+/// What a command line asks for.
+#[derive(Drop)]
+pub struct Words<'a> {
+    /// The path of the database text.
+    pub database: &'a str,
+    /// The path of the journal.
+    pub journal: &'a str,
+    pub macros: Macros,
+    /// The place of the last entry that is checked, if not all are.
+    pub at: Option<u64>,
+    /// The fields that are shown, each as `REC.F`.
+    pub shown: Vec<&'a str>,
+    /// The name of the record whose changes are shown.
+    pub traced: Option<&'a str>,
+    /// Whether the lock sets are shown.
+    pub sets: bool,
+}
+
+// Returns the options of the command.
+fn with_options<'a>(alloc: Global, command: Command<'a>) -> Result<Command<'a>, AllocError> {
+    command
+        .arg(
+            Arg::new(alloc, AT)
+                .long(AT)
+                .value_name("PLACE")
+                .value_parser(value_parser!(u64))
+                .help("stops after the entry at this place"),
+        )?
+        .arg(
+            Arg::new(alloc, SHOW)
+                .long(SHOW)
+                .value_name("REC.F")
+                .action(ArgAction::Append)
+                .help("shows the field F of the record REC at the end"),
+        )?
+        .arg(
+            Arg::new(alloc, TRACE).long(TRACE).value_name("REC").help(
+                "shows each entry that changes the record REC, and what it changes",
+            ),
+        )?
+        .arg(
+            Arg::new(alloc, SETS)
+                .long(SETS)
+                .action(ArgAction::SetTrue)
+                .help("shows the lock sets at the end"),
+        )
+}
+
+// Returns the command of the program.
+fn command<'a>(alloc: Global) -> Result<Command<'a>, AllocError> {
+    let command = PROGRAM
+        .command(alloc)
+        .arg(file_argument(alloc, DATABASE, "the database text"))?
+        .arg(file_argument(
+            alloc,
+            JOURNAL,
+            "the journal; where it is - it is standard input",
+        ))?
+        .arg(definitions_argument(alloc))?
+        .arg(macros_option(alloc))?;
+    with_options(alloc, command)
+}
+
+impl<'a> Words<'a> {
+    /// Parses the words of a command line: the program's name, DB, JOURNAL, definitions of macros
+    /// and options.
+    ///
+    /// # Errors
+    ///
+    /// [`Stop::Shown`] if the words ask for help or for the version. [`Stop::Refused`] and
+    /// [`Stop::Usage`] if they are wrong. [`Stop::Memory`] if allocation fails.
+    pub fn from_words(alloc: Global, words: &'a [String]) -> Result<Words<'a>, Stop> {
+        let matches = parse(alloc, command(alloc)?, words)?;
+        let (Some(database), Some(journal)) = (matches.get_str(DATABASE), matches.get_str(JOURNAL))
+        else {
+            return Err(Stop::Usage(UsageFault::NoArgument));
+        };
+        let mut shown = Vec::new(alloc);
+        for word in matches.get_strs(SHOW).unwrap_or(&[]) {
+            shown.push(*word).map_err(AllocError::from)?;
+        }
+        Ok(Words {
+            database,
+            journal,
+            macros: macros_in(alloc, &matches)?,
+            at: matches.get_one::<u64>(AT),
+            shown,
+            traced: matches.get_str(TRACE),
+            sets: matches.get_flag(SETS),
+        })
+    }
+
+    /// Returns how many entries are checked at most.
+    pub fn most(&self) -> u64 {
+        match self.at {
+            Some(place) => place.saturating_add(1),
+            None => u64::MAX,
+        }
+    }
+}

@@ -1,0 +1,104 @@
+//! `ioc-audit DB JOURNAL [NAME=VALUE]..`: loads a database text with these macros, makes the entries
+//! of a journal again on it, and tells whether all agree, or which is the first one that doesn't.
+#![tactic(auto)]
+
+mod command;
+mod showing;
+mod telling;
+#[cfg(test)]
+mod tests;
+
+use crate::command::{PROGRAM, Words};
+use crate::showing::{Found, add_shown, found_in};
+use crate::telling::{Telling, told_of};
+use ioc_auditing::{AuditFault, Audited, Auditor, Trace, audit};
+use ioc_dbfile::{Database, load};
+use ioc_program::{
+    Ending, FileRole, Reason, Stage, Stop, given, open, read_whole, show, unreadable,
+};
+use ioc_values::LoadError;
+use std::alloc::Global;
+use std::env;
+use std::io::{self, BufRead, BufReader, BufWriter, Write};
+use std::process::ExitCode;
+
+// Returns why the program stops if an audit did.
+fn stop_of(alloc: Global, fault: AuditFault, journal: &str) -> Stop {
+    match fault {
+        AuditFault::Read(e) => match String::from_str(alloc, journal) {
+            Ok(path) => unreadable(FileRole::Journal, path, &e),
+            Err(_) => Stop::Memory(Stage::Loading),
+        },
+        AuditFault::Write(e) => Stop::Write(Reason::of(&e)),
+        AuditFault::Memory => Stop::Memory(Stage::Loading),
+    }
+}
+
+// Loads the database of a text.
+fn loaded(alloc: Global, words: &Words<'_>, text: &[u8]) -> Result<Database, Stop> {
+    match load(alloc, text, &words.macros) {
+        Ok(database) => Ok(database),
+        Err(LoadError::BadDb(fault)) => Err(Stop::BadDb(fault)),
+        Err(LoadError::NoMemory) => Err(Stop::Memory(Stage::Loading)),
+    }
+}
+
+// Audits a journal, and writes what was asked for.
+fn run<R: BufRead, W: Write>(
+    alloc: Global,
+    words: &Words<'_>,
+    text: &[u8],
+    journal: &mut R,
+    out: &mut W,
+) -> Result<Telling, Stop> {
+    let database = loaded(alloc, words, text)?;
+    let found = found_in(alloc, &database, words)?;
+    let Database { records, .. } = database;
+    let mut auditor = Auditor::new(alloc, records)?;
+    let mut trace = match found.traced {
+        Some(number) => Some(Trace::new(alloc, auditor.map(), number)?),
+        None => None,
+    };
+    let audited = match audit(alloc, &mut auditor, journal, words.most(), &mut trace, out) {
+        Ok(audited) => audited,
+        Err(fault) => return Err(stop_of(alloc, fault, words.journal)),
+    };
+    let mut said = Vec::new(alloc);
+    if let Audited::Agree(count) = &audited {
+        add_shown(alloc, words, &found, auditor.map(), *count, &mut said)?;
+    }
+    match out.write_all(said.as_slice()) {
+        Ok(()) => Ok(told_of(alloc, words.journal, audited)?),
+        Err(e) => Err(Stop::Write(Reason::of(&e))),
+    }
+}
+
+// Does what the words of the command line ask for.
+fn work(rt: &HostRuntime) -> Result<Telling, Stop> {
+    let alloc = rt.alloc();
+    let all = given(alloc, env::args(rt))?;
+    let words = Words::from_words(alloc, all.as_slice())?;
+    let text = read_whole(rt, FileRole::Database, words.database)?;
+    let file = open(rt, FileRole::Journal, words.journal)?;
+    let (Ok(mut journal), Ok(mut out)) = (
+        BufReader::new(alloc, file),
+        BufWriter::new(alloc, io::writer(rt)),
+    ) else {
+        return Err(Stop::Memory(Stage::Loading));
+    };
+    let told = run(alloc, &words, text.as_slice(), &mut journal, &mut out);
+    match out.flush() {
+        Ok(()) => told,
+        Err(e) => match told {
+            Ok(_) => Err(Stop::Write(Reason::of(&e))),
+            Err(stop) => Err(stop),
+        },
+    }
+}
+
+fn main(rt: HostRuntime) -> ExitCode {
+    match work(&rt) {
+        Ok(told) => show(&rt, &told.ending()),
+        Err(stop) => show(&rt, &Ending::of(PROGRAM.name, Err(stop))),
+    }
+}

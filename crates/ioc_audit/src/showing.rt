@@ -1,0 +1,129 @@
+//! What is shown of a database after its last entry.
+use crate::command::{PROGRAM, Words};
+use ioc_auditing::{PlayedMap, add_sets};
+use ioc_dbfile::Database;
+use ioc_dblex::split_at_byte;
+use ioc_fields::{FieldNo, field};
+use ioc_names::RecordNo;
+use ioc_program::Stop;
+use ioc_record::{RecordKind, text_of};
+use ioc_store::Store;
+use ioc_values::IocError;
+use rec_types::Record;
+use std::alloc::{AllocError, Global};
+use std::fmt::Write;
+
+/// A field of a record.
+#[derive(Clone, Copy)]
+pub struct Place {
+    pub record: RecordNo,
+    pub field: FieldNo,
+}
+
+/// What the words of a command line name in a database.
+#[derive(Drop)]
+pub struct Found {
+    pub shown: Vec<Place>,
+    pub traced: Option<RecordNo>,
+}
+
+// Returns the fault of a word that names nothing.
+fn refused(alloc: Global, option: &str, word: &str, error: IocError) -> Stop {
+    let name = PROGRAM.name;
+    let words = error.words();
+    match format!(in alloc; "{name}: --{option} '{word}': {words}\n") {
+        Ok(text) => Stop::Refused(text),
+        Err(_) => Stop::Memory(ioc_program::Stage::Loading),
+    }
+}
+
+// Finds the record with this name.
+fn record_in(database: &Database, name: &[u8]) -> Result<RecordNo, IocError> {
+    match database.names.find(name) {
+        Some(number) => Ok(number),
+        None => Err(IocError::NoRecord),
+    }
+}
+
+// Finds the field that REC.F names.
+fn place_in(database: &Database, word: &str) -> Result<Place, IocError> {
+    let (name, rest) = split_at_byte(b'.', word.as_bytes());
+    let number = record_in(database, name)?;
+    let Some(record) = database.records.get(number.index()) else {
+        return Err(IocError::NoRecord);
+    };
+    let ([_, name @ ..], record_type) = (rest, record.record_type()) else {
+        return Err(IocError::NoField);
+    };
+    match field(record_type, name) {
+        Some(field) => Ok(Place {
+            record: number,
+            field,
+        }),
+        None => Err(IocError::NoField),
+    }
+}
+
+/// Finds what the words of a command line name.
+///
+/// # Errors
+///
+/// [`Stop::Refused`] if there is no such record or field. [`Stop::Memory`] if allocation fails.
+pub fn found_in(alloc: Global, database: &Database, words: &Words<'_>) -> Result<Found, Stop> {
+    let mut shown = Vec::new(alloc);
+    for word in words.shown.as_slice() {
+        match place_in(database, word) {
+            Ok(place) => shown.push(place).map_err(AllocError::from)?,
+            Err(error) => return Err(refused(alloc, "show", word, error)),
+        }
+    }
+    let traced = match words.traced {
+        Some(name) => match record_in(database, name.as_bytes()) {
+            Ok(number) => Some(number),
+            Err(error) => return Err(refused(alloc, "trace", name, error)),
+        },
+        None => None,
+    };
+    Ok(Found { shown, traced })
+}
+
+// Appends the line of a field.
+fn add_field(
+    map: &PlayedMap<Record>,
+    word: &str,
+    place: &Place,
+    out: &mut Vec<u8>,
+) -> Result<(), AllocError> {
+    out.extend_from_slice(word.as_bytes())?;
+    out.push(b' ')?;
+    if map.has(place.record) {
+        let text = text_of(map.record(place.record), place.field);
+        out.extend_from_slice(text.as_slice())?;
+    }
+    out.push(b'\n')?;
+    Ok(())
+}
+
+/// Appends the lines of what was asked for, and how many entries agree.
+///
+/// # Errors
+///
+/// [`AllocError`] if allocation fails.
+pub fn add_shown(
+    alloc: Global,
+    words: &Words<'_>,
+    found: &Found,
+    map: &PlayedMap<Record>,
+    count: u64,
+    out: &mut Vec<u8>,
+) -> Result<(), AllocError> {
+    for (word, place) in words.shown.iter().zip(found.shown.iter()) {
+        add_field(map, word, place, out)?;
+    }
+    if words.sets {
+        add_sets(alloc, map.records(), out)?;
+    }
+    let mut text = String::new(alloc);
+    writeln!(text, "{count} entries agree")?;
+    out.extend_from_slice(text.as_bytes())
+}

@@ -1,0 +1,12 @@
+mod Counting
+mod Following
+mod Cutting
+mod Played
+mod Words
+mod Redone
+mod Relinking
+mod Replaying
+mod Starting
+mod Comparing
+mod Checking
+mod Reading

@@ -1,0 +1,21 @@
+//! Audits of journals: the entries of a journal are made again on one map, each with the answers
+//! that its devices gave, and compared.
+#![tactic(auto)]
+
+mod auditor;
+mod changes;
+mod counts;
+mod difference;
+mod journal;
+mod laws;
+mod played_map;
+mod redo;
+mod same;
+mod sets;
+
+pub use auditor::Auditor;
+pub use changes::Trace;
+pub use difference::Difference;
+pub use journal::{AuditFault, Audited, audit};
+pub use played_map::{PlayedMap, Playing};
+pub use sets::add_sets;

@@ -1,0 +1,6 @@
+use Rattle.ioc_history.specs.Account.{HasSeenMore}
+use Rattle.ioc_engine_core.proofs.engine.EngineCore.checkpoint_from.Given as goal
+
+-- The desk has seen more of the calls of others at each turn.
+abbrev pub invariant-loop : goal.invariant-loop
+invariant-loop g l = HasSeenMore l.fn.desk l.desk

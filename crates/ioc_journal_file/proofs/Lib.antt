@@ -1,0 +1,9 @@
+mod Splitting
+mod NumbersAgain
+mod TextsAgain
+mod ValuesAgain
+mod RepliesAgain
+mod LinksAgain
+mod CallsAgain
+mod Lines
+mod Breaks

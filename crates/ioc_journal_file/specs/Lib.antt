@@ -1,0 +1,10 @@
+pub mod Words
+pub mod Texts
+pub mod Reading
+pub mod Lists
+pub mod Form
+pub mod Parts
+pub mod Calls
+pub mod Fits
+pub mod Lines
+pub mod Breaks

@@ -1,0 +1,162 @@
+use super::*;
+use ioc_dbcommon::{FieldAddress, Lead, LinkField};
+use ioc_device::Answer;
+use ioc_events::{Call, Event, Reply};
+use ioc_fields::{FieldNo, FieldSlot, OwnField};
+use ioc_ledger::Outcome;
+use ioc_links::{Flags, Link, Mode, Target};
+use ioc_names::RecordNo;
+use ioc_notify::NotifyId;
+use ioc_values::{Finished, Input, IocError, Short, Value};
+use std::alloc::Global;
+use std::test::*;
+
+const VAL: FieldNo = FieldNo::Own(OwnField::Val);
+
+// Returns whether the entry has this line, and the line reads back as an entry with the same line.
+fn has_line(
+    alloc: Global,
+    call: &Call,
+    answers: &[Answer],
+    wanted: &[u8],
+) -> Result<bool, LineError> {
+    let mark = Mark {
+        place: 7,
+        desk: 2,
+        call: 3,
+        moment: 1_700_000_000_000_000_000,
+    };
+    let mut out = Vec::new(alloc);
+    print_entry(&mark, call, answers, &mut out)?;
+    let read = parse(out.as_slice(), alloc)?;
+    let mut again = Vec::new(alloc);
+    print(&read, &mut again)?;
+    Ok(out.as_slice() == wanted && again.as_slice() == wanted && read.mark == mark)
+}
+
+#[test]
+fn events(rt: HostRuntime) -> Result<(), LineError> {
+    let put = Event::Put {
+        record: RecordNo::new(5),
+        field: VAL,
+        value: Input::Value(Value::Long(-12)),
+    };
+    assert!(rt;
+        has_line(
+            rt.alloc(),
+            &Call::Event(put, Reply::Outcome(Outcome::Processed)),
+            &[Answer::Done(Value::Int64(-3)), Answer::Fault, Answer::Later],
+            b"7\t2\t3\t1700000000000000000\tput\t5\tVAL\tlong\t-12\tprocessed\t3\tint64\t-3\tfault\tlater\n",
+        )?
+    );
+    let notify = Event::Notify {
+        record: RecordNo::new(0),
+        notification: NotifyId::new(9),
+        field: FieldNo::Own(OwnField::StateText(FieldSlot::N3)),
+        value: Input::LongText(Short::cut(b"a \"b\"\\\t\n")),
+    };
+    assert!(rt;
+        has_line(
+            rt.alloc(),
+            &Call::Event(notify, Reply::Notify(NotifyId::new(9))),
+            &[],
+            b"7\t2\t3\t1700000000000000000\tnotify\t0\t9\tTHST\tlongtext\t\"a \\22b\\22\\5c\\09\\0a\"\tnotify\t9\t0\n",
+        )?
+    );
+    let complete = Event::Complete {
+        record: RecordNo::new(1),
+        wait: 4,
+        finished: Finished::Fault,
+    };
+    assert!(rt;
+        has_line(
+            rt.alloc(),
+            &Call::Event(complete, Reply::Refused(IocError::Stale)),
+            &[],
+            b"7\t2\t3\t1700000000000000000\tcomplete\t1\t4\tfault\tE8 Stale\t0\n",
+        )?
+    );
+    Ok(())
+}
+
+#[test]
+fn other_calls(rt: HostRuntime) -> Result<(), LineError> {
+    assert!(rt;
+        has_line(
+            rt.alloc(),
+            &Call::Get(RecordNo::new(1), VAL, Ok(Short::cut(b"12"))),
+            &[],
+            b"7\t2\t3\t1700000000000000000\tget\t1\tVAL\t\"12\"\t0\n",
+        )?
+    );
+    assert!(rt;
+        has_line(
+            rt.alloc(),
+            &Call::IsLive(NotifyId::new(1), true),
+            &[],
+            b"7\t2\t3\t1700000000000000000\tlive\t1\tyes\t0\n",
+        )?
+    );
+    let link = LinkField {
+        link: Link::Database(
+            Target {
+                record_name: Short::cut(b"b"),
+                field: Short::cut(b"VAL"),
+            },
+            Flags {
+                process_passive: true,
+                mode: Mode::Mss,
+            },
+        ),
+        lead: Lead::Field(FieldAddress {
+            number: RecordNo::new(2),
+            field: VAL,
+        }),
+    };
+    assert!(rt;
+        has_line(
+            rt.alloc(),
+            &Call::Link(RecordNo::new(1), FieldNo::Own(OwnField::Inp), link, Ok(())),
+            &[],
+            b"7\t2\t3\t1700000000000000000\tlink\t1\tINP\tdatabase\t\"b\"\t\"VAL\"\tPP\tMSS\tto\t2\tVAL\tdone\t0\n",
+        )?
+    );
+    Ok(())
+}
+
+#[test]
+fn calls_without_records(rt: HostRuntime) -> Result<(), LineError> {
+    assert!(rt;
+        has_line(
+            rt.alloc(),
+            &Call::Post(Short::cut(b"end of fill"), 3),
+            &[],
+            b"7\t2\t3\t1700000000000000000\tpost\t\"end of fill\"\t3\t0\n",
+        )?
+    );
+    assert!(rt;
+        has_line(
+            rt.alloc(),
+            &Call::Interrupt(Short::cut(b"card 1"), 0),
+            &[],
+            b"7\t2\t3\t1700000000000000000\tinterrupt\t\"card 1\"\t0\t0\n",
+        )?
+    );
+    Ok(())
+}
+
+#[test]
+fn no_lines(rt: HostRuntime) {
+    for line in [
+        b"".as_slice(),
+        b"\n",
+        b"7\t2\t3\t17\tlive\t1\tyes\t0",
+        b"7\t2\t3\t17\tlive\t1\tyes\t0\n\n",
+        b"07\t2\t3\t17\tlive\t1\tyes\t0\n",
+        b"7\t2\t3\t17\tlive\t1\tmaybe\t0\n",
+        b"7\t2\t3\t17\tlive\t1\tyes\t1\n",
+        b"7\t2\t3\t17\tget\t1\tVAL\t\"12\t0\n",
+    ] {
+        assert!(rt; matches!(parse(line, rt.alloc()), Err(LineError::NotALine)));
+    }
+}
