@@ -1,19 +1,30 @@
-//! `ioc DB --ticks N --workers W [NAME=VALUE]..`: loads a database text with these macros, scans its
+//! `ioc DB --ticks N --workers W [NAME=VALUE]..` loads a database text with these macros, scans its
 //! records in one thread while others serve the requests that wait, and prints a line for each
-//! record.
+//! record. With `--console` in place of the ticks it answers lines of standard input.
 #![tactic(auto)]
 
-use ioc_app::{Args, Outputs, PROGRAM, RunFault, counting_devices, ioc_args, ioc_run};
+use ioc_app::{
+    Args, Console, Mode, Outputs, PROGRAM, Plant, RunFault, Ticks, counting_devices, ioc_args,
+    ioc_run,
+};
 use ioc_engine::{Database, LoadError, SystemClock, load};
 use ioc_program::{Ending, FileRole, Reason, Stage, Stop, given, read_whole, show};
 use std::alloc::{Alloc, Global};
 use std::env;
 use std::fs::{File, Files};
-use std::io::{self, Print};
+use std::io::{self, BufReader, IsTerminal, Print, Read, Write};
 use std::process::ExitCode;
 use std::sync::Wait;
 use std::thread::Threads;
 use std::time::Clock;
+
+// What a console reads from, and where it writes the numbers of lines.
+#[derive(Drop)]
+struct Terminal<I: Read + Drop, E: Write + Drop> {
+    input: I,
+    errors: E,
+    has_prompt: bool,
+}
 
 // Loads the database text.
 fn loaded<R: Files + Alloc<A = Global>>(rt: &R, args: &Args<'_>) -> Result<Database, Stop> {
@@ -47,9 +58,18 @@ fn unwritable(alloc: Global, path: &str, reason: Reason) -> Stop {
     }
 }
 
+// Returns why the program stops if the lines of a console can't be read.
+fn unreadable(alloc: Global, reason: Reason) -> Stop {
+    match String::from_str(alloc, "-") {
+        Ok(path) => Stop::Unreadable(FileRole::Script, path, reason),
+        Err(_) => Stop::Memory(Stage::Run),
+    }
+}
+
 // Returns why the program stops if its run has ended early.
 fn stop_of(alloc: Global, fault: RunFault, args: &Args<'_>) -> Stop {
     match fault {
+        RunFault::Read(reason) => unreadable(alloc, reason),
         RunFault::Write(reason) => Stop::Write(reason),
         RunFault::Journal(reason) => unwritable(alloc, args.journal.unwrap_or(""), reason),
         RunFault::Start => Stop::Memory(Stage::Loading),
@@ -57,26 +77,71 @@ fn stop_of(alloc: Global, fault: RunFault, args: &Args<'_>) -> Stop {
     }
 }
 
-// Does what the words of the command line ask for.
-fn run<R: Alloc<A = Global> + Clock + Files + Print + Threads + Wait + Sync>(
-    rt: &R,
-    words: io::Result<env::Args>,
-) -> Result<(), Stop> {
-    let words = given(rt.alloc(), words)?;
-    let args = ioc_args(rt.alloc(), words.as_slice())?;
-    let database = loaded(rt, &args)?;
-    let devices = counting_devices(rt.alloc(), &database)?;
+// Creates the console of a terminal.
+fn console_of<I: Read + Drop, E: Write + Drop>(
+    alloc: Global,
+    database: &Database,
+    terminal: Terminal<I, E>,
+) -> Result<Console<BufReader<I>, E>, Stop> {
+    let Terminal {
+        input,
+        errors,
+        has_prompt,
+    } = terminal;
+    let Ok(input) = BufReader::new(alloc, input) else {
+        return Err(Stop::Memory(Stage::Loading));
+    };
+    Ok(Console::new(alloc, database, input, errors, has_prompt)?)
+}
+
+// Runs what the words of the command line ask for.
+fn work<
+    R: Alloc<A = Global> + Clock + Files + Print + Threads + Wait + Sync,
+    I: Read + Drop,
+    E: Write + Drop,
+>(rt: &R, args: &Args<'_>, terminal: Terminal<I, E>) -> Result<(), Stop> {
+    let alloc = rt.alloc();
+    let database = loaded(rt, args)?;
+    let mut console = console_of(alloc, &database, terminal)?;
+    let plant = Plant {
+        devices: counting_devices(alloc, &database)?,
+        database,
+        clock: SystemClock::new(rt),
+        workers: args.workers,
+    };
     let outputs = Outputs {
         lines: io::writer(rt),
-        journal: journal_of(rt, &args)?,
+        journal: journal_of(rt, args)?,
     };
-    let clock = SystemClock::new(rt);
-    match ioc_run(rt, rt.alloc(), database, devices, clock, &args, outputs) {
+    let ran = match args.mode {
+        Mode::Ticks(count) => ioc_run(rt, alloc, plant, &mut Ticks(count), outputs),
+        Mode::Console => ioc_run(rt, alloc, plant, &mut console, outputs),
+    };
+    match ran {
         Ok(()) => Ok(()),
-        Err(fault) => Err(stop_of(rt.alloc(), fault, &args)),
+        Err(fault) => Err(stop_of(alloc, fault, args)),
     }
 }
 
+// Does what the words of the command line ask for.
+fn run<
+    R: Alloc<A = Global> + Clock + Files + Print + Threads + Wait + Sync,
+    I: Read + Drop,
+    E: Write + Drop,
+>(rt: &R, words: io::Result<env::Args>, terminal: Terminal<I, E>) -> Result<(), Stop> {
+    let words = given(rt.alloc(), words)?;
+    let args = ioc_args(rt.alloc(), words.as_slice())?;
+    work(rt, &args, terminal)
+}
+
 fn main(rt: HostRuntime) -> ExitCode {
-    show(&rt, &Ending::of(PROGRAM.name, run(&rt, env::args(&rt))))
+    let terminal = Terminal {
+        input: rt.stdin(),
+        errors: rt.stderr(),
+        has_prompt: rt.stdin().is_terminal(),
+    };
+    show(
+        &rt,
+        &Ending::of(PROGRAM.name, run(&rt, env::args(&rt), terminal)),
+    )
 }

@@ -6,13 +6,15 @@ use std::fmt;
 /// Why a run ends before its last line.
 #[derive(Clone, Copy, Debug, PartialEq, Eq)]
 pub enum RunFault {
-    /// The lines of the records couldn't be written.
+    /// The input of a console couldn't be read.
+    Read(Reason),
+    /// Replies or the lines of the records couldn't be written.
     Write(Reason),
     /// The journal couldn't be written.
     Journal(Reason),
-    /// Allocation failed before the first tick.
+    /// Allocation failed before the task began.
     Start,
-    /// Allocation failed at a tick or afterwards.
+    /// Allocation failed in the task or afterwards.
     Memory,
 }
 
@@ -31,6 +33,7 @@ impl From<AllocError> for RunFault {
 impl fmt::Display for RunFault {
     fn fmt<W: fmt::Write>(&self, f: &mut fmt::Formatter<W>) -> fmt::Result {
         match self {
+            RunFault::Read(reason) => write!(f, "cannot read the lines: {reason}"),
             RunFault::Write(reason) => write!(f, "cannot write the records: {reason}"),
             RunFault::Journal(reason) => write!(f, "cannot write the journal: {reason}"),
             RunFault::Start => f.write_str("out of memory while loading"),

@@ -78,8 +78,12 @@ impl<J: Write + Drop> JournalWriter<J> {
         Ok(excerpt.entries.len() == ENTRIES_AT_ONCE)
     }
 
-    // Makes a checkpoint, and writes the entries that leave memory.
-    fn checkpoint<B: EngineName<D>, D: Device, C: Drop, R: Wait>(
+    /// Makes a checkpoint, and writes the entries that leave memory.
+    ///
+    /// # Errors
+    ///
+    /// [`RunFault::Journal`] if a write fails. [`RunFault::Memory`] if allocation fails.
+    pub fn checkpoint<B: EngineName<D>, D: Device, C: Drop, R: Wait>(
         &mut self,
         rt: &R,
         engine: &Engine<B, D, C>,

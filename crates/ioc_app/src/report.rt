@@ -1,10 +1,10 @@
 //! What is written at the end of a run.
 use crate::fault::RunFault;
 use crate::journal::JournalWriter;
+use crate::streams::Streams;
 use ioc_app_rules::add_line;
 use ioc_engine::{Device, EngineName, Report, StoppedRecord};
 use ioc_main::tally_line;
-use ioc_program::Reason;
 use std::alloc::{AllocError, Global};
 use std::io::Write;
 
@@ -23,24 +23,16 @@ fn lines_of<B: EngineName<D>, D: Device>(
     report: Report<B, D>,
 ) -> Result<Vec<u8>, AllocError> {
     let tally = report.tally();
-    let dropped = report.dropped().saturating_add(report.requests_dropped());
+    let undone = report
+        .items_undone()
+        .saturating_add(report.requests_dropped());
+    let dropped = report.dropped().saturating_add(undone);
     let mut records = report.into_records(alloc)?;
     records.sort_unstable_by_key(|stopped| stopped.number.index());
     let mut lines = Vec::new(alloc);
     add_lines(&mut lines, &records)?;
     lines.extend_from_slice(tally_line(&tally, dropped).as_slice())?;
     Ok(lines)
-}
-
-// Writes all of a text.
-fn write_text<W: Write>(out: &mut W, text: &[u8]) -> Result<(), RunFault> {
-    if let Err(error) = out.write_all(text) {
-        return Err(RunFault::Write(Reason::of(&error)));
-    }
-    match out.flush() {
-        Ok(()) => Ok(()),
-        Err(error) => Err(RunFault::Write(Reason::of(&error))),
-    }
 }
 
 // Writes the entries of a report's journal that aren't written yet, if the journal is kept.
@@ -60,19 +52,23 @@ fn write_journal<B: EngineName<D>, D: Device, J: Write + Drop>(
 /// # Errors
 ///
 /// Why the run has ended early. [`RunFault::Journal`] or [`RunFault::Write`] if a write fails.
-/// [`RunFault::Memory`] if allocation fails.
-pub fn end<B: EngineName<D>, D: Device, W: Write, J: Write + Drop>(
+/// [`RunFault::Memory`] if allocation fails, or has failed for a request of a scan, which was left
+/// out then.
+pub fn end<B: EngineName<D>, D: Device, W: Write + Drop, J: Write + Drop>(
     alloc: Global,
     report: Report<B, D>,
     ran: Result<(), RunFault>,
-    out: &mut W,
-    journal: &mut Option<JournalWriter<J>>,
+    streams: &mut Streams<W, J>,
 ) -> Result<(), RunFault> {
     let kept = match ran {
-        Ok(()) => write_journal(&report, journal),
+        Ok(()) => write_journal(&report, &mut streams.journal),
         Err(fault) => Err(fault),
     };
+    let is_complete = report.refused() == 0;
     let lines = lines_of(alloc, report);
     kept?;
-    write_text(out, &lines?)
+    if !is_complete {
+        return Err(RunFault::Memory);
+    }
+    streams.write(&lines?)
 }

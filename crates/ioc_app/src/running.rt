@@ -4,10 +4,9 @@ ghost use Rattle.ioc_engine.specs.Named.{IsNamedBy};
 use crate::fault::RunFault;
 use crate::journal::JournalWriter;
 use crate::report::end;
-use ioc_app_rules::{Args, periods_of};
-use ioc_engine::{
-    Clock, Database, Desk, Device, DeviceName, Engine, EngineName, IocError, Limits, Seed,
-};
+use crate::streams::Streams;
+use crate::task::{Task, fault_of};
+use ioc_engine::{Clock, Database, Desk, Device, DeviceName, Engine, EngineName, Limits, Seed};
 use std::alloc::Global;
 use std::io::Write;
 use std::marker::Brand;
@@ -20,52 +19,21 @@ const PLACES: u64 = 4_194_304;
 // The number of requests that can wait at the same time.
 const MAX_WAITING: usize = 7_000;
 
+/// What a run works with: the records of a loaded database, their devices, the clock, and the number
+/// of threads that serve requests.
+#[derive(Drop)]
+pub struct Plant<D: Drop, C: Drop> {
+    pub database: Database,
+    pub devices: Vec<(DeviceName, D)>,
+    pub clock: C,
+    pub workers: u64,
+}
+
 /// Where a run writes to: the lines of the records, and the journal if it is kept.
 #[derive(Drop)]
 pub struct Outputs<W: Write + Drop, J: Write + Drop> {
     pub lines: W,
     pub journal: Option<J>,
-}
-
-// Returns the fault of a call that the engine refused. No call is refused for another reason than
-// memory before the engine is closed.
-fn fault_of(_refused: IocError) -> RunFault {
-    RunFault::Memory
-}
-
-// Walks the periods of one tick.
-fn tick<B: EngineName<D>, D: Device, C: Clock + Drop, R: Wait>(
-    rt: &R,
-    alloc: Global,
-    engine: &Engine<B, D, C>,
-    desk: &mut Desk<B, D>,
-    number: u64,
-) -> Result<(), RunFault> {
-    for choice in periods_of(alloc, number)? {
-        if let Err(refused) = engine.scan(rt, desk, choice) {
-            return Err(fault_of(refused));
-        }
-    }
-    Ok(())
-}
-
-// Walks the periods of all ticks. After each tick it writes what is new in the journal, if that is
-// kept.
-fn scan_all<B: EngineName<D>, D: Device, C: Clock + Drop, J: Write + Drop, R: Wait>(
-    rt: &R,
-    alloc: Global,
-    engine: &Engine<B, D, C>,
-    desk: &mut Desk<B, D>,
-    ticks: u64,
-    journal: &mut Option<JournalWriter<J>>,
-) -> Result<(), RunFault> {
-    for number in 1..=ticks {
-        tick(rt, alloc, engine, desk, number)?;
-        if let Some(writer) = journal {
-            writer.write_new(rt, engine, desk)?;
-        }
-    }
-    Ok(())
 }
 
 // Serves the requests that wait, until none does or many were served.
@@ -81,22 +49,30 @@ fn serve_waiting<B: EngineName<D>, D: Device, C: Clock + Drop, R: Wait>(
     }
 }
 
-// Walks the periods of all ticks, serves the requests that wait then, and closes the engine.
-fn scan_and_close<B: EngineName<D>, D: Device, C: Clock + Drop, J: Write + Drop, R: Wait>(
+// Does a task, serves the requests that wait then, and closes the engine.
+fn work_and_close<
+    B: EngineName<D>,
+    D: Device,
+    C: Clock + Drop,
+    T: Task,
+    W: Write + Drop,
+    J: Write + Drop,
+    R: Wait,
+>(
     rt: &R,
     alloc: Global,
     engine: &Engine<B, D, C>,
     desk: Desk<B, D>,
-    ticks: u64,
-    journal: &mut Option<JournalWriter<J>>,
+    task: &mut T,
+    streams: &mut Streams<W, J>,
 ) -> Result<(), RunFault> {
     let mut desk = desk;
-    let scanned = scan_all(rt, alloc, engine, &mut desk, ticks, journal);
-    if scanned.is_ok() {
+    let worked = task.work(rt, alloc, engine, &mut desk, streams);
+    if worked.is_ok() {
         serve_waiting(rt, engine, &mut desk);
     }
     engine.close(rt);
-    scanned
+    worked
 }
 
 // Opens this many desks.
@@ -145,32 +121,34 @@ fn serve_all<
     Ok(())
 }
 
-// Scans in one thread, while others serve the requests that wait.
+// Does a task in one thread, while others serve the requests that wait.
 fn in_threads<
     B: EngineName<D> + Send + Sync,
     D: Device + Send + Sync,
     C: Clock + Drop + Send + Sync,
+    T: Task,
+    W: Write + Drop,
     J: Write + Drop,
     R: Threads + Wait + Sync,
 >(
     rt: &R,
     alloc: Global,
     engine: &Engine<B, D, C>,
-    args: &Args<'_>,
-    journal: &mut Option<JournalWriter<J>>,
+    workers: u64,
+    task: &mut T,
+    streams: &mut Streams<W, J>,
 ) -> Result<(), RunFault> {
-    let scanner = match engine.desk(rt) {
+    let desk = match engine.desk(rt) {
         Ok(desk) => desk,
         Err(refused) => return Err(fault_of(refused)),
     };
-    let workers = desks(rt, alloc, engine, args.workers)?;
-    let ticks = args.ticks;
-    let (served, scanned) = thread::join(
+    let workers = desks(rt, alloc, engine, workers)?;
+    let (served, worked) = thread::join(
         rt,
         || serve_all(rt, engine, workers),
-        || scan_and_close(rt, alloc, engine, scanner, ticks, journal),
+        || work_and_close(rt, alloc, engine, desk, task, streams),
     );
-    scanned?;
+    worked?;
     served
 }
 
@@ -199,75 +177,85 @@ fn work<
     B: EngineName<D> + Send + Sync,
     D: Device + Send + Sync,
     C: Clock + Drop + Send + Sync,
-    W: Write,
-    J: Write + Drop,
-    R: Threads + Wait + Sync,
->(
-    rt: &R,
-    alloc: Global,
-    seed: Seed<D>,
-    clock: C,
-    args: &Args<'_>,
-    lines: &mut W,
-    journal: &mut Option<JournalWriter<J>>,
-) -> Result<(), RunFault>
-    requires named { IsNamedBy B.table B.base B.devices B.places B.tickets B.counts seed }
-{
-    let limits = limits(journal.is_some());
-    let Ok(engine) = Engine::<B, D, C>::start(rt, alloc, seed, clock, limits) else {
-        return Err(RunFault::Start);
-    };
-    let ran = in_threads(rt, alloc, &engine, args, journal);
-    end(alloc, engine.stop(rt), ran, lines, journal)
-}
-
-// Runs an engine, and returns what it leaves.
-fn run<
-    D: Device + Send + Sync,
-    C: Clock + Drop + Send + Sync,
-    W: Write,
-    J: Write + Drop,
-    R: Threads + Wait + Sync,
->(
-    rt: &R,
-    alloc: Global,
-    seed: Seed<D>,
-    clock: C,
-    args: &Args<'_>,
-    lines: &mut W,
-    journal: &mut Option<JournalWriter<J>>,
-) -> Result<(), RunFault> {
-    work::<Brand, D, C, W, J, R>(rt, alloc, seed, clock, args, lines, journal)
-}
-
-/// Scans the records of a database with these devices for as many ticks as the arguments ask for,
-/// without waiting between them, while as many threads serve the requests that wait. Then it writes
-/// a line for each record, in the order of the database text, and the line of the counts of
-/// requests. If the journal is kept, each of its entries is a line of its file.
-///
-/// # Errors
-///
-/// [`RunFault::Start`] if allocation fails before the first tick, and [`RunFault::Memory`] if it
-/// fails later. [`RunFault::Journal`] or [`RunFault::Write`] if a write fails.
-pub fn ioc_run<
-    D: Device + Send + Sync,
-    C: Clock + Drop + Send + Sync,
+    T: Task,
     W: Write + Drop,
     J: Write + Drop,
     R: Threads + Wait + Sync,
 >(
     rt: &R,
     alloc: Global,
-    database: Database,
-    devices: Vec<(DeviceName, D)>,
+    seed: Seed<D>,
     clock: C,
-    args: &Args<'_>,
+    workers: u64,
+    task: &mut T,
+    streams: &mut Streams<W, J>,
+) -> Result<(), RunFault>
+    requires named { IsNamedBy B.table B.base B.devices B.places B.tickets B.counts seed }
+{
+    let limits = limits(streams.journal.is_some());
+    let Ok(engine) = Engine::<B, D, C>::start(rt, alloc, seed, clock, limits) else {
+        return Err(RunFault::Start);
+    };
+    let ran = in_threads(rt, alloc, &engine, workers, task, streams);
+    end(alloc, engine.stop(rt), ran, streams)
+}
+
+// Runs an engine, and returns what it leaves.
+fn run<
+    D: Device + Send + Sync,
+    C: Clock + Drop + Send + Sync,
+    T: Task,
+    W: Write + Drop,
+    J: Write + Drop,
+    R: Threads + Wait + Sync,
+>(
+    rt: &R,
+    alloc: Global,
+    seed: Seed<D>,
+    clock: C,
+    workers: u64,
+    task: &mut T,
+    streams: &mut Streams<W, J>,
+) -> Result<(), RunFault> {
+    work::<Brand, D, C, T, W, J, R>(rt, alloc, seed, clock, workers, task, streams)
+}
+
+/// Does a task with the records of a database, while as many threads serve the requests that wait.
+/// Then it writes a line for each record, in the order of the database text, and the line of the
+/// counts of requests. If the journal is kept, each of its entries is a line of its file.
+///
+/// # Errors
+///
+/// [`RunFault::Start`] if allocation fails before the task begins, and [`RunFault::Memory`] if it
+/// fails later. [`RunFault::Journal`] or [`RunFault::Write`] if a write fails, and
+/// [`RunFault::Read`] if a read of the task fails.
+pub fn ioc_run<
+    D: Device + Send + Sync,
+    C: Clock + Drop + Send + Sync,
+    T: Task,
+    W: Write + Drop,
+    J: Write + Drop,
+    R: Threads + Wait + Sync,
+>(
+    rt: &R,
+    alloc: Global,
+    plant: Plant<D, C>,
+    task: &mut T,
     outputs: Outputs<W, J>,
 ) -> Result<(), RunFault> {
-    let Outputs { mut lines, journal } = outputs;
-    let mut journal = writer_of(alloc, journal);
+    let Plant {
+        database,
+        devices,
+        clock,
+        workers,
+    } = plant;
+    let Outputs { lines, journal } = outputs;
+    let mut streams = Streams {
+        lines,
+        journal: writer_of(alloc, journal),
+    };
     let Ok(seed) = Seed::new(alloc, database, devices) else {
         return Err(RunFault::Start);
     };
-    run(rt, alloc, seed, clock, args, &mut lines, &mut journal)
+    run(rt, alloc, seed, clock, workers, task, &mut streams)
 }

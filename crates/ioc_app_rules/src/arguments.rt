@@ -1,12 +1,13 @@
 //! The command line of the program `ioc`.
-ghost use Rattle.std.specs.Prelude.{◌≡◌, ◌≤◌, false, map, codes, IfOk, IfErr};
+ghost use Rattle.std.specs.Prelude.{◌≡◌, ◌≤◌, ℕ, true, false, map, codes, IfOk, IfErr};
 ghost use Rattle.std.specs.String.{string_bytes};
 ghost use Rattle.clap.specs.Words.{app_of, found_of, rows_of, rule_of};
 ghost use Rattle.ioc_program.specs.CommandLine.{program_app};
-ghost use Rattle.ioc_app_rules.specs.Arguments.{IsNumber, IsAskedBy, IsAskedByWords, ioc_words, number_rule, file_option_rule};
+ghost use Rattle.ioc_app_rules.specs.Arguments.{IsNumber, IsMode, IsAskedBy, IsAskedByWords, ioc_words, number_rule, ticks_rule, console_rule, workers_rule, file_option_rule};
+ghost use Rattle.ioc_app_rules.specs.declared.arguments.Mode.TheVariants.{Ticks};
 
 use clap::builder::ValueParser;
-use clap::{Arg, ArgMatches, Command};
+use clap::{Arg, ArgAction, ArgMatches, Command};
 use ioc_dblex::Macros;
 use ioc_program::{
     Program, Stop, UsageFault, definitions_argument, file_argument, macros_in, macros_option, parse,
@@ -18,11 +19,14 @@ pub const PROGRAM: Program = Program {
     name: "ioc",
     version: "0.1.0",
     about: "Loads the database text DB, in which the macros NAME stand for VALUE, scans its records \
-        for so many ticks of a tenth of a second, without waiting between them, while worker \
-        threads serve the requests that wait, and prints a line for each record and the counts of \
-        requests.",
+        for so many ticks of a tenth of a second, without waiting between them, or answers lines of \
+        standard input, while worker threads serve the requests that wait, and prints a line for \
+        each record and the counts of requests.",
     notes: "\
 The line of a record: its name, VAL, STAT, SEVR, and its time stamp.
+
+The line help of a console prints its lines. Standard error has the number of each line that is \
+    refused, unless standard input is a terminal.
 
 Each device link @TEXT has a device that counts its reads: the first gives 1, the next 2.
 
@@ -43,7 +47,18 @@ const TICKS: &str = "ticks";
 
 const WORKERS: &str = "workers";
 
+const CONSOLE: &str = "console";
+
 const JOURNAL: &str = "journal";
+
+/// What the program does with the records.
+#[derive(Clone, Copy, Debug, PartialEq, Eq)]
+pub enum Mode {
+    /// Walks the periods of so many ticks, from 1 to [`MAX_TICKS`].
+    Ticks(u64),
+    /// Answers the lines of standard input.
+    Console,
+}
 
 /// What the words of a command line ask for.
 ///
@@ -56,8 +71,7 @@ pub struct Args<'a> {
     /// The path of the database text.
     pub database: &'a str,
     pub macros: Macros,
-    /// From 1 to [`MAX_TICKS`].
-    pub ticks: u64,
+    pub mode: Mode,
     /// From 1 to [`MAX_WORKERS`].
     pub workers: u64,
     /// The path of the file to which the journal is written.
@@ -72,9 +86,38 @@ fn number_option<'a>(alloc: Global, name: &'a str, most: u64, help: &'a str) -> 
     Arg::new(alloc, name)
         .long(name)
         .value_name("N")
-        .required(true)
         .value_parser(ValueParser::unsigned(1, most))
         .help(help)
+}
+
+// Returns the option of the ticks, which is given exactly if there is no console.
+fn ticks_option<'a>(alloc: Global) -> Result<Arg<'a>, AllocError>
+    ensures rule { IfOk result (λ a. rule_of a ≡ ticks_rule) }
+    ensures local { IfOk result (λ a. a.global ≡ false) }
+{
+    number_option(alloc, TICKS, MAX_TICKS, "how many ticks")
+        .required_unless_present(CONSOLE)?
+        .conflicts_with(CONSOLE)
+}
+
+// Returns the flag of the console.
+fn console_flag<'a>(alloc: Global) -> Arg<'a>
+    ensures rule { rule_of result ≡ console_rule }
+    ensures local { result.global ≡ false }
+{
+    Arg::new(alloc, CONSOLE)
+        .long(CONSOLE)
+        .action(ArgAction::SetTrue)
+        .help("answers the lines of standard input, in place of ticks")
+}
+
+// Returns the option of the workers.
+fn workers_option<'a>(alloc: Global) -> Arg<'a>
+    ensures rule { rule_of result ≡ workers_rule }
+    ensures local { result.global ≡ false }
+{
+    let help = "how many threads serve the requests that wait";
+    number_option(alloc, WORKERS, MAX_WORKERS, help).required(true)
 }
 
 // Returns the option of a file.
@@ -96,13 +139,9 @@ fn command<'a>(alloc: Global) -> Result<Command<'a>, AllocError>
     PROGRAM
         .command(alloc)
         .arg(file_argument(alloc, DATABASE, "the database text"))?
-        .arg(number_option(alloc, TICKS, MAX_TICKS, "how many ticks"))?
-        .arg(number_option(
-            alloc,
-            WORKERS,
-            MAX_WORKERS,
-            "how many threads serve the requests that wait",
-        ))?
+        .arg(ticks_option(alloc)?)?
+        .arg(console_flag(alloc))?
+        .arg(workers_option(alloc))?
         .arg(file_option(alloc, JOURNAL, "the journal is written to this file"))?
         .arg(definitions_argument(alloc))?
         .arg(macros_option(alloc))
@@ -121,6 +160,16 @@ fn number_in(matches: &ArgMatches<'_>, id: &str, most: u64) -> Result<u64, Stop>
     }
 }
 
+// Returns what the program does with the records.
+fn mode_in(matches: &ArgMatches<'_>) -> Result<Mode, Stop>
+    ensures { IfOk result (IsMode (rows_of (found_of matches.now))) }
+{
+    match matches.get_str(CONSOLE) {
+        Some("true") => Ok(Mode::Console),
+        _ => Ok(Mode::Ticks(number_in(matches, TICKS, MAX_TICKS)?)),
+    }
+}
+
 // Returns what the matches ask for.
 fn read<'a>(alloc: Global, matches: &ArgMatches<'a>) -> Result<Args<'a>, Stop>
     ensures { IfOk result (IsAskedBy (rows_of (found_of matches.now))) }
@@ -128,20 +177,20 @@ fn read<'a>(alloc: Global, matches: &ArgMatches<'a>) -> Result<Args<'a>, Stop>
     let Some(database) = matches.get_str(DATABASE) else {
         return Err(Stop::Usage(UsageFault::NoArgument));
     };
-    let ticks = number_in(matches, TICKS, MAX_TICKS)?;
+    let mode = mode_in(matches)?;
     let workers = number_in(matches, WORKERS, MAX_WORKERS)?;
     let macros = macros_in(alloc, matches)?;
     Ok(Args {
         database,
         macros,
-        ticks,
+        mode,
         workers,
         journal: matches.get_str(JOURNAL),
     })
 }
 
-/// Reads the words of a command line, of which the first is the program's name: DB, `--ticks N`,
-/// `--workers W`, `--journal FILE`, and definitions of macros, as `NAME=VALUE`, `P=a,R=b`, or with
+/// Reads the words of a command line, of which the first is the program's name: DB, `--ticks N` or
+/// `--console`, `--workers W`, `--journal FILE`, and definitions of macros, as `NAME=VALUE`, `P=a,R=b`, or with
 /// `-m` before them.
 ///
 /// # Errors
@@ -149,7 +198,7 @@ fn read<'a>(alloc: Global, matches: &ArgMatches<'a>) -> Result<Args<'a>, Stop>
 /// [`Stop::Shown`] if the words ask for help or for the version. [`Stop::Refused`] and
 /// [`Stop::Usage`] if they are wrong. [`Stop::Memory`] if allocation fails.
 pub fn ioc_args<'a>(alloc: Global, words: &'a [String]) -> Result<Args<'a>, Stop>
-    ensures ticks { IfOk result (λ a. (1 ≤ a.ticks) × (a.ticks ≤ 1_000_000)) }
+    ensures ticks { IfOk result (λ a. (n : ℕ) → a.mode ≡ Ticks n → (1 ≤ n) × (n ≤ 1_000_000)) }
     ensures workers { IfOk result (λ a. (1 ≤ a.workers) × (a.workers ≤ 64)) }
     ensures asked { IfOk result (IsAskedByWords (map string_bytes words.entry.now)) }
 {

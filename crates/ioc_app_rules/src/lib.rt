@@ -9,7 +9,7 @@ mod lines;
 mod moment;
 mod ticks;
 
-pub use arguments::{Args, MAX_TICKS, MAX_WORKERS, PROGRAM, ioc_args};
+pub use arguments::{Args, MAX_TICKS, MAX_WORKERS, Mode, PROGRAM, ioc_args};
 pub use device::{CountingDevice, counting_devices};
 pub use journal_lines::{add_entries, add_entry};
 pub use lines::add_line;

@@ -1,8 +1,9 @@
 -- All records in one map, whose devices give the answers of a list.
 use Rattle.std.specs.Prelude.{ℕ, Some}
 use Rattle.ioc_store.specs.Given.{Given, calls_of}
-use Rattle.ioc_store.specs.OneMap.{world_of as world_of_map, with_record as with_record_of_map}
+use Rattle.ioc_store.specs.OneMap.{world_of as world_of_map, with_record as with_record_of_map, with_follow_ups as with_follow_ups_of_map}
 use Rattle.ioc_store.specs.World.{World}
+use Rattle.ioc_store.specs.declared.event_store.FollowUps.{FollowUps}
 use Rattle.ioc_device.specs.declared.Answer.{Answer}
 use Rattle.std.specs.Prelude.{List}
 use Rattle.ioc_auditing.specs.declared.played_map.PlayedMap.{PlayedMap}
@@ -17,3 +18,6 @@ module _ {R : Type 0} where
 
   abbrev pub with_record : PlayedMap R → ℕ → R → PlayedMap R
   with_record s n r = record s { map = with_record_of_map s.map n r }
+
+  abbrev pub with_follow_ups : PlayedMap R → FollowUps → PlayedMap R
+  with_follow_ups s f = record s { map = with_follow_ups_of_map s.map f }

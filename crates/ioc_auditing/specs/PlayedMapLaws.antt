@@ -1,9 +1,11 @@
 -- The laws of the map as a store.
 use Rattle.std.specs.Prelude.{◌≡◌, ℕ, refl}
 use Rattle.ioc_store.specs.OneMapLaws.{with_record-world as with_record-world_of_map}
+use Rattle.ioc_store.specs.declared.event_store.FollowUps.{FollowUps}
+use Rattle.ioc_store.specs.FollowUps.{followed_by}
 use Rattle.ioc_store.specs.World.{Has, put}
 use Rattle.ioc_auditing.specs.declared.played_map.PlayedMap.{PlayedMap}
-use Rattle.ioc_auditing.specs.PlayedMap.{world_of, given_of, with_record}
+use Rattle.ioc_auditing.specs.PlayedMap.{world_of, given_of, with_record, with_follow_ups}
 
 module _ {R : Type 0} where
   pub with_record-world : (s : PlayedMap R) (n : ℕ) (r : R) → Has (world_of s) n → world_of (with_record s n r) ≡ put (world_of s) n r
@@ -17,3 +19,9 @@ module _ {R : Type 0} where
 
   pub moment-given : (s : PlayedMap R) → (given_of s).moment ≡ (world_of s).moment
   moment-given s = refl
+
+  pub with_follow_ups-world : (s : PlayedMap R) (f : FollowUps) → world_of (with_follow_ups s f) ≡ followed_by f (world_of s)
+  with_follow_ups-world s f = refl
+
+  pub with_follow_ups-given : (s : PlayedMap R) (f : FollowUps) → given_of (with_follow_ups s f) ≡ given_of s
+  with_follow_ups-given s f = refl

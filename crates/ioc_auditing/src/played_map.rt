@@ -6,9 +6,9 @@ ghost use Rattle.ioc_store.specs.Given.{Accords, listed, calls_of, answers_of};
 
 use ioc_device::{Answer, Ask, Device};
 use ioc_names::RecordNo;
-use ioc_notify::{NotifyId, Waiting};
+use ioc_notify::NotifyId;
 use ioc_record::RecordKind;
-use ioc_store::{Call, EventStore, Frame, OneMap, OutboxItem, Store};
+use ioc_store::{Call, EventStore, FollowUps, Frame, OneMap, Store};
 use ioc_values::Value;
 use std::alloc::{AllocError, Global};
 use std::marker::Model;
@@ -89,8 +89,8 @@ impl<K: RecordKind> PlayedMap<K> {
     pub fn new(alloc: Global, records: Vec<K>, event: EventStore) -> Self
         ensures records { (world_of result).records ≡ numbered records.items }
         ensures fresh { world_of result ≡ begun_at 0 (world_of result) }
-        ensures live { (world_of result).live ≡ event.notifications.live.live }
-        ensures waiting { (world_of result).waiting ≡ event.notifications.waiting.waiting }
+        ensures live { (world_of result).live ≡ event.follow_ups.notifications.live.live }
+        ensures waiting { (world_of result).waiting ≡ event.follow_ups.notifications.waiting.waiting }
     {
         let map = OneMap::new(records, Vec::new(alloc), event);
         PlayedMap {
@@ -154,14 +154,16 @@ impl<K: RecordKind> Store for PlayedMap<K> {
 
     type Device = Playing;
 
-    ghost use Rattle.ioc_auditing.specs.PlayedMap.{world_of, given_of, with_record};
-    ghost use Rattle.ioc_auditing.specs.PlayedMapLaws.{with_record-world, with_record-given, calls-given, moment-given};
+    ghost use Rattle.ioc_auditing.specs.PlayedMap.{world_of, given_of, with_record, with_follow_ups};
+    ghost use Rattle.ioc_auditing.specs.PlayedMapLaws.{with_record-world, with_record-given, calls-given, moment-given, with_follow_ups-world, with_follow_ups-given};
 
     ghost world = { world_of };
 
     ghost given = { given_of };
 
     ghost with_record = { with_record };
+
+    ghost with_follow_ups = { with_follow_ups };
 
     ghost with_record_world = { with_record-world };
 
@@ -170,6 +172,10 @@ impl<K: RecordKind> Store for PlayedMap<K> {
     ghost calls_given = { calls-given };
 
     ghost moment_given = { moment-given };
+
+    ghost with_follow_ups_world = { with_follow_ups-world };
+
+    ghost with_follow_ups_given = { with_follow_ups-given };
 
     fn has(&self, number: RecordNo) -> bool {
         self.map.has(number)
@@ -191,59 +197,15 @@ impl<K: RecordKind> Store for PlayedMap<K> {
         call.answer
     }
 
-    fn moment(&self) -> u64 {
-        self.map.moment()
-    }
-
-    fn send(&mut self, item: OutboxItem) {
-        self.map.send(item);
-    }
-
-    fn count_dropped(&mut self) {
-        self.map.count_dropped();
-    }
-
-    fn take_on(&mut self, notification: NotifyId) {
-        self.map.take_on(notification);
-    }
-
-    fn let_go(&mut self, notification: NotifyId) {
-        self.map.let_go(notification);
-    }
-
-    fn has_place(&self, notification: NotifyId) -> bool {
-        self.map.has_place(notification)
-    }
-
-    fn is_live(&self, notification: NotifyId) -> bool {
-        self.map.is_live(notification)
-    }
-
-    fn admit(&mut self, notification: NotifyId) {
-        self.map.admit(notification);
-    }
-
     fn cancel(&mut self, notification: NotifyId) {
         self.map.cancel(notification);
     }
 
-    fn waiting(&self) -> &[Waiting] {
-        self.map.waiting()
+    fn event(&self) -> &EventStore {
+        self.map.event()
     }
 
-    fn queue(&mut self, item: &Waiting) {
-        self.map.queue(item);
-    }
-
-    fn unqueue(&mut self, notification: NotifyId) {
-        self.map.unqueue(notification);
-    }
-
-    fn asked(&self) -> usize {
-        self.map.asked()
-    }
-
-    fn later_from(&self, start: usize) -> usize {
-        self.map.later_from(start)
+    fn follow_ups_mut(&mut self) -> &mut FollowUps {
+        self.map.follow_ups_mut()
     }
 }

@@ -4,7 +4,7 @@ use ioc_device::Device;
 use ioc_history;
 use ioc_notify::NotifyId;
 use ioc_scan::Listed;
-use ioc_set_store::EventBuffers;
+use ioc_set::EventBuffers;
 use rec_types::Record;
 use std::alloc::Global;
 

@@ -4,7 +4,7 @@ ghost use Rattle.ioc_values.specs.declared.error.IocError.TheVariants.{NoMemory,
 ghost use Rattle.ioc_links.specs.declared.link.Link.{Link};
 ghost use Rattle.rec_types.specs.Record.{record_rules};
 ghost use Rattle.ioc_dbfile.specs.OwnerTable.{owner_in};
-ghost use Rattle.ioc_set_store.specs.SetStore.{world_of};
+ghost use Rattle.ioc_set.specs.SetStore.{world_of};
 ghost use Rattle.ioc_engine_core.specs.Linked.{WasLinked, LinkWasRefused};
 ghost use Rattle.ioc_engine.specs.Relinking.{link_kind_in, IsTextOf, IsBadText, field_of_link};
 ghost use Rattle.ioc_engine.specs.Refusals.{IsLinkField, IsLinkError};

@@ -5,7 +5,7 @@ ghost use Rattle.rec_types.specs.Record.{record_rules};
 ghost use Rattle.ioc_events.specs.declared.event.Event.TheVariants.{Put};
 ghost use Rattle.ioc_history.specs.Places.{IsNoPlace};
 ghost use Rattle.ioc_journaled_set.specs.Puts.{PutsView, WasAsked, NoneMayBegin, HaveEnded};
-ghost use Rattle.ioc_set_store.specs.SetStore.{world_of};
+ghost use Rattle.ioc_set.specs.SetStore.{world_of};
 ghost use Rattle.ioc_engine_core.specs.Served.{WasBegun, CallIsRefused};
 ghost use Rattle.ioc_engine_core.specs.Cancelled.{WasCancelled};
 ghost use Rattle.ioc_engine.specs.Refusals.{CanBePut, IsPutError};

@@ -3,7 +3,8 @@ ghost use Rattle.std.specs.Prelude.{◌≡◌, ◌<◌, ◌≤◌, ◌⊎◌, �
 ghost use Rattle.rec_types.specs.Record.{record_rules};
 ghost use Rattle.ioc_history.specs.Account.{IsEntryOf, calls, calls_by};
 ghost use Rattle.ioc_history.specs.Base.{IsBaseOf};
-ghost use Rattle.ioc_history.specs.Counting.{counts_of};
+ghost use Rattle.ioc_history.specs.Counting.{counts_of, dropped_in};
+ghost use Rattle.ioc_ledger.specs.Requests.{capped};
 ghost use Rattle.ioc_history.specs.Legal.{IsLegal, map_of};
 ghost use Rattle.ioc_history.specs.Line.{Begins};
 ghost use Rattle.ioc_journaled_set.specs.SameDevice.{IsDeviceOf};
@@ -113,6 +114,7 @@ impl<B: EngineName<D>, D: Device, C: Drop> Engine<B, D, C> {
             result.core.sets.items }
         ensures tickets { AreTicketed record_rules B.base result.core.journal.filled result.core.tickets }
         ensures tally { counts_in result.core.sets.items ≡ counts_of record_rules B.base result.core.journal.filled }
+        ensures dropped { result.core.dropped ≡ capped (dropped_in record_rules B.base result.core.journal.filled) }
     {
         let Engine {
             core,
@@ -178,13 +180,21 @@ impl<B: EngineName<D>, D: Device> Report<B, D> {
         self.core.requests_dropped
     }
 
-    /// Returns the number of items of events that were dropped, because an event may send 256 of
-    /// them: once requests, posted events and changes of scan lists; or because allocation failed
-    /// for a list.
+    /// Returns the number of items that the events of all calls have dropped, up to 2^64 - 1: an event
+    /// may send 256 once requests, posted events and changes of scan lists, and a record has 2^64 - 1
+    /// changes. A refused call has dropped nothing.
     pub fn dropped(&self) -> u64
         ensures { result ≡ self.now.core.dropped }
     {
         self.core.dropped
+    }
+
+    /// Returns the number of items that events have sent and that couldn't be done, because allocation
+    /// failed for a scan list, or a list has no place left in its order.
+    pub fn items_undone(&self) -> u64
+        ensures { result ≡ self.now.core.undone }
+    {
+        self.core.undone
     }
 
     /// Returns the number of requests of [`Engine::scan`] that were refused.
@@ -256,6 +266,7 @@ impl<B: EngineName<D>, D: Device> Report<B, D> {
             tickets: _,
             requests_dropped: _,
             dropped: _,
+            undone: _,
             refused: _,
         } = core;
         records_in(alloc, sets)

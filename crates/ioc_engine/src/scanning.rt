@@ -89,7 +89,9 @@ impl<B: EngineName<D>, D: Device, C: Clock + Drop> Engine<B, D, C> {
     ) -> Result<usize, IocError>
         ensures refused { IfErr result (λ error. (error ≡ Stopped) ⊎ (((error ≡ BadValue) × (period_of choice ≡ None))
             ⊎ (error ≡ NoMemory))) }
+        ensures moved { desk.new.moved ≡ 0 }
     {
+        desk.begin();
         let mut walked = mem::replace(&mut desk.scanned, Vec::new(desk.alloc));
         let walk = self.walk_period(rt, choice, &mut walked);
         let mut requested = 0;
@@ -102,7 +104,10 @@ impl<B: EngineName<D>, D: Device, C: Clock + Drop> Engine<B, D, C> {
     }
 
     // Requests each of these records, and returns how many requests weren't refused.
-    fn request_each<R: Wait>(&self, rt: &R, desk: &mut Desk<B, D>, listed: &[Listed]) -> usize {
+    fn request_each<R: Wait>(&self, rt: &R, desk: &mut Desk<B, D>, listed: &[Listed]) -> usize
+        requires moved { desk.old.moved ≡ 0 }
+        ensures moved { desk.new.moved ≡ 0 }
+    {
         let mut requested = 0usize;
         for member in listed {
             match self.request(rt, desk, member.number) {
@@ -119,7 +124,9 @@ impl<B: EngineName<D>, D: Device, C: Clock + Drop> Engine<B, D, C> {
         rt: &R,
         desk: &mut Desk<B, D>,
         number: RecordNo,
-    ) -> Result<(), IocError> {
+    ) -> Result<(), IocError>
+        ensures moved { desk.new.moved ≡ 0 }
+    {
         desk.begin();
         let alloc = desk.alloc;
         let mut own = None;
@@ -156,6 +163,7 @@ impl<B: EngineName<D>, D: Device, C: Clock + Drop> Engine<B, D, C> {
             (record { moment = moment; call = call.Post (take 39 name.now) x.0; answers = [] }) desk.new.account) }
         ensures receipt { IfOk result (λ x. x.1 ≡ desk.new.account.seen) }
         ensures ended { desk.new.buffers.ended_everywhere.items ≡ [] }
+        ensures moved { desk.new.moved ≡ 0 }
         ensures refused { IfErr result (λ error. (error ≡ Stopped) ⊎ IsNoPlace error) }
         ensures err { OnErr result (desk.new.account ≡ desk.old.account) }
     {
@@ -188,6 +196,7 @@ impl<B: EngineName<D>, D: Device, C: Clock + Drop> Engine<B, D, C> {
             (record { moment = moment; call = call.Interrupt (take 119 word.now) x.0; answers = [] }) desk.new.account) }
         ensures receipt { IfOk result (λ x. x.1 ≡ desk.new.account.seen) }
         ensures ended { desk.new.buffers.ended_everywhere.items ≡ [] }
+        ensures moved { desk.new.moved ≡ 0 }
         ensures refused { IfErr result (λ error. (error ≡ Stopped) ⊎ IsNoPlace error) }
         ensures err { OnErr result (desk.new.account ≡ desk.old.account) }
     {
@@ -218,7 +227,10 @@ impl<B: EngineName<D>, D: Device, C: Clock + Drop> Engine<B, D, C> {
     /// let desk = engine.desk(rt)?;
     /// let desk = engine.work(rt, desk)?;
     /// ```
-    pub fn work<R: Wait>(&self, rt: &R, desk: Desk<B, D>) -> Result<Desk<B, D>, IocError> {
+    pub fn work<R: Wait>(&self, rt: &R, desk: Desk<B, D>) -> Result<Desk<B, D>, IocError>
+        ensures told { IfOk result (λ d. (d.buffers.ended_everywhere.items ≡ []) × (d.moved ≡ 0)) }
+        ensures refused { IfErr result (λ error. error ≡ NoMemory) }
+    {
         let Desk {
             account,
             buffers,
@@ -260,7 +272,9 @@ impl<B: EngineName<D>, D: Device, C: Clock + Drop> Engine<B, D, C> {
 
     /// Serves the first of the requests that wait, in the order of [`Engine::work`], and returns
     /// false if there is none. So a program with one thread serves its requests itself.
-    pub fn serve_one<R: Wait>(&self, rt: &R, desk: &mut Desk<B, D>) -> bool {
+    pub fn serve_one<R: Wait>(&self, rt: &R, desk: &mut Desk<B, D>) -> bool
+        ensures moved { desk.new.moved ≡ 0 }
+    {
         desk.begin();
         let alloc = desk.alloc;
         self.core.serve_one(

@@ -16,7 +16,7 @@ use Rattle.ioc_history.specs.Key.{Key, record_keys}
 use Rattle.ioc_history.specs.Key.{Has as Has_key}
 use Rattle.ioc_history.specs.KeyLaws.{has_either, record_kind}
 use Rattle.ioc_history.specs.Covering.{Holds}
-use Rattle.ioc_set_store.specs.Resting.{resting}
+use Rattle.ioc_set.specs.Resting.{resting}
 use Rattle.ioc_ledger.specs.Requests.{no_counts}
 use Rattle.ioc_journaled_set.specs.Holding.{KeepsDevices}
 use Rattle.ioc_set.specs.Linking.{with_empty_history, AreCalm, IsCalm, NoneAwaits}

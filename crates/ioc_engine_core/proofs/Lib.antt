@@ -2,6 +2,7 @@ mod Counts
 mod Ending
 mod Marks
 mod Refusals
+mod SeenMore
 mod Copies
 mod Keys
 mod DealtParts

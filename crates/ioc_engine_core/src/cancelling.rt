@@ -8,14 +8,14 @@ ghost use Rattle.ioc_journaled_set.specs.Holding.{IsSoundlyHeld};
 ghost use Rattle.ioc_engine_core.specs.Cancelled.{WasCancelled, WasGivenUp, WasNotLive};
 
 use crate::clock::Clock;
-use crate::engine::EngineCore;
+use crate::engine::{BusySet, EngineCore};
 use ioc_device::Device;
 use ioc_events::Reply;
 use ioc_history::{DeskAccount, Receipt};
 use ioc_journaled_set::{JournaledSet, SetsName, cancel_on};
 use ioc_notify::NotifyId;
 use ioc_record::RecordKind;
-use ioc_set_store::EventBuffers;
+use ioc_set::EventBuffers;
 use ioc_topology::Locked;
 use ioc_values::IocError;
 use std::alloc::Global;
@@ -58,7 +58,8 @@ impl<K: RecordKind + Drop, B: SetsName<K, D>, D: Device> EngineCore<K, B, D> {
     }
 
     // Cancels a put with notification in all sets on which it is live. Returns `None` if some of
-    // its records aren't in these sets; nothing is done then.
+    // its records aren't in these sets, and the lock of a set that was busy, if there was one; nothing
+    // is done then. The caller holds the topology guard.
     fn give_up<R: Wait>(
         &self,
         rt: &R,
@@ -67,11 +68,11 @@ impl<K: RecordKind + Drop, B: SetsName<K, D>, D: Device> EngineCore<K, B, D> {
         buffers: &mut EventBuffers<K, D>,
         number: NotifyId,
         moment: u64,
-    ) -> Result<Option<Receipt<K, B>>, IocError>
-        ensures gave_up { IfOk result (λ told. IfSome told (λ _. WasGivenUp D K.rules B.base number desk.old moment Plain desk.new)) }
-        ensures receipt { IfOk result (λ told. IfSome told (λ receipt. receipt ≡ desk.new.seen)) }
-        ensures ended { IfOk result (λ told. IfSome told (λ _. buffers.new.ended_everywhere.items ≡ [])) }
-        ensures missing { IfOk result (λ told. IfNone told (desk.new ≡ desk.old)) }
+    ) -> Result<(Option<Receipt<K, B>>, Option<BusySet<'_, K, B, D>>), IocError>
+        ensures gave_up { IfOk result (λ x. IfSome x.0 (λ _. WasGivenUp D K.rules B.base number desk.old moment Plain desk.new)) }
+        ensures receipt { IfOk result (λ x. IfSome x.0 (λ receipt. receipt ≡ desk.new.seen)) }
+        ensures ended { IfOk result (λ x. IfSome x.0 (λ _. buffers.new.ended_everywhere.items ≡ [])) }
+        ensures missing { IfOk result (λ x. IfNone x.0 (desk.new ≡ desk.old)) }
         ensures refused { IfErr result IsNoPlace }
         ensures err { OnErr result (desk.new ≡ desk.old) }
     {
@@ -86,14 +87,15 @@ impl<K: RecordKind + Drop, B: SetsName<K, D>, D: Device> EngineCore<K, B, D> {
         let given = cancel_on(&access, desk, buffers, &mut puts, sets, number, moment);
         drop(puts);
         all_sound(sets);
-        self.sets.put_back(rt, taken);
-        given
+        let busy = self.sets.put_back(rt, taken);
+        Ok((given?, busy))
     }
 
     /// Cancels the put with notification with this number, in one event of all lock sets with its
     /// records: no record is part of it any more, it waits nowhere, and it doesn't end. For that,
     /// the sets are taken out of their cells under the topology guard. Only sets on which a put
-    /// with notification may be live are locked.
+    /// with notification may be live are locked. While a set with one of its records is busy, as
+    /// during a call that waits for a device, the cancel is tried repeatedly, and other calls go on.
     ///
     /// # Errors
     ///
@@ -147,15 +149,21 @@ impl<K: RecordKind + Drop, B: SetsName<K, D>, D: Device> EngineCore<K, B, D> {
         if !self.may_begin(rt, alloc) {
             return Err(IocError::Stopped);
         }
-        let _guard = self.sets.guard_topology(rt);
         for _ in rt.forever() {
             buffers.ended_everywhere.clear();
+            let guard = self.sets.guard_topology(rt);
             let moment = clock.now();
             if let Some(receipt) = self.refuse_stale(rt, alloc, desk, number, moment)? {
                 return Ok((Reply::Refused(IocError::Stale), receipt));
             }
-            if let Some(receipt) = self.give_up(rt, alloc, desk, buffers, number, moment)? {
+            let (given, busy) = self.give_up(rt, alloc, desk, buffers, number, moment)?;
+            if let Some(receipt) = given {
                 return Ok((Reply::Plain, receipt));
+            }
+            drop(guard);
+            // The busy set may be one without the put, so this doesn't wait until it is free.
+            if let Some(busy) = busy {
+                busy.pause();
             }
         }
         unreachable!()

@@ -4,7 +4,7 @@ ghost use Rattle.ioc_values.specs.declared.error.IocError.TheVariants.{Stopped};
 ghost use Rattle.ioc_history.specs.Account.{calls, HasSeenMore, IsGiven};
 ghost use Rattle.ioc_history.specs.Places.{IsNoPlace};
 
-use crate::engine::EngineCore;
+use crate::engine::{BusySet, EngineCore};
 use ioc_device::Device;
 use ioc_history::{DeskAccount, Excerpt};
 use ioc_journaled_set::{SetsName, checkpoint_giving, checkpoint_on};
@@ -16,8 +16,9 @@ use std::sync::Wait;
 impl<K: RecordKind + Drop, B: SetsName<K, D>, D: Device> EngineCore<K, B, D> {
     /// Makes a checkpoint of the journal: the records and waiting puts with notification of all
     /// sets are copied, the entries of all calls so far are dropped, and their places are free. For
-    /// that, the sets are taken out of their cells under the topology guard; calls wait meanwhile.
-    /// Waits forever if a record is in no set.
+    /// that, the sets are taken out of their cells under the topology guard; calls wait meanwhile. If
+    /// a call keeps a set for long, as while its device is asked, the others are put back, and this
+    /// waits for that set before it tries again. Waits forever if a record is in no set.
     ///
     /// # Errors
     ///
@@ -30,8 +31,16 @@ impl<K: RecordKind + Drop, B: SetsName<K, D>, D: Device> EngineCore<K, B, D> {
         if self.is_closed() {
             return Err(IocError::Stopped);
         }
-        let _guard = self.sets.guard_topology(rt);
-        self.checkpoint_now(rt, alloc)
+        for _ in rt.forever() {
+            let guard = self.sets.guard_topology(rt);
+            let (is_made, busy) = self.try_checkpoint(rt, alloc)?;
+            drop(guard);
+            if is_made {
+                return Ok(());
+            }
+            wait_for(rt, busy);
+        }
+        unreachable!()
     }
 
     /// Makes a checkpoint as [`EngineCore::checkpoint`] does, and returns copies of the entries from a
@@ -55,36 +64,41 @@ impl<K: RecordKind + Drop, B: SetsName<K, D>, D: Device> EngineCore<K, B, D> {
         if self.is_closed() {
             return Err(IocError::Stopped);
         }
-        let _guard = self.sets.guard_topology(rt);
         for _ in rt.forever() {
-            if let Some(excerpt) = self.try_checkpoint_from(rt, alloc, desk, from)? {
-                self.journal.spread_places(rt);
+            let guard = self.sets.guard_topology(rt);
+            let (given, busy) = self.try_checkpoint_from(rt, alloc, desk, from)?;
+            drop(guard);
+            if let Some(excerpt) = given {
                 return Ok(excerpt);
             }
+            wait_for(rt, busy);
         }
         unreachable!()
     }
 
     // Makes a checkpoint with the sets that are found, and returns copies of the entries. Returns
-    // `None` if some record isn't in any of them; no entry is dropped then. The caller holds the
-    // topology guard.
+    // `None` if some record isn't in any of them, and the lock of a set that was busy, if there was
+    // one; no entry is dropped then. The caller holds the topology guard.
     fn try_checkpoint_from<R: Wait>(
         &self,
         rt: &R,
         alloc: Global,
         desk: &mut DeskAccount<K, B>,
         from: u64,
-    ) -> Result<Option<Excerpt>, IocError>
+    ) -> Result<(Option<Excerpt>, Option<BusySet<'_, K, B, D>>), IocError>
         ensures desk { HasSeenMore desk.old desk.new }
-        ensures given { IfOk result (λ o. IfSome o (λ excerpt. IsGiven from (calls desk.new.seen) excerpt.first excerpt.entries.items)) }
+        ensures given { IfOk result (λ x. IfSome x.0 (λ excerpt. IsGiven from (calls desk.new.seen) excerpt.first excerpt.entries.items)) }
         ensures refused { IfErr result IsNoPlace }
     {
         let mut taken = self.sets.take_all(rt, alloc)?;
         let sets = taken.sets.as_mut_slice();
         let access = self.access(rt, alloc);
         let given = checkpoint_giving(&access, desk, sets, self.sets.len(), from);
-        self.sets.put_back(rt, taken);
-        given
+        let busy = self.sets.put_back(rt, taken);
+        if let Ok(Some(_)) = &given {
+            self.journal.spread_places(rt);
+        }
+        Ok((given?, busy))
     }
 
     /// Returns copies of the entries from a place on, at most `most` of them. They begin with the
@@ -109,39 +123,51 @@ impl<K: RecordKind + Drop, B: SetsName<K, D>, D: Device> EngineCore<K, B, D> {
     }
 
     // Makes a checkpoint unless another call has made one while this one waited for the topology
-    // guard, so that the journal has places again.
-    pub(crate) fn checkpoint_if_short<R: Wait>(&self, rt: &R, alloc: Global) -> Result<(), IocError>
+    // guard, so that the journal has places again. Returns the lock of a set if none is made because
+    // the set is busy.
+    pub(crate) fn checkpoint_if_short<R: Wait>(
+        &self,
+        rt: &R,
+        alloc: Global,
+    ) -> Result<Option<BusySet<'_, K, B, D>>, IocError>
         ensures refused { IfErr result IsNoPlace }
     {
         let _guard = self.sets.guard_topology(rt);
         if !self.journal.is_short(rt) {
-            return Ok(());
+            return Ok(None);
         }
-        self.checkpoint_now(rt, alloc)
-    }
-
-    // Makes a checkpoint. The caller holds the topology guard.
-    fn checkpoint_now<R: Wait>(&self, rt: &R, alloc: Global) -> Result<(), IocError>
-        ensures refused { IfErr result IsNoPlace }
-    {
-        for _ in rt.forever() {
-            if self.try_checkpoint(rt, alloc)? {
-                self.journal.spread_places(rt);
-                return Ok(());
-            }
-        }
-        unreachable!()
+        let (_is_made, busy) = self.try_checkpoint(rt, alloc)?;
+        Ok(busy)
     }
 
     // Makes a checkpoint with the sets that are found. Returns `false` if some record isn't in any
-    // of them; nothing is done then. The caller holds the topology guard.
-    fn try_checkpoint<R: Wait>(&self, rt: &R, alloc: Global) -> Result<bool, IocError>
+    // of them, and the lock of a set that was busy, if there was one; nothing is done then. The
+    // caller holds the topology guard.
+    fn try_checkpoint<R: Wait>(
+        &self,
+        rt: &R,
+        alloc: Global,
+    ) -> Result<(bool, Option<BusySet<'_, K, B, D>>), IocError>
         ensures refused { IfErr result IsNoPlace }
     {
         let mut taken = self.sets.take_all(rt, alloc)?;
         let sets = taken.sets.as_mut_slice();
-        let kept = checkpoint_on(rt, alloc, &self.journal, sets, self.sets.len());
-        self.sets.put_back(rt, taken);
-        kept
+        let made = checkpoint_on(rt, alloc, &self.journal, sets, self.sets.len());
+        let busy = self.sets.put_back(rt, taken);
+        let is_made = made?;
+        if is_made {
+            self.journal.spread_places(rt);
+        }
+        Ok((is_made, busy))
+    }
+}
+
+// Waits for a set that was busy, if there was one.
+fn wait_for<K: RecordKind + Drop, B: SetsName<K, D>, D: Device, R: Wait>(
+    rt: &R,
+    busy: Option<BusySet<'_, K, B, D>>,
+) {
+    if let Some(busy) = busy {
+        busy.wait(rt);
     }
 }

@@ -5,7 +5,7 @@ ghost use Rattle.ioc_events.specs.Step.{names};
 ghost use Rattle.ioc_history.specs.Line.{longer, Begins};
 ghost use Rattle.ioc_set.specs.Doing.{is_ordinary};
 ghost use Rattle.ioc_store.specs.World.{Has};
-ghost use Rattle.ioc_set_store.specs.SetStore.{world_of};
+ghost use Rattle.ioc_set.specs.SetStore.{world_of};
 ghost use Rattle.ioc_history.specs.Account.{IsAccount, calls, calls_by};
 ghost use Rattle.ioc_journaled_set.specs.Puts.{HaveEnded};
 ghost use Rattle.std.specs.FinMap.{len};
@@ -23,9 +23,9 @@ use ioc_ledger::{TallyShare, Ticket};
 use ioc_names::RecordNo;
 use ioc_record::{FieldText, RecordKind};
 use ioc_scan::{Listed, ScanLists};
-use ioc_set_store::EventBuffers;
+use ioc_set::EventBuffers;
 use ioc_shared_queues::{CallbackQueues, RecordRequest};
-use ioc_topology::{Directory, Locked};
+use ioc_topology::{Busy, Directory, Locked};
 use ioc_values::IocError;
 use std::alloc::Global;
 use std::marker::Model;
@@ -34,6 +34,9 @@ use std::sync::{Mutex, Wait};
 
 /// A request that waits on a queue of an engine, with its ticket.
 pub type QueuedRequest<K, B> = RecordRequest<RequestTickets<K, B>>;
+
+/// The lock of a set of an engine that a call keeps for long.
+pub(crate) type BusySet<'a, K, B, D> = Busy<'a, JournaledSet<K, B, D>>;
 
 /// The records of a database in their lock sets, each set under its own lock, the journal of all
 /// calls, the scan lists, and the queues of requests that wait. Contracts see the number of records.
@@ -46,9 +49,8 @@ pub struct EngineCore<K: RecordKind + Drop, B: SetsName<K, D>, D: Device> {
     // Locked while no other lock is held.
     pub(crate) lists: Mutex<ScanLists>,
     pub(crate) queues: CallbackQueues<QueuedRequest<K, B>>,
-    // The number of items of events that were dropped: 256 were sent already, or a change of a scan
-    // list couldn't be done.
-    pub(crate) dropped: AtomicU64,
+    // The number of items that events have sent and that couldn't be done.
+    pub(crate) undone: AtomicU64,
     // The number of requests of scans that were refused.
     pub(crate) refused: AtomicU64,
     // Locked at the end alone: a share may be sent to other threads, but not be seen by several.
@@ -93,7 +95,7 @@ impl<K: RecordKind + Drop, B: SetsName<K, D>, D: Device> EngineCore<K, B, D> {
             puts: Mutex::new(puts),
             lists: Mutex::new(lists),
             queues,
-            dropped: AtomicU64::new(0),
+            undone: AtomicU64::new(0),
             refused: AtomicU64::new(0),
             spare: Mutex::new(SpareParts::new(spare)),
         }
@@ -130,12 +132,21 @@ impl<K: RecordKind + Drop, B: SetsName<K, D>, D: Device> EngineCore<K, B, D> {
     }
 
     // Returns whether a call that was refused is tried again: the journal had no place left, and calls
-    // make checkpoints. Waits for the checkpoint that another call makes, or makes one.
+    // make checkpoints. Waits for the checkpoint that another call makes, or makes one. If a set is
+    // busy, waits for it, and holds nothing meanwhile.
     #[inline(never)]
     pub(crate) fn is_tried_again<R: Wait>(&self, rt: &R, alloc: Global, refused: IocError) -> bool {
-        matches!(refused, IocError::JournalFull)
-            && self.journal.makes_checkpoints()
-            && self.checkpoint_if_short(rt, alloc).is_ok()
+        if refused != IocError::JournalFull || !self.journal.makes_checkpoints() {
+            return false;
+        }
+        match self.checkpoint_if_short(rt, alloc) {
+            Ok(Some(busy)) => {
+                busy.wait(rt);
+                true
+            }
+            Ok(None) => true,
+            Err(_refused) => false,
+        }
     }
 
     #[inline(never)]

@@ -8,7 +8,7 @@ ghost use Rattle.ioc_history.specs.Key.{Key, Has, record_keys};
 ghost use Rattle.ioc_history.specs.Line.{keeper};
 ghost use Rattle.ioc_history.specs.Covering.{Holds};
 ghost use Rattle.ioc_set_records.specs.Joined.{links_of, IsPart};
-ghost use Rattle.ioc_set_store.specs.Resting.{resting};
+ghost use Rattle.ioc_set.specs.Resting.{resting};
 ghost use Rattle.ioc_set.specs.Linking.{with_empty_history, AreCalm, NoneAwaits};
 ghost use Rattle.ioc_history.specs.Account.{AreRecords};
 ghost use Rattle.ioc_journaled_set.specs.Holding.{KeepsDevices, held_view};

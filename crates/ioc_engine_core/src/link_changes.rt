@@ -1,6 +1,6 @@
 //! Link changes of the engine.
 ghost use Rattle.std.specs.Prelude.{◌≡◌, ℕ, [], IfOk, IfErr, OnOk, OnErr};
-ghost use Rattle.ioc_set_store.specs.SetStore.{world_of};
+ghost use Rattle.ioc_set.specs.SetStore.{world_of};
 ghost use Rattle.ioc_topology.specs.Change.{AreKnown, AreLent};
 ghost use Rattle.ioc_journaled_set.specs.Holding.{numbers_of};
 ghost use Rattle.ioc_engine_core.specs.Linked.{other_of, WasLinked, LinkWasRefused};
@@ -12,9 +12,8 @@ use ioc_history::DeskAccount;
 use ioc_journaled_set::{Changed, JournalAccess, JournaledSet, SetsName, change_link};
 use ioc_record::RecordKind;
 use ioc_scan::Listed;
-use ioc_set::LinkChange;
-use ioc_set_store::EventBuffers;
-use ioc_topology::{NewCells, all_sound, are_lent};
+use ioc_set::{EventBuffers, LinkChange};
+use ioc_topology::{all_sound, are_lent};
 use ioc_values::IocError;
 use std::alloc::Global;
 use std::sync::Wait;
@@ -84,25 +83,22 @@ impl<K: RecordKind + Drop, B: SetsName<K, D>, D: Device> EngineCore<K, B, D> {
         if !self.may_begin(rt, alloc) {
             return Err(IocError::Stopped);
         }
-        let _guard = self.sets.guard_topology(rt);
-        let new = self.sets.new_cells(rt, alloc)?;
-        let changed = self.relink(rt, alloc, desk, buffers, &new, change, clock)?;
-        // After a refused change the buffers still have what the desk's event before it sent.
+        let changed = self.relink(rt, alloc, desk, buffers, change, clock)?;
+        // After a refused change the buffers have what the desk's event before it sent.
         if changed.reply.is_ok() {
             self.do_changes(rt, buffers, walked);
         }
         Ok(changed)
     }
 
-    // Finds and locks the sets of a link change, and changes the link. The caller holds the
-    // topology guard.
-    fn relink<'a, R: Wait, C: Clock>(
-        &'a self,
+    // Finds and locks the sets of a link change under the topology guard, and changes the link. If one
+    // of the sets is busy, waits for it without the guard.
+    fn relink<R: Wait, C: Clock>(
+        &self,
         rt: &R,
         alloc: Global,
         desk: &mut DeskAccount<K, B>,
         buffers: &mut EventBuffers<K, D>,
-        new: &NewCells<'a, JournaledSet<K, B, D>>,
         change: LinkChange,
         clock: &C,
     ) -> Result<Changed<K, B>, IocError>
@@ -118,15 +114,28 @@ impl<K: RecordKind + Drop, B: SetsName<K, D>, D: Device> EngineCore<K, B, D> {
         let number = change.number;
         let other = change.link.record_named();
         for _ in rt.forever() {
-            let both = match self.sets.link_cells(new, number, &other) {
+            let guard = self.sets.guard_topology(rt);
+            let new = self.sets.new_cells(rt, alloc)?;
+            let both = match self.sets.link_cells(&new, number, &other) {
                 Ok(Some(both)) => both,
-                Ok(None) => continue,
+                Ok(None) => {
+                    self.sets.leave_new(rt, &new);
+                    continue;
+                }
                 Err(refused) => {
-                    self.sets.leave_new(rt, new);
+                    self.sets.leave_new(rt, &new);
                     return Err(refused);
                 }
             };
-            let (mut first_guard, mut second_guard) = both.lock(rt);
+            let (mut first_guard, mut second_guard) = match both.lock() {
+                Ok(guards) => guards,
+                Err(busy) => {
+                    self.sets.leave_new(rt, &new);
+                    drop(guard);
+                    busy.wait(rt);
+                    continue;
+                }
+            };
             let mut spare_guard = new.lock_spare(rt);
             let first = &mut *first_guard;
             let second = &mut *second_guard;
@@ -136,9 +145,10 @@ impl<K: RecordKind + Drop, B: SetsName<K, D>, D: Device> EngineCore<K, B, D> {
                 let changed = self.change_lent(
                     &access, desk, buffers, first, second, spare, change, clock,
                 );
-                self.sets.settle_all(rt, &both, new, first, second, spare);
+                self.sets.settle_all(rt, &both, &new, first, second, spare);
                 return changed;
             }
+            self.sets.leave_new(rt, &new);
         }
         unreachable!()
     }

@@ -4,7 +4,7 @@ ghost use Rattle.ioc_values.specs.declared.error.IocError.TheVariants.{QueueFull
 ghost use Rattle.ioc_events.specs.declared.event.Event.TheVariants.{Put};
 ghost use Rattle.ioc_history.specs.Places.{IsNoPlace};
 ghost use Rattle.ioc_journaled_set.specs.Puts.{PutsView, WasAsked, NoneMayBegin, HaveEnded};
-ghost use Rattle.ioc_set_store.specs.SetStore.{world_of};
+ghost use Rattle.ioc_set.specs.SetStore.{world_of};
 ghost use Rattle.ioc_engine_core.specs.Served.{WasBegun, CallIsRefused};
 
 use crate::clock::Clock;
@@ -16,7 +16,7 @@ use ioc_journaled_set::{FieldPut, Served, SetsName};
 use ioc_notify::NotifyId;
 use ioc_record::RecordKind;
 use ioc_scan::Listed;
-use ioc_set_store::EventBuffers;
+use ioc_set::EventBuffers;
 use ioc_topology::Locked;
 use ioc_values::IocError;
 use std::alloc::Global;

@@ -1,5 +1,6 @@
 //! The records of each lock set.
 ghost use Rattle.std.specs.Prelude.{◌≡◌, ◌⊎◌, ◌<◌, ℕ, false, slice_index_or, All, Any, Contains, IfOk, IfErr};
+ghost use Rattle.ioc_history.specs.Account.{HasSeenMore};
 ghost use Rattle.ioc_journaled_set.specs.Holding.{numbers_of};
 ghost use Rattle.ioc_topology.specs.Change.{IsRefused};
 ghost use Rattle.ioc_topology.specs.Gathered.{IsMarked};
@@ -8,6 +9,7 @@ ghost use Rattle.ioc_engine_core.specs.Seen.{IsPartSeen};
 
 use crate::engine::EngineCore;
 use ioc_device::Device;
+use ioc_history::DeskAccount;
 use ioc_journaled_set::{JournaledSet, SetsName};
 use ioc_names::RecordNo;
 use ioc_record::RecordKind;
@@ -50,31 +52,44 @@ fn mark_all(numbers: &[RecordNo], marks: &mut Vec<bool>)
 }
 
 impl<K: RecordKind + Drop, B: SetsName<K, D>, D: Device> EngineCore<K, B, D> {
-    // Returns the numbers of the records of the set with this record.
+    // Returns the numbers of the records of the set with this record, after the calls that the desk has
+    // seen then.
     fn part_of<R: Wait>(
         &self,
         rt: &R,
         alloc: Global,
+        desk: &mut DeskAccount<K, B>,
         number: RecordNo,
     ) -> Result<Vec<RecordNo>, IocError>
-        ensures seen { IfOk result (λ v. IsPartSeen D K.rules B.base v.items) }
+        ensures seen { IfOk result (λ v. IsPartSeen D K.rules B.base desk.old.seen desk.new.seen v.items) }
+        ensures desk { HasSeenMore desk.old desk.new }
         ensures here { IfOk result (λ v. Contains v.items number) }
         ensures refused { IfErr result (λ error. IsRefused self.now number error ⊎ (error ≡ NoMemory)) }
     {
-        let held = self.sets.lock_set(rt, number)?;
+        let mut held = self.sets.lock_set(rt, number)?;
+        held.learn(rt, &self.journal, desk);
+        held.is_sound();
         let numbers = numbers_in(alloc, &held)?;
         Ok(numbers)
     }
 
     /// Returns the numbers of the records of each set, as they were while its lock was held: sets
     /// that are parted or joined by link changes meanwhile may be seen before or after the change.
-    /// Each record is in at least one list, and in exactly one if no link is changed meanwhile.
+    /// Each record is in at least one list, and in exactly one if no link is changed meanwhile. The
+    /// desk has seen all calls before that moment then, and none is seen as it was before what the desk
+    /// had seen.
     ///
     /// # Errors
     ///
     /// [`IocError::Stopped`] if the engine was closed. [`IocError::NoMemory`] if allocation fails.
-    pub fn parts<R: Wait>(&self, rt: &R, alloc: Global) -> Result<Vec<Vec<RecordNo>>, IocError>
-        ensures seen { IfOk result (λ all. All (λ v. IsPartSeen D K.rules B.base v.items) all.items) }
+    pub fn parts<R: Wait>(
+        &self,
+        rt: &R,
+        alloc: Global,
+        desk: &mut DeskAccount<K, B>,
+    ) -> Result<Vec<Vec<RecordNo>>, IocError>
+        ensures seen { IfOk result (λ all. All (λ v. IsPartSeen D K.rules B.base desk.old.seen desk.new.seen v.items) all.items) }
+        ensures desk { HasSeenMore desk.old desk.new }
         ensures each { IfOk result (λ all. (q : ℕ) → q < self.now → Any (λ v. Contains v.items q) all.items) }
         ensures refused { IfErr result (λ error. (error ≡ Stopped) ⊎ (error ≡ NoMemory)) }
     {
@@ -87,7 +102,7 @@ impl<K: RecordKind + Drop, B: SetsName<K, D>, D: Device> EngineCore<K, B, D> {
             if is_marked(&marks, number) {
                 continue;
             }
-            let part = self.part_of(rt, alloc, RecordNo::new(number))?;
+            let part = self.part_of(rt, alloc, desk, RecordNo::new(number))?;
             mark_all(part.as_slice(), &mut marks);
             parts.push(part)?;
         }

@@ -86,7 +86,7 @@ impl<K: RecordKind + Drop, B: SetsName<K, D>, D: Device> EngineCore<K, B, D> {
             answers: KeptAnswers::new(Vec::new(alloc)),
         };
         let count = walked.len() as u64;
-        let Posted { receipt, tickets } = self.journal.append_posted(rt, place, desk, entry, count);
+        let Posted { receipt, tickets } = self.journal.append_posted(rt, place, desk, entry);
         self.push_called(rt, walked, tickets);
         Ok(receipt)
     }

@@ -3,8 +3,8 @@ ghost use Rattle.std.specs.Prelude.{◌≡◌, ◌<◌, ◌≤◌, ◌+◌, ℕ,
 ghost use Rattle.std.specs.Vec.{vec_capacity};
 ghost use Rattle.std.specs.FinMap.{len};
 ghost use Rattle.std.specs.List.{sum_by};
-ghost use Rattle.ioc_history.specs.Counting.{counts_of};
-ghost use Rattle.ioc_ledger.specs.Requests.{no_counts};
+ghost use Rattle.ioc_history.specs.Counting.{counts_of, dropped_in};
+ghost use Rattle.ioc_ledger.specs.Requests.{capped, no_counts};
 ghost use Rattle.ioc_history.specs.Legal.{map_of};
 ghost use Rattle.ioc_store.specs.World.{Has};
 ghost use Rattle.ioc_topology.specs.Gathered.{HoldEach};
@@ -42,9 +42,10 @@ pub struct CoreReport<K: RecordKind + Drop, B: SetsName<K, D>, D: Device> {
     pub tickets: TicketTally,
     /// The number of requests that found their queue full.
     pub requests_dropped: u64,
-    /// The number of items of events that were dropped: an event had sent 256 already, or a change
-    /// of a scan list couldn't be done.
+    /// The number of items that the events of all calls have dropped. It stops at 2^64 - 1.
     pub dropped: u64,
+    /// The number of items that events have sent and that couldn't be done.
+    pub undone: u64,
     /// The number of requests of scans that were refused.
     pub refused: u64,
 }
@@ -128,6 +129,7 @@ impl<K: RecordKind + Drop, B: SetsName<K, D>, D: Device> EngineCore<K, B, D> {
         ensures end { IsEnd K.rules B.base (IsDeviceOf D.gives B.devices) self result.journal.filled result.sets.items }
         ensures tickets { AreTicketed K.rules B.base result.journal.filled result.tickets }
         ensures tally { counts_in result.sets.items ≡ counts_of K.rules B.base result.journal.filled }
+        ensures dropped { result.dropped ≡ capped (dropped_in K.rules B.base result.journal.filled) }
     {
         let EngineCore {
             mut sets,
@@ -135,7 +137,7 @@ impl<K: RecordKind + Drop, B: SetsName<K, D>, D: Device> EngineCore<K, B, D> {
             puts: _,
             lists: _,
             queues,
-            dropped,
+            undone,
             refused,
             spare,
         } = self;
@@ -148,12 +150,14 @@ impl<K: RecordKind + Drop, B: SetsName<K, D>, D: Device> EngineCore<K, B, D> {
         let ended = settle(rt, &cell, &mut journal, spare, gathered);
         all_keep_devices(ended.as_slice());
         let tickets = journal.tickets();
+        let dropped = journal.items_dropped();
         CoreReport {
             sets: ended,
             journal: EndedJournal::new(journal, cell),
             tickets,
             requests_dropped: queues.dropped(),
-            dropped: dropped.into_inner(),
+            dropped,
+            undone: undone.into_inner(),
             refused: refused.into_inner(),
         }
     }

@@ -8,7 +8,7 @@ use ioc_ledger::Tickets;
 use ioc_record::RecordKind;
 use ioc_scan::Listed;
 use ioc_scanner::{Asked, take_item};
-use ioc_set_store::EventBuffers;
+use ioc_set::EventBuffers;
 use ioc_shared_queues::Rank;
 use ioc_store::OutboxItem;
 use std::alloc::AllocError;
@@ -26,7 +26,7 @@ impl<K: RecordKind + Drop, B: SetsName<K, D>, D: Device> EngineCore<K, B, D> {
         walked: &mut Vec<Listed>,
         tickets: Tickets<RequestTickets<K, B>>,
     ) {
-        if !buffers.items().is_empty() || buffers.dropped() != 0 {
+        if !buffers.items().is_empty() {
             self.do_items(rt, buffers, walked, tickets);
         }
     }
@@ -44,9 +44,8 @@ impl<K: RecordKind + Drop, B: SetsName<K, D>, D: Device> EngineCore<K, B, D> {
 
     // Does what an event has sent, in order: once requests go to their queue, each with a ticket of
     // the event, posted events to the queues of the records on their lists, and changes to the scan
-    // lists. The items that the event itself has dropped are counted. Lists and queues lie under
-    // locks or are shared, so this has no contract; see those of `take_item`, `push_one` and
-    // `push_each`.
+    // lists. Lists and queues lie under locks or are shared, so this has no contract; see those of
+    // `take_item`, `push_one` and `push_each`.
     #[inline(never)]
     fn do_items<R: Wait>(
         &self,
@@ -60,10 +59,9 @@ impl<K: RecordKind + Drop, B: SetsName<K, D>, D: Device> EngineCore<K, B, D> {
             self.do_item(rt, item, walked, &mut left);
         }
         self.hand_back(rt, left);
-        self.count_dropped(buffers.dropped());
     }
 
-    // Does what an item asks for. One for which allocation fails is dropped and counted.
+    // Does what an item asks for. One for which allocation fails is left out and counted.
     fn do_item<R: Wait>(
         &self,
         rt: &R,
@@ -73,7 +71,7 @@ impl<K: RecordKind + Drop, B: SetsName<K, D>, D: Device> EngineCore<K, B, D> {
     ) {
         match self.asked(rt, item, walked) {
             Ok(asked) => self.do_asked(rt, &asked, walked, tickets),
-            Err(_) => self.count_dropped(1),
+            Err(_) => self.count_undone(),
         }
     }
 
@@ -96,7 +94,7 @@ impl<K: RecordKind + Drop, B: SetsName<K, D>, D: Device> EngineCore<K, B, D> {
                 self.push_called(rt, walked, begun);
             }
             Asked::Change => {}
-            Asked::Dropped => self.count_dropped(1),
+            Asked::Dropped => self.count_undone(),
         }
     }
 
@@ -139,10 +137,8 @@ impl<K: RecordKind + Drop, B: SetsName<K, D>, D: Device> EngineCore<K, B, D> {
         self.refused.fetch_add(1, Ordering::SeqCst);
     }
 
-    // Counts items that were dropped.
-    fn count_dropped(&self, count: u64) {
-        if count != 0 {
-            self.dropped.fetch_add(count, Ordering::SeqCst);
-        }
+    // Counts an item that couldn't be done.
+    fn count_undone(&self) {
+        self.undone.fetch_add(1, Ordering::SeqCst);
     }
 }

@@ -1,6 +1,6 @@
 //! Requests that wait on the queues, and the desks by which they are served.
 ghost use Rattle.std.specs.Prelude.{◌≡◌, None, OnOk, OnErr};
-ghost use Rattle.ioc_set_store.specs.SetStore.{world_of};
+ghost use Rattle.ioc_set.specs.SetStore.{world_of};
 ghost use Rattle.ioc_engine_core.specs.Queued.{WasQueueServed};
 
 use crate::clock::Clock;
@@ -13,7 +13,7 @@ use ioc_ledger::Ticket;
 use ioc_names::RecordNo;
 use ioc_record::RecordKind;
 use ioc_scan::Listed;
-use ioc_set_store::EventBuffers;
+use ioc_set::EventBuffers;
 use ioc_shared_queues::{CallbackQueues, RecordRequest, Serve, SharedQueues, hand_back_all};
 use ioc_values::IocError;
 use std::alloc::{AllocError, Global};
@@ -35,7 +35,7 @@ impl<'e, K: RecordKind + Drop, B: SetsName<K, D>, D: Device, C: Clock> Serve<Que
     for Server<'e, K, B, D, C> {
     ghost use Rattle.ioc_engine_core.specs.Queued.{WasQueueServed};
     ghost use Rattle.std.specs.Prelude.{◌≡◌};
-    ghost use Rattle.ioc_set_store.specs.SetStore.{world_of};
+    ghost use Rattle.ioc_set.specs.SetStore.{world_of};
 
     ghost serves = { λ a r b. WasQueueServed D K.rules B.base D.gives (C.gives a.clock.now) r.«record» a.desk b.desk
         (world_of b.buffers.store) };

@@ -1,4 +1,5 @@
 //! The tests, by what they test, and what they share.
+mod beside;
 mod calling;
 mod calls;
 mod eight;

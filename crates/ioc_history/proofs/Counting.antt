@@ -25,8 +25,8 @@ use Rattle.ioc_events.specs.Calls.{Called, called, linked}
 use Rattle.ioc_events.specs.Step.{shown, link_refusal}
 use Rattle.ioc_history.specs.declared.entry.Note.{Note}
 use Rattle.ioc_history.specs.Legal.{entry_of, done, map_of}
-use Rattle.ioc_history.specs.Counting.{is_completion, tallied_by, once_in}
-use Rattle.ioc_history.specs.CountLaws.{counts_nothing, CountsNothing, PartsCountAlike, QuestionsCountNothing}
+use Rattle.ioc_history.specs.Counting.{is_completion, tallied_by, once_by, once_in, sent_counts, sent_in, nothing_sent}
+use Rattle.ioc_history.specs.CountLaws.{counts_nothing, is_link_change, PartsCountAlike, QuestionsCountNothing, LinksCountNothing}
 use Rattle.ioc_history.specs.EventLaws.{EventLaws}
 use Rattle.ioc_history.proofs.Doing.{agree, sound-on}
 
@@ -47,8 +47,29 @@ module _ {R : Type 0} (k : RecordRules R) where
             ∙ ap (λ (cs : List DeviceCall). counted_all t (done k v n).requests (later_among cs) (is_completion (done k m n).call)) (sym both.alike.same.calls)
             ∙ ap (λ (made : Call). counted_all t (done k v n).requests (later_among (done k v n).world.calls) (is_completion made)) (sym both.call)
             ∙ sym (tallied-is t v n);
-        once = ap (λ (items : List OutboxItem). length (once_in items)) (sym both.alike.same.outbox);
+        sent = ap (λ (items : List OutboxItem). sent_counts (length (once_in items)) (done k m n).world.dropped) (sym both.alike.same.outbox)
+            ∙ ap (λ (count : ℕ). sent_counts (length (once_in (done k v n).world.outbox)) count) (sym both.alike.same.dropped);
       }
+
+abbrev is_no_event : Call → Bool
+is_no_event (call.Event event reply) = false
+is_no_event _ = true
+
+nothing-no_event : (made : Call) → counts_nothing made ≡ true → is_no_event made ≡ true
+nothing-no_event (call.Get s field text) is = refl
+nothing-no_event (call.IsLive number live) is = refl
+nothing-no_event (call.Post name count) is = refl
+nothing-no_event (call.Interrupt device count) is = refl
+nothing-no_event (call.Link s field link reply) is = cc
+nothing-no_event (call.Event event reply) is = cc
+
+link-no_event : (made : Call) → is_link_change made ≡ true → is_no_event made ≡ true
+link-no_event (call.Link s field link reply) is = refl
+link-no_event (call.Get s field text) is = cc
+link-no_event (call.IsLive number live) is = cc
+link-no_event (call.Post name count) is = cc
+link-no_event (call.Interrupt device count) is = cc
+link-no_event (call.Event event reply) is = cc
 
 -- A change of a scan list is no once request.
 change-none : (items : List OutboxItem) (c : ScanChange) → once_in (items ++ Change c ∷ []) ≡ once_in items
@@ -102,7 +123,7 @@ module _ {R : Type 0} (k : RecordRules R) (answers : Answers) where
       record { requests = refl; still = rewired-still k (device_of k (at k w s)) w changed_so s (record { calls = refl; once = refl }) }
 
   -- A call that is no event makes no request, and it isn't a completion.
-  call-none : (w : World R) (made : Call) → counts_nothing made ≡ true → MakesNone k w (called k answers w made)
+  call-none : (w : World R) (made : Call) → is_no_event made ≡ true → MakesNone k w (called k answers w made)
   unfolding called
   call-none w (call.Get s field text) is = same-none w (call.Get s field (shown k w s field))
   call-none w (call.Link s field link reply) is = link-none w s field link (link_refusal k w s field link)
@@ -115,7 +136,7 @@ module _ {R : Type 0} (k : RecordRules R) (answers : Answers) where
   link-completes-none w s field link (Some e) = refl
   link-completes-none w s field link Nothing_ = refl
 
-  not-completing : (w : World R) (made : Call) → counts_nothing made ≡ true → is_completion (called k answers w made).call ≡ false
+  not-completing : (w : World R) (made : Call) → is_no_event made ≡ true → is_completion (called k answers w made).call ≡ false
   unfolding called
   not-completing w (call.Get s field text) is = refl
   not-completing w (call.Link s field link reply) is = link-completes-none w s field link (link_refusal k w s field link)
@@ -125,19 +146,45 @@ module _ {R : Type 0} (k : RecordRules R) (answers : Answers) where
   not-completing w (call.Event event reply) is = cc
 
 module _ {R : Type 0} (k : RecordRules R) where
-  none-counted : (m : World R) (n : Note) → MakesNone k (begun_at (entry_of n).moment m) (done k m n) → is_completion (done k m n).call ≡ false → CountsNothing k m n
+  none-tallied : (m : World R) (n : Note) → MakesNone k (begun_at (entry_of n).moment m) (done k m n) → is_completion (done k m n).call ≡ false
+      → ((t : Tally) → tallied_by k t m n ≡ t) × (once_by k m n ≡ 0)
   unfolding begun begun_at
-  none-counted m n none goes_on = record {
-    tally = λ t. tallied-is k t m n
+  none-tallied m n none goes_on = (
+    λ t. tallied-is k t m n
         ∙ ap (λ (r : Requests). counted_all t r (later_among (done k m n).world.calls) (is_completion (done k m n).call)) none.requests
         ∙ ap (λ (cs : List DeviceCall). counted_all t None (later_among cs) (is_completion (done k m n).call)) none.still.calls
-        ∙ ap (λ (b : Bool). counted_all t None 0 b) goes_on;
-    once = ap (λ (ns : List ℕ). length ns) none.still.once;
-  }
+        ∙ ap (λ (b : Bool). counted_all t None 0 b) goes_on,
+    ap (λ (ns : List ℕ). length ns) none.still.once,
+  )
+
+  no_event-tallied : (m : World R) (n : Note) → is_no_event (entry_of n).call ≡ true → ((t : Tally) → tallied_by k t m n ≡ t) × (once_by k m n ≡ 0)
+  unfolding done
+  no_event-tallied m n is =
+      let answers = listed (entry_of n).answers in
+      let w = begun_at (entry_of n).moment m in
+      none-tallied m n (call-none k answers w (entry_of n).call is) (not-completing k answers w (entry_of n).call is)
+
+  -- A call that changes nothing leaves the world as it is.
+  call-stays : (answers : Answers) (w : World R) (made : Call) → counts_nothing made ≡ true → (called k answers w made).world ≡ w
+  unfolding called
+  call-stays answers w (call.Get s field text) is = refl
+  call-stays answers w (call.IsLive number live) is = refl
+  call-stays answers w (call.Post name count) is = refl
+  call-stays answers w (call.Interrupt device count) is = refl
+  call-stays answers w (call.Link s field link reply) is = cc
+  call-stays answers w (call.Event event reply) is = cc
+
+  begun-sends : (moment : ℕ) (m : World R) → sent_in (begun_at moment m) ≡ nothing_sent
+  unfolding begun begun_at
+  begun-sends moment m = refl
 
   pub questions-nothing : QuestionsCountNothing k
   unfolding done
   questions-nothing m n is =
-      let answers = listed (entry_of n).answers in
-      let w = begun_at (entry_of n).moment m in
-      none-counted m n (call-none k answers w (entry_of n).call is) (not-completing k answers w (entry_of n).call is)
+      let moment = (entry_of n).moment in record {
+        tally = (no_event-tallied m n (nothing-no_event (entry_of n).call is)).0;
+        sent = ap (λ (w : World R). sent_in w) (call-stays (listed (entry_of n).answers) (begun_at moment m) (entry_of n).call is) ∙ begun-sends moment m;
+      }
+
+  pub links-nothing : LinksCountNothing k
+  links-nothing m n is = no_event-tallied m n (link-no_event (entry_of n).call is)

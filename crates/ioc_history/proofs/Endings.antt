@@ -16,11 +16,11 @@ use Rattle.ioc_events.specs.Calls.{called}
 use Rattle.ioc_history.specs.declared.entry.Note.{Note}
 use Rattle.ioc_history.specs.Legal.{entry_of, done, map_of, IsSound}
 use Rattle.ioc_history.specs.Covering.{Holds, IsOf}
-use Rattle.ioc_history.specs.Laws.{EndsOver, NobodyHas}
+use Rattle.ioc_history.specs.Laws.{EndsOver, EndsLast, NobodyHas}
 use Rattle.ioc_history.specs.EventLaws.{EventLaws}
 use Rattle.ioc_history.proofs.Basics.{not_both, waits-too}
-use Rattle.ioc_history.proofs.Doing.{begun-counted, sound-on, agree, same-outside, waiting-outside, done-held}
-use Rattle.ioc_history.proofs.Lists.{map-join}
+use Rattle.ioc_history.proofs.Doing.{begun-counted, counted-on, sound-on, agree, same-outside, waiting-outside, done-held}
+use Rattle.ioc_history.proofs.Lists.{map-join, legal-right}
 use Rattle.ioc_history.proofs.Placing.{has-live}
 
 module _ {R : Type 0} (k : RecordRules R) where
@@ -121,6 +121,21 @@ module _ {R : Type 0} (k : RecordRules R) (lawful : IsLawful k) (laws : EventLaw
       subst (λ (x : World R). Contains x.ended number ↔ (Contains w.ended number × (IsHeld k x number → ⊥))) (sym (map-join k log (n ∷ []) base))
       (subst (λ (x : World R). Contains (done k m n).world.ended number ↔ (Contains x.ended number × (IsHeld k (done k m n).world number → ⊥))) is.world
       ((λ over. ends-in-part m v n known holds of counted number over), (λ both. ends-in-all m v n known holds of counted number both.0 both.1)))
+
+  -- The last call of a legal list ends what nothing has any more.
+  pub ends-last : EndsLast k
+  ends-last base log n sound legal =
+      let m = map_of k base log in
+      let moment = (entry_of n).moment in
+      let e = done-ends m n (counted-on k lawful laws log base sound.counted) in
+      subst (λ (x : World R). EndsExactly k m (entry_of n).call x) (sym (map-join k log (n ∷ []) base))
+      (subst (λ (made : Call). EndsExactly k m made (done k m n).world) (sym (legal-right k log (n ∷ []) base legal).0.reply) (record {
+        ended = λ number. (
+          (λ over. (let one = (e.ended number).0 over in (⊎_elim (λ held. inl (has-begun k moment m number held)) (λ is. inr is) one.0, one.1, one.2))),
+          (λ one. (e.ended number).1 (⊎_elim (λ held. inl (begun-has k moment m number held)) (λ is. inr is) one.0, one.1, one.2)),
+        );
+        once = e.once;
+      }))
 
   -- No record is part of a put with notification that isn't live.
 

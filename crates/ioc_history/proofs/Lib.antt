@@ -6,6 +6,8 @@ mod Begun
 mod Calls
 mod Counting
 mod CountsThen
+mod DropsThen
+pub mod Dropping
 mod Doing
 mod Endings
 mod Ends

@@ -18,7 +18,8 @@ use Rattle.ioc_history.specs.Line.{noted}
 use Rattle.ioc_history.specs.Legal.{entry_of, done, map_of, Fits, IsUntouched, AreLiveAlike}
 use Rattle.ioc_history.specs.Account.{journalled, MayBegin}
 use Rattle.ioc_history.specs.CountLaws.{counts_nothing}
-use Rattle.ioc_history.specs.Counting.{MayAppend}
+use Rattle.ioc_history.specs.Counting.{nothing_sent, MayAppend}
+use Rattle.ioc_history.specs.declared.event_counts.SentCounts.{SentCounts}
 use Rattle.ioc_history.specs.Posting.{is_posting}
 use Rattle.ioc_history.proofs.Counting.{questions-nothing}
 use Rattle.ioc_history.proofs.Lists.{legal-join}
@@ -30,7 +31,7 @@ posting-nothing (call.Interrupt device count) is = refl
 posting-nothing (call.Event event reply) is = cc
 posting-nothing (call.Get s field text) is = refl
 posting-nothing (call.IsLive number live) is = refl
-posting-nothing (call.Link s field link reply) is = refl
+posting-nothing (call.Link s field link reply) is = cc
 
 posting-begins : (seen : List Note) (owned : List Key) (made : Call) → is_posting made ≡ true → MayBegin seen owned made
 posting-begins seen owned (call.Post name count) is = tt
@@ -80,7 +81,7 @@ module _ {R : Type 0} (k : RecordRules R) where
 
   -- It sends nothing and counts nothing.
   posting-may : (base : World R) (pass : View) (made : Entry) (before after : Tally) → is_posting made.call ≡ true → made.answers ≡ []
-      → MayAppend k base pass made 0 Nothing_ before after
+      → MayAppend k base pass made nothing_sent Nothing_ before after
   posting-may base pass made before after is none = record {
     follows = λ log desk number own sound goes_on legal.
         let n = noted (journalled desk number made) (pass.owns ++ own) in
@@ -88,16 +89,16 @@ module _ {R : Type 0} (k : RecordRules R) where
     begins = posting-begins pass.seen pass.owns made.call is;
     sends = λ log desk number own sound goes_on legal.
         let n = noted (journalled desk number made) (pass.owns ++ own) in
-        sym (questions-nothing k (map_of k base log) n (posting-nothing made.call is)).once;
+        sym (questions-nothing k (map_of k base log) n (posting-nothing made.call is)).sent;
     counts = λ log desk number own sound goes_on legal.
         let n = noted (journalled desk number made) (pass.owns ++ own) in
         (questions-nothing k (map_of k base log) n (posting-nothing made.call is)).tally;
     backed = tt;
   }
 
-  pub posting-appends : (base : World R) (pass : View) (made entry : Entry) (sent : ℕ) (share : Option ShareView) (before after : Tally) → made ≡ entry → is_posting entry.call ≡ true → entry.answers ≡ []
-      → sent ≡ 0 → share ≡ Nothing_ → MayAppend k base pass made sent share before after
+  pub posting-appends : (base : World R) (pass : View) (made entry : Entry) (sent : SentCounts) (share : Option ShareView) (before after : Tally) → made ≡ entry → is_posting entry.call ≡ true → entry.answers ≡ []
+      → sent ≡ nothing_sent → share ≡ Nothing_ → MayAppend k base pass made sent share before after
   posting-appends base pass made entry sent share before after same is none sends_none counts_none =
       subst (λ (o : Option ShareView). MayAppend k base pass made sent o before after) (sym counts_none)
-      (subst (λ (s : ℕ). MayAppend k base pass made s Nothing_ before after) (sym sends_none)
+      (subst (λ (s : SentCounts). MayAppend k base pass made s Nothing_ before after) (sym sends_none)
       (posting-may base pass made before after (subst (λ (e : Entry). is_posting e.call ≡ true) (sym same) is) (subst (λ (e : Entry). e.answers ≡ []) (sym same) none)))

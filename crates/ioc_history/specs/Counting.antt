@@ -16,6 +16,7 @@ use Rattle.ioc_events.specs.declared.event.Call.TheVariants as call
 use Rattle.ioc_events.specs.declared.event.Event.TheVariants.{Process}
 use Rattle.ioc_events.specs.Step.{completes, calls_since}
 use Rattle.ioc_history.specs.declared.entry.Note.{Note}
+use Rattle.ioc_history.specs.declared.event_counts.SentCounts.{SentCounts}
 use Rattle.ioc_history.specs.declared.cell.View.{View}
 use Rattle.ioc_history.specs.Key.{Key}
 use Rattle.ioc_history.specs.Legal.{entry_of, done, map_of}
@@ -28,6 +29,17 @@ once_in [] = []
 once_in (Once number ∷ items) = number ∷ once_in items
 once_in (Post _ ∷ items) = once_in items
 once_in (Change _ ∷ items) = once_in items
+
+-- So many once requests were sent, and so many items dropped.
+abbrev pub sent_counts : (once dropped : ℕ) → SentCounts
+sent_counts once dropped = record { once = once; dropped = dropped }
+
+abbrev pub nothing_sent : SentCounts
+nothing_sent = sent_counts 0 0
+
+-- What an event has sent that leaves this world.
+abbrev pub sent_in : {R : Type 0} → World R → SentCounts
+sent_in w = sent_counts (length (once_in w.outbox)) w.dropped
 
 -- Whether a call is a request.
 abbrev pub is_request : Call → Bool
@@ -77,19 +89,28 @@ module _ {R : Type 0} (k : RecordRules R) where
       let d = done k m n in
       counted_all t d.requests (later_among (calls_since (begun_at (entry_of n).moment m) d.world)) (is_completion d.call)
 
-  -- The number of once requests that the event of a note sends.
+  -- What the event of a note sends, and the number of once requests among it.
+  abbrev pub sent_by : World R → Note → SentCounts
+  sent_by m n = sent_in (done k m n).world
+
   abbrev pub once_by : World R → Note → ℕ
-  once_by m n = length (once_in (done k m n).world.outbox)
+  once_by m n = (sent_by m n).once
 
   -- The number of once requests that these calls send.
   abbrev pub once_sent : World R → List Note → ℕ
   once_sent m [] = 0
   once_sent m (n ∷ notes) = once_by m n + once_sent (done k m n).world notes
 
-  -- Holds if the event counts the same in both worlds and sends the same once requests.
+  -- The number of items that the events of these calls drop.
+  abbrev pub dropped_in : World R → List Note → ℕ
+  dropped_in m [] = 0
+  dropped_in m (n ∷ notes) = (sent_by m n).dropped + dropped_in (done k m n).world notes
+
+  -- Holds if the event counts the same in both worlds, sends as many once requests, and drops as many
+  -- items.
   pub record CountAlike (m v : World R) (n : Note) : Type 0 where
     pub tally : (t : Tally) → tallied_by t m n ≡ tallied_by t v n
-    pub once : once_by m n ≡ once_by v n
+    pub sent : sent_by m n ≡ sent_by v n
 
   -- The tally with what these calls count on a world and those that follow it.
   abbrev pub counts_on : Tally → World R → List Note → Tally
@@ -107,19 +128,19 @@ module _ {R : Type 0} (k : RecordRules R) where
   DoesCount m n share before after = MatchOption share ((t : Tally) → tallied_by t m n ≡ t) (λ _. after ≡ tallied_by before m n)
 
   module _ (base : World R) where
-    -- Holds if an event sends this many once requests.
-    abbrev Sends : ℕ → List Note → Note → Type 0
-    Sends sent log n = sent ≡ once_by (map_of k base log) n
+    -- Holds if an event sends this.
+    abbrev Sends : SentCounts → List Note → Note → Type 0
+    Sends sent log n = sent ≡ sent_by (map_of k base log) n
 
     -- Holds if an event counts this.
     abbrev CountsThis : Option ShareView → Tally → Tally → List Note → Note → Type 0
     CountsThis share before after log n = DoesCount (map_of k base log) n share before after
 
-    -- Holds if an event sends this many once requests whatever list it follows, as in `AfterAny`.
-    abbrev pub MaySend : List Note → List Key → Entry → ℕ → Type 0
+    -- Holds if an event sends this whatever list it follows, as in `AfterAny`.
+    abbrev pub MaySend : List Note → List Key → Entry → SentCounts → Type 0
     MaySend seen owned made sent = AfterAny k base seen owned made (Sends sent)
 
-    abbrev pub BothMaySend : List Note → List Key → List Note → List Key → Entry → ℕ → Type 0
+    abbrev pub BothMaySend : List Note → List Key → List Note → List Key → Entry → SentCounts → Type 0
     BothMaySend seen owned also_seen also_owned made sent = AfterBoth k base seen owned also_seen also_owned made (Sends sent)
 
     -- Holds if an event counts this whatever list it follows.
@@ -131,7 +152,7 @@ module _ {R : Type 0} (k : RecordRules R) where
 
     -- What an event fulfils that may be appended by the owner of one pass: it may follow, and this
     -- is what it sends and counts.
-    pub record MayAppend (pass : View) (made : Entry) (sent : ℕ) (share : Option ShareView) (before after : Tally) : Type 0 where
+    pub record MayAppend (pass : View) (made : Entry) (sent : SentCounts) (share : Option ShareView) (before after : Tally) : Type 0 where
       pub follows : MayFollow k base pass.seen pass.owns made
       pub begins : MayBegin pass.seen pass.owns made.call
       pub sends : MaySend pass.seen pass.owns made sent
@@ -140,7 +161,7 @@ module _ {R : Type 0} (k : RecordRules R) where
 
     -- The same for the owner of two passes. The second has the key of the puts with notification,
     -- if the event begins one.
-    pub record BothMayAppend (one other : View) (made : Entry) (sent : ℕ) (share : Option ShareView) (before after : Tally) : Type 0 where
+    pub record BothMayAppend (one other : View) (made : Entry) (sent : SentCounts) (share : Option ShareView) (before after : Tally) : Type 0 where
       pub follows : BothMayFollow k base one.seen one.owns other.seen other.owns made
       pub begins : MayBegin other.seen other.owns made.call
       pub sends : BothMaySend one.seen one.owns other.seen other.owns made sent

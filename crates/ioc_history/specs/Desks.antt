@@ -2,6 +2,7 @@
 use Rattle.std.specs.Prelude.{◌≡◌, ℕ, ◌+◌, ◌<◌, ◌≤◌, ◌^◌, List, [], ◌∷◌, length, take, drop, Option, MatchOption}
 use Rattle.atomic_table.specs.Seated.{TableId}
 use Rattle.ioc_ledger.specs.declared.tally.Tally.{Tally}
+use Rattle.ioc_ledger.specs.Requests.{capped}
 use Rattle.ioc_record.specs.RecordRules.{RecordRules}
 use Rattle.ioc_store.specs.World.{World}
 use Rattle.ioc_history.specs.declared.entry.JournalEntry.{JournalEntry}
@@ -13,7 +14,7 @@ use Rattle.ioc_history.specs.Line.{keeper, holder}
 use Rattle.ioc_history.specs.Legal.{IsSound, map_of}
 use Rattle.ioc_history.specs.Base.{IsBaseOf}
 use Rattle.ioc_history.specs.Tickets.{TicketsView}
-use Rattle.ioc_history.specs.Counting.{AreTicketsOf, counts_of}
+use Rattle.ioc_history.specs.Counting.{AreTicketsOf, counts_of, dropped_in}
 use Rattle.ioc_history.specs.Account.{calls, desk_key, Below, IsAccount}
 
 -- The first of these calls were dropped. They lead to the base, if there is one; otherwise none were
@@ -24,8 +25,9 @@ LeadsFrom {R} k base from dropped seen = MatchOption from (dropped ≡ 0) (λ (b
 module _ {R : Type 0} (k : RecordRules R) (base : World R) (table id : TableId) (v : View) where
   -- The invariant of a journal: its pass is the keeper's, its entries are the calls of the list
   -- behind those that were dropped, these lead to the base, if some were, the list is legal from a
-  -- sound world on, its requests have their tickets, and what its calls count is in the book.
-  pub record IsKept (items : List JournalEntry) (dropped : ℕ) (from : Option (JournalBase R)) (desks : ℕ) (tickets : TicketsView) (book : Tally) : Type 0 where
+  -- sound world on, its requests have their tickets, what its calls count is in the book, and
+  -- the items that they drop are counted.
+  pub record IsKept (items : List JournalEntry) (dropped : ℕ) (from : Option (JournalBase R)) (desks : ℕ) (tickets : TicketsView) (book : Tally) (items_dropped : ℕ) : Type 0 where
     pub same : id ≡ table
     pub keeps : v ≡ keeper v.seen v.born
     pub items_are : items ≡ drop dropped (calls v.seen)
@@ -39,6 +41,7 @@ module _ {R : Type 0} (k : RecordRules R) (base : World R) (table id : TableId) 
     pub new_desk : (d : ℕ) → desks ≤ d → Below d 0 (calls v.seen)
     pub tickets_are : AreTicketsOf k base v.seen tickets
     pub counted : book ≡ counts_of k base v.seen
+    pub drops : items_dropped ≡ capped (dropped_in k base v.seen)
 
   -- The invariant of a desk: its pass owns its key, its calls have numbers below the next one,
   -- which is at most the number of calls that it has seen, and the list of these is legal.

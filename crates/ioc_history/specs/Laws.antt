@@ -16,7 +16,7 @@ use Rattle.ioc_history.specs.Key.{Key}
 use Rattle.ioc_history.specs.Line.{Spares}
 use Rattle.ioc_store.specs.Given.{Answers}
 use Rattle.ioc_events.specs.declared.event.Call.{Call}
-use Rattle.ioc_events.specs.Holding.{IsCounted, IsHeld, holders}
+use Rattle.ioc_events.specs.Holding.{IsCounted, IsHeld, EndsExactly, holders}
 use Rattle.ioc_events.specs.Local.{AskAlikeCall}
 use Rattle.ioc_events.specs.Starting.{NoneReady}
 use Rattle.ioc_events.specs.Calls.{called, named as named_by_call}
@@ -65,6 +65,12 @@ module _ {R : Type 0} (k : RecordRules R) where
   EndsOver = (base v w : World R) (log : List Note) (n : Note) → IsSound k base → IsLegal k base log → Holds k (map_of k base log) v
       → IsOf k (map_of k base log) v n → IsDone k v n w → IsCounted k v → (number : ℕ)
       → Contains (map_of k base (log ++ n ∷ [])).ended number ↔ (Contains w.ended number × (IsHeld k (map_of k base (log ++ n ∷ [])) number → ⊥))
+
+  -- A call that ends a legal list ends a put with notification exactly if a record or a waiting list had
+  -- it before, or it began by this call, and none has it afterwards, unless the call canceled it.
+  abbrev pub EndsLast : Type 0
+  EndsLast = (base : World R) (log : List Note) (n : Note) → IsSound k base → IsLegal k base (log ++ n ∷ [])
+      → EndsExactly k (map_of k base log) (entry_of n).call (map_of k base (log ++ n ∷ []))
 
   -- No record is part of a put with notification exactly if its count is zero.
   abbrev pub NobodyHas : Type 0

@@ -3,12 +3,13 @@ ghost use Rattle.std.specs.Prelude.{◌≡◌, ◌≤◌, ℕ, []};
 ghost use Rattle.crossbeam_utils.specs.Seq.{cell_view};
 ghost use Rattle.ioc_history.specs.Line.{keeper, holder, Begins, Continues};
 ghost use Rattle.ioc_history.specs.Legal.{IsLegal, IsSound};
-ghost use Rattle.ioc_history.specs.Account.{IsAccount, IsHolder, calls, calls_by, desk_view};
+ghost use Rattle.ioc_history.specs.Account.{IsAccount, IsHolder, HasSeenMore, calls, calls_by, desk_view};
 
 use crate::desk::DeskAccount;
 use crate::journal::Journal;
 use crate::journal_name::JournalName;
 use crate::shared_journal::SharedJournal;
+use crate::short_lock::lock_soon;
 use crate::{Cell, KeyPass, pass};
 use ioc_record::RecordKind;
 use std::sync::Wait;
@@ -72,6 +73,24 @@ impl<K: RecordKind, B: JournalName<K>> Journal<K, B> {
 }
 
 impl<K: RecordKind, B: JournalName<K>> SharedJournal<K, B> {
+    /// Moves the pass of a set and a desk on to the list of all calls, which continues from what the
+    /// pass had seen without its keys. It is legal.
+    pub fn tell_both<R: Wait>(&self, rt: &R, set: &mut KeyPass, desk: &mut DeskAccount<K, B>)
+        requires table { set.old.table_id ≡ B.table }
+        requires set { IsHolder (cell_view set.old) }
+        ensures set { (set.new.table_id ≡ set.old.table_id) × (cell_view set.new ≡ holder desk.new.seen (cell_view set.old).owns) }
+        ensures goes_on { Continues (cell_view set.old).seen (cell_view set.old).owns desk.new.seen }
+        ensures desk { HasSeenMore desk.old desk.new }
+        ensures sound { IsSound K.rules B.base }
+        ensures account { IsAccount K.rules B.base desk.new.seen }
+    {
+        let mut guard = lock_soon(rt, &self.journal);
+        let journal = &mut *guard;
+        journal.tell_all(rt, &self.cell, set);
+        journal.compare_desk(rt, &self.cell, desk);
+        journal.is_legal();
+    }
+
     /// Returns the cell and the journal, without their lock.
     pub fn into_parts(self) -> (Cell, Journal<K, B>)
         ensures { result.0.table.shared.table_id ≡ B.table }

@@ -1,6 +1,8 @@
-//! What an event counts: requests by their outcomes, answers of devices, and once requests.
-ghost use Rattle.std.specs.Prelude.{◌≡◌, None, IfSome};
-ghost use Rattle.ioc_history.specs.Counting.{IsBacked, IsCountedOn, IsGivenBack, IsRecorded};
+//! What an event counts: requests by their outcomes, answers of devices, once requests, and items that
+//! were dropped.
+ghost use Rattle.std.specs.Prelude.{◌≡◌, ◌+◌, None, IfSome};
+ghost use Rattle.ioc_ledger.specs.Requests.{capped};
+ghost use Rattle.ioc_history.specs.Counting.{sent_counts, nothing_sent, IsBacked, IsCountedOn, IsGivenBack, IsRecorded};
 
 use crate::journal_name::JournalName;
 use crate::request_tickets::RequestTickets;
@@ -17,11 +19,21 @@ impl<K, B: JournalName<K>> CountNames for EngineCounts<K, B> {
     ghost counts = { B.counts };
 }
 
+/// What an event has sent, in numbers.
+#[derive(Clone, Copy, PartialEq, Eq, Debug, Default)]
+pub struct SentCounts {
+    /// The number of once requests that it has sent.
+    pub once: u64,
+    /// The number of items that it has dropped: it had sent 256 already, or the record has no number
+    /// left for a change of its scan list.
+    pub dropped: u64,
+}
+
 /// What an event counts.
 #[derive(Drop)]
 pub struct EventCounts<K, B: JournalName<K>> {
-    /// The number of once requests that it sends.
-    pub sent: u64,
+    /// What it sends.
+    pub sent: SentCounts,
     /// The ticket that the request came with from a queue, if it did.
     pub ticket: Option<Ticket<RequestTickets<K, B>>>,
     /// The share of the set on which the event was done, or `None` if the event counts nothing.
@@ -33,20 +45,38 @@ pub struct EventCounts<K, B: JournalName<K>> {
 }
 
 impl<K, B: JournalName<K>> EventCounts<K, B> {
-    /// The counts of an event that counts nothing and sends no once request.
+    /// The counts of an event that counts nothing, sends no once request, and drops nothing.
     pub fn none() -> Self
         ensures share { result.share ≡ None }
-        ensures sent { result.sent ≡ 0 }
+        ensures sent { result.sent ≡ nothing_sent }
+        ensures ticket { result.ticket ≡ None }
+    {
+        EventCounts::dropping(0)
+    }
+
+    /// The counts of an event that counts nothing and sends no once request, but has dropped this many
+    /// items.
+    pub fn dropping(dropped: u64) -> Self
+        ensures share { result.share ≡ None }
+        ensures sent { result.sent ≡ sent_counts 0 dropped }
         ensures ticket { result.ticket ≡ None }
     {
         EventCounts {
-            sent: 0,
+            sent: SentCounts { once: 0, dropped },
             ticket: None,
             share: None,
             before: Tally::default(),
             after: Tally::default(),
         }
     }
+}
+
+// Counts the items that an event has dropped, up to 2^64 - 1.
+#[inline(always)]
+pub(crate) fn count_dropped(total: &mut u64, sent: SentCounts)
+    ensures { total.new ≡ capped (total.old + sent.dropped) }
+{
+    *total = total.saturating_add(sent.dropped);
 }
 
 // Records in the book what an event has counted from one tally to another, and returns the share of

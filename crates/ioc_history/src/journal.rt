@@ -7,8 +7,8 @@ ghost use Rattle.ioc_history.specs.Desks.{IsReceipt};
 ghost use Rattle.ioc_history.specs.Legal.{IsLegal, IsSound};
 ghost use Rattle.ioc_values.specs.declared.error.IocError.TheVariants.{JournalFull};
 ghost use Rattle.ioc_history.specs.Account.{AreNoDesks, AreRecords, IsHolder, HasCalled, Added, AddedByBoth, AreMerged, calls, calls_by, journalled};
-ghost use Rattle.ioc_history.specs.Counting.{MayAppend, BothMayAppend, IsGivenBack, IsFew, is_request, counts_of};
-ghost use Rattle.ioc_ledger.specs.Requests.{no_counts};
+ghost use Rattle.ioc_history.specs.Counting.{MayAppend, BothMayAppend, IsGivenBack, IsFew, is_request, counts_of, dropped_in};
+ghost use Rattle.ioc_ledger.specs.Requests.{capped, no_counts};
 ghost use Rattle.ioc_ledger.specs.Shared.{MayDivide, AreDivided};
 ghost use Rattle.ioc_history.specs.Ticketed.{AreTicketed};
 ghost use Rattle.ioc_history.specs.Tickets.{tickets_view, TakesTicket, AreCalled, AreBack};
@@ -20,7 +20,7 @@ use crate::cell::SharedCell;
 use crate::desk::DeskAccount;
 use crate::entries::{Entries, Piece};
 use crate::entry::JournalEntry;
-use crate::event_counts::{EngineCounts, EventCounts, record_event};
+use crate::event_counts::{EngineCounts, EventCounts, count_dropped, record_event};
 use crate::free_places::{FreePlaces, Place};
 use crate::journal_name::JournalName;
 use crate::key_division::{deal, take_over};
@@ -50,6 +50,8 @@ pub struct Journal<K: RecordKind, B: JournalName<K>> {
     pub(crate) tickets: TicketCounts<K, B>,
     // The counts of all calls.
     pub(crate) counted: TallyBook<EngineCounts<K, B>>,
+    // The number of items that the events of all calls have dropped.
+    pub(crate) items_dropped: u64,
     pub(crate) pass: KeyPass,
 }
 
@@ -69,7 +71,7 @@ impl<K: RecordKind, B: JournalName<K>> Model for Journal<K, B> {
     ghost view = { λ j. journal_of (cell_view j.pass).seen j.dropped j.entries.given j.entries.limit j.desks j.tickets };
 
     ghost invariant = { λ j. IsKept K.rules B.base B.table j.pass.table_id (cell_view j.pass) j.entries.filled j.dropped j.from j.desks
-        j.tickets j.counted };
+        j.tickets j.counted j.items_dropped };
 }
 
 /// A call that was added to the journal.
@@ -165,6 +167,7 @@ impl<K: RecordKind, B: JournalName<K>> Journal<K, B> {
             desks: 0,
             tickets,
             counted,
+            items_dropped: 0,
             pass: master,
         }
     }
@@ -249,7 +252,7 @@ impl<K: RecordKind, B: JournalName<K>> Journal<K, B> {
         requires may { MayAppend K.rules B.base (cell_view set.old) S.entry counts.sent counts.share counts.before counts.after }
         ensures call { HasCalled K.rules B.base desk.old S.entry desk.new }
         ensures receipt { result.receipt ≡ desk.new.seen }
-        ensures tickets { IsFew K.rules B.base self.new.filled → result.tickets ≡ counts.sent }
+        ensures tickets { IsFew K.rules B.base self.new.filled → result.tickets ≡ counts.sent.once }
         ensures taken { TakesTicket (is_request S.entry.call) counts.ticket self.old.tickets self.new.tickets }
         ensures share { IsGivenBack counts.share counts.after result.share }
         ensures list { self.new ≡ journal_of desk.new.seen self.old.dropped self.old.given self.old.limit self.old.desks self.new.tickets }
@@ -266,7 +269,10 @@ impl<K: RecordKind, B: JournalName<K>> Journal<K, B> {
             &mut desk.pass,
             &made,
         );
-        let tickets = self.tickets.add(is_request, counts.ticket, counts.sent);
+        let tickets = self
+            .tickets
+            .add(is_request, counts.ticket, counts.sent.once);
+        count_dropped(&mut self.items_dropped, counts.sent);
         let share = record_event(
             &mut self.counted,
             counts.share,
@@ -303,7 +309,7 @@ impl<K: RecordKind, B: JournalName<K>> Journal<K, B> {
             counts.before counts.after }
         ensures call { HasCalled K.rules B.base desk.old S.entry desk.new }
         ensures receipt { result.receipt ≡ desk.new.seen }
-        ensures tickets { IsFew K.rules B.base self.new.filled → result.tickets ≡ counts.sent }
+        ensures tickets { IsFew K.rules B.base self.new.filled → result.tickets ≡ counts.sent.once }
         ensures taken { TakesTicket (is_request S.entry.call) counts.ticket self.old.tickets self.new.tickets }
         ensures share { IsGivenBack counts.share counts.after result.share }
         ensures list { self.new ≡ journal_of desk.new.seen self.old.dropped self.old.given self.old.limit self.old.desks self.new.tickets }
@@ -324,7 +330,10 @@ impl<K: RecordKind, B: JournalName<K>> Journal<K, B> {
             &mut desk.pass,
             &made,
         );
-        let tickets = self.tickets.add(is_request, counts.ticket, counts.sent);
+        let tickets = self
+            .tickets
+            .add(is_request, counts.ticket, counts.sent.once);
+        count_dropped(&mut self.items_dropped, counts.sent);
         let share = record_event(
             &mut self.counted,
             counts.share,
@@ -371,6 +380,13 @@ impl<K: RecordKind, B: JournalName<K>> Journal<K, B> {
         ensures { AreTicketed K.rules B.base self.now.filled result }
     {
         self.tickets.tally()
+    }
+
+    /// Returns the number of items that the events of all calls have dropped. It stops at 2^64 - 1.
+    pub fn items_dropped(&self) -> u64
+        ensures { result ≡ capped (dropped_in K.rules B.base self.now.filled) }
+    {
+        self.items_dropped
     }
 
     /// Moves calls that are answered later from the counts of a share to those of another, which has

@@ -1,7 +1,7 @@
 //! Laws of held records. The contract of each function is a law; its body only calls the functions
 //! whose laws it rests on.
 ghost use Rattle.ioc_history.specs.EventLaws.{EventLaws};
-ghost use Rattle.ioc_history.specs.Laws.{Lasts, LiveLasts, OneMore, HoldersMove, HoldersAreFew, HeldAreFewer, EndsOver, NobodyHas, PlaceForOneMore, OneMayBegin, CancelIsHeld, BeginningIsHeld, Asks, HeldAlike, Falls, Gathers, Opens, HoldsAll, Parts, Joins, LinkParts, LinkJoins, LinkMoves, RescansApart, BeginsSound, StaysSound, Replays};
+ghost use Rattle.ioc_history.specs.Laws.{Lasts, LiveLasts, OneMore, HoldersMove, HoldersAreFew, HeldAreFewer, EndsOver, EndsLast, NobodyHas, PlaceForOneMore, OneMayBegin, CancelIsHeld, BeginningIsHeld, Asks, HeldAlike, Falls, Gathers, Opens, HoldsAll, Parts, Joins, LinkParts, LinkJoins, LinkMoves, RescansApart, BeginsSound, StaysSound, Replays};
 
 use ioc_events::call_rules::{
     calls_are_local, calls_count_holders, calls_end_what_nobody_has, calls_keep_records,
@@ -73,9 +73,12 @@ pub fn one_may_begin<K: RecordKind>()
 }
 
 /// A put with notification has ended among all records exactly if it has ended among the held ones
-/// and no other record is part of it: its count among all is zero then.
+/// and no other record is part of it: its count among all is zero then. By the last call of a legal
+/// list exactly those have ended that something was part of before, or that the call began, and that
+/// nothing is part of afterwards.
 pub fn those_ended_are_over<K: RecordKind>()
     ensures over { EndsOver K.rules }
+    ensures last { EndsLast K.rules }
     ensures nobody { NobodyHas K.rules }
 {
     events_have_laws::<K>();

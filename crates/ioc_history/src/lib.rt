@@ -48,7 +48,7 @@ pub use cell::{Cell, CellName, EntryName, KeyPass, Keys, NoteName};
 pub use desk::DeskAccount;
 pub use entries::{Entries, Piece};
 pub use entry::JournalEntry;
-pub use event_counts::{EngineCounts, EventCounts};
+pub use event_counts::{EngineCounts, EventCounts, SentCounts};
 pub use free_places::{FreePlaces, PLACES, Place, Places};
 pub use gate::Gate;
 pub use journal::{Appended, Journal};

@@ -16,7 +16,7 @@ use crate::request_tickets::RequestTickets;
 use crate::shared_journal::SharedJournal;
 use crate::short_lock::lock_soon;
 use crate::{EntryName, pass};
-use ioc_events::Entry;
+use ioc_events::{Call, Entry};
 use ioc_ledger::{Ticket, Tickets};
 use ioc_record::RecordKind;
 use std::marker::Brand;
@@ -30,6 +30,17 @@ pub struct Posted<K: RecordKind, B: JournalName<K>> {
     pub tickets: Tickets<RequestTickets<K, B>>,
 }
 
+// Returns the number of requests that a posted event or an interrupt asks for.
+fn requests_of(made: &Call) -> u64
+    ensures { result ≡ requests_of made.now }
+{
+    match made {
+        Call::Post(_, count) => *count,
+        Call::Interrupt(_, count) => *count,
+        _ => 0,
+    }
+}
+
 impl<K: RecordKind, B: JournalName<K>> SharedJournal<K, B> {
     // Adds the call of a desk that `S` names.
     fn append_posted_as<S: EntryName, R: Wait>(
@@ -38,16 +49,15 @@ impl<K: RecordKind, B: JournalName<K>> SharedJournal<K, B> {
         place: Place<K, B>,
         desk: &mut DeskAccount<K, B>,
         entry: Entry,
-        count: u64,
     ) -> Posted<K, B>
         requires entry { S.entry ≡ entry }
         requires posting { is_posting entry.call ≡ true }
         requires answers { entry.answers ≡ [] }
-        requires count { requests_of entry.call ≡ count }
         ensures call { HasCalled K.rules B.base desk.old S.entry desk.new }
         ensures receipt { result.receipt ≡ desk.new.seen }
-        ensures tickets { result.tickets ≤ count }
+        ensures tickets { result.tickets ≤ requests_of entry.call }
     {
+        let count = requests_of(&entry.call);
         let made = JournalEntry {
             desk: desk.number,
             call: desk.next,
@@ -70,24 +80,22 @@ impl<K: RecordKind, B: JournalName<K>> SharedJournal<K, B> {
     }
 
     /// Adds a posted event or an interrupt as a call of a desk, and begins tickets for the requests
-    /// that it asks for, which the call tells as its count. It concerns no set. Afterwards the desk knows the whole list. Fewer tickets
-    /// than `count` come back if more than 2^63 would have been begun for callback queues.
+    /// that it asks for, whose number the call tells. It concerns no set. Afterwards the desk knows the
+    /// whole list. Fewer tickets come back if more than 2^63 would have been begun for callback queues.
     pub fn append_posted<R: Wait>(
         &self,
         rt: &R,
         place: Place<K, B>,
         desk: &mut DeskAccount<K, B>,
         entry: Entry,
-        count: u64,
     ) -> Posted<K, B>
         requires posting { is_posting entry.call ≡ true }
         requires answers { entry.answers ≡ [] }
-        requires count { requests_of entry.call ≡ count }
         ensures call { HasCalled K.rules B.base desk.old entry desk.new }
         ensures receipt { result.receipt ≡ desk.new.seen }
-        ensures tickets { result.tickets ≤ count }
+        ensures tickets { result.tickets ≤ requests_of entry.call }
     {
-        self.append_posted_as::<Brand, R>(rt, place, desk, entry, count)
+        self.append_posted_as::<Brand, R>(rt, place, desk, entry)
     }
 
     /// Begins tickets for the requests that an event of a record asks for. Fewer than `count` come

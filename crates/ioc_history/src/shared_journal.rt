@@ -242,7 +242,7 @@ impl<K: RecordKind, B: JournalName<K>> SharedJournal<K, B> {
         requires may { MayAppend K.rules B.base (cell_view set.old) S.entry counts.sent counts.share counts.before counts.after }
         ensures call { HasCalled K.rules B.base desk.old S.entry desk.new }
         ensures receipt { result.receipt ≡ desk.new.seen }
-        ensures tickets { IsFew K.rules B.base desk.new.seen → result.tickets ≡ counts.sent }
+        ensures tickets { IsFew K.rules B.base desk.new.seen → result.tickets ≡ counts.sent.once }
         ensures share { IsGivenBack counts.share counts.after result.share }
         ensures set { (set.new.table_id ≡ set.old.table_id) × (cell_view set.new ≡ holder desk.new.seen (cell_view set.old).owns) }
         ensures added { (log : List Note) × Added K.rules B.base (cell_view set.old).seen (cell_view set.old).owns S.entry log
@@ -284,7 +284,7 @@ impl<K: RecordKind, B: JournalName<K>> SharedJournal<K, B> {
         requires backed { IsBacked counts.share counts.before }
         ensures call { HasCalled K.rules B.base desk.old entry desk.new }
         ensures receipt { result.receipt ≡ desk.new.seen }
-        ensures tickets { IsFew K.rules B.base desk.new.seen → result.tickets ≡ counts.sent }
+        ensures tickets { IsFew K.rules B.base desk.new.seen → result.tickets ≡ counts.sent.once }
         ensures share { IsGivenBack counts.share counts.after result.share }
         ensures set { (set.new.table_id ≡ set.old.table_id) × (cell_view set.new ≡ holder desk.new.seen (cell_view set.old).owns) }
         ensures added { (log : List Note) × Added K.rules B.base (cell_view set.old).seen (cell_view set.old).owns entry log desk.new.seen }
@@ -314,7 +314,7 @@ impl<K: RecordKind, B: JournalName<K>> SharedJournal<K, B> {
             counts.before counts.after }
         ensures call { HasCalled K.rules B.base desk.old S.entry desk.new }
         ensures receipt { result.receipt ≡ desk.new.seen }
-        ensures tickets { IsFew K.rules B.base desk.new.seen → result.tickets ≡ counts.sent }
+        ensures tickets { IsFew K.rules B.base desk.new.seen → result.tickets ≡ counts.sent.once }
         ensures share { IsGivenBack counts.share counts.after result.share }
         ensures one { (one.new.table_id ≡ one.old.table_id) × (cell_view one.new ≡ holder desk.new.seen P.keys) }
         ensures other { (other.new.table_id ≡ other.old.table_id) × (cell_view other.new ≡ holder desk.new.seen P.rest) }
@@ -366,7 +366,7 @@ impl<K: RecordKind, B: JournalName<K>> SharedJournal<K, B> {
         requires backed { IsBacked counts.share counts.before }
         ensures call { HasCalled K.rules B.base desk.old entry desk.new }
         ensures receipt { result.receipt ≡ desk.new.seen }
-        ensures tickets { IsFew K.rules B.base desk.new.seen → result.tickets ≡ counts.sent }
+        ensures tickets { IsFew K.rules B.base desk.new.seen → result.tickets ≡ counts.sent.once }
         ensures share { IsGivenBack counts.share counts.after result.share }
         ensures one { (one.new.table_id ≡ one.old.table_id) × (cell_view one.new ≡ holder desk.new.seen P.keys) }
         ensures other { (other.new.table_id ≡ other.old.table_id) × (cell_view other.new ≡ holder desk.new.seen P.rest) }

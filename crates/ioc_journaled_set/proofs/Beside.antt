@@ -21,7 +21,7 @@ use Rattle.ioc_history.specs.Key.{Key, Has as Has_key}
 use Rattle.ioc_history.specs.KeyLaws.{has_left, has_right}
 use Rattle.ioc_history.specs.Line.{Continues, noted}
 use Rattle.ioc_history.specs.Legal.{IsLegal, IsSound, key_of, map_of, notifications_key}
-use Rattle.ioc_history.specs.Counting.{once_in, tallied_by, BothMaySend, BothMayCount}
+use Rattle.ioc_history.specs.Counting.{sent_in, tallied_by, BothMaySend, BothMayCount}
 use Rattle.ioc_ledger.specs.Shared.{ShareView}
 use Rattle.ioc_ledger.specs.declared.tally.Tally.{Tally}
 use Rattle.ioc_history.specs.Covering.{Holds, Cover, CancelsWithin}
@@ -97,9 +97,9 @@ module _ {R D : Type 0} {k : RecordRules R} {gives : D → Ask → ℕ → Answe
   pub both_follow : BothMayFollow k base seen owned also_seen puts_key entry
   both_follow = subst (λ (x : Entry). BothMayFollow k base seen owned also_seen puts_key x) d.entry_is (λ log desk call own sound go also legal. (goes log desk call own sound go also legal).legal)
 
-  -- The event sends as many once requests after any such list as on the set.
-  pub both_send : BothMaySend k base seen owned also_seen puts_key entry (length (once_in come_to.outbox))
-  both_send = subst (λ (x : Entry). BothMaySend k base seen owned also_seen puts_key x (length (once_in come_to.outbox))) d.entry_is
+  -- The event sends and drops as much after any such list as on the set.
+  pub both_send : BothMaySend k base seen owned also_seen puts_key entry (sent_in come_to)
+  both_send = subst (λ (x : Entry). BothMaySend k base seen owned also_seen puts_key x (sent_in come_to)) d.entry_is
       (λ log desk call own sound go also legal.
       let here = held log desk call own sound go also legal in
       sent_on k gives h h' moment event reply come_to d.does d.there d.laws.one_more d.laws.moves base log desk call ((owned ++ puts_key) ++ own) sound legal here

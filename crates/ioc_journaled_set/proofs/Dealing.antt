@@ -7,7 +7,7 @@ use Rattle.ioc_fields.specs.declared.field_no.FieldNo.{FieldNo}
 use Rattle.ioc_dbcommon.specs.declared.link_field.LinkField.{LinkField}
 use Rattle.ioc_record.specs.RecordRules.{RecordRules}
 use Rattle.ioc_set_records.specs.Joined.{AreShared}
-use Rattle.ioc_store.specs.World.{World}
+use Rattle.ioc_store.specs.World.{World, at}
 use Rattle.ioc_history.specs.declared.entry.Note.{Note}
 use Rattle.ioc_history.specs.declared.cell.View.{View}
 use Rattle.ioc_history.specs.Key.{Key, Has}
@@ -16,6 +16,8 @@ use Rattle.ioc_history.specs.Line.{Continues, holder}
 use Rattle.ioc_history.specs.Legal.{IsLegal, IsSound, map_of}
 use Rattle.ioc_history.specs.Covering.{Cover}
 use Rattle.ioc_history.specs.Laws.{GoesOn}
+use Rattle.ioc_history.specs.Counting.{BothMaySend, sent_counts}
+use Rattle.ioc_history.proofs.Dropping.{links-drop, link-sends_after}
 use Rattle.ioc_history.specs.LinkChange.{link_note}
 use Rattle.ioc_history.specs.Account.{IsHolder, AreRecords, BothMayFollow, AddedByBoth}
 use Rattle.ioc_set.specs.SetState.{SetState, now_of}
@@ -82,6 +84,13 @@ module _ {R : Type 0} (k : RecordRules R) (base : World R) (moment s : ℕ) (fie
     → GoesOn k base log (link_note desk call moment s field link ((owned ++ also_owned) ++ own)) Known) where
   pub both_may_follow : BothMayFollow k base seen owned also_seen also_owned (link_change moment s field link)
   both_may_follow log desk call own sound go also legal = (goes log desk call own sound go also legal).legal
+
+  -- It sends no once request, and drops what its record tells.
+  pub both_may_send : (dropped : ℕ) → ((log : List Note) → Continues seen owned log → IsLegal k base log → dropped ≡ links-drop k (at k (map_of k base log) s) field link)
+      → BothMaySend k base seen owned also_seen also_owned (link_change moment s field link) (sent_counts 0 dropped)
+  both_may_send dropped drops log desk call own sound go also legal =
+      ap (λ (n : ℕ). sent_counts 0 n) (drops log go legal)
+      ∙ sym (link-sends_after k base log desk call moment s field link ((owned ++ also_owned) ++ own) (goes log desk call own sound go also legal).legal)
 
   pub known_then : (log longer : List Note) → AddedByBoth k base seen owned also_seen also_owned (link_change moment s field link) log longer → Known (map_of k base longer)
   known_then log longer added =

@@ -36,7 +36,7 @@ use Rattle.ioc_events.proofs.RecordLists.{taken-from_each}
 use Rattle.ioc_history.specs.declared.entry.Note.{Note}
 use Rattle.ioc_history.specs.Key.{Key, Has as Has_key}
 use Rattle.ioc_history.specs.Legal.{key_of, notifications_key, done, map_of, Fits, IsLegal, IsUntouched}
-use Rattle.ioc_history.specs.Counting.{is_completion, once_in, once_by, tallied_by}
+use Rattle.ioc_history.specs.Counting.{is_completion, sent_in, sent_by, nothing_sent, tallied_by}
 use Rattle.ioc_history.specs.Covering.{Holds}
 use Rattle.ioc_history.specs.Laws.{StaysSound, CancelIsHeld, BeginningIsHeld, HeldAlike}
 use Rattle.ioc_history.proofs.Placing.{live-once}
@@ -143,12 +143,12 @@ module _ {R : Type 0} (k : RecordRules R) where
     unfolding begun begun_at cancelled
     no-calls m = refl
 
-    none-sent : (m : World R) → length (once_in (given_up m).outbox) ≡ 0
+    none-sent : (m : World R) → sent_in (given_up m) ≡ nothing_sent
     unfolding begun begun_at cancelled
     none-sent m = refl
 
-    once-none : (m : World R) → is_live number m.live ≡ true → NoneReady k m → AreActive k number m → once_by k m note ≡ 0
-    once-none m live none active = ap (λ (s : Called R). length (once_in s.world.outbox)) (note-done m live none active) ∙ none-sent m
+    sends-none : (m : World R) → is_live number m.live ≡ true → NoneReady k m → AreActive k number m → sent_by k m note ≡ nothing_sent
+    sends-none m live none active = ap (λ (s : Called R). sent_in s.world) (note-done m live none active) ∙ none-sent m
 
     counts-none : (t : Tally) (m : World R) → tallied t (begun_at moment m) (Cancel number) (record { world = given_up m; reply = Plain; requests = followed_by No_requests No_requests }) ≡ t
     unfolding tallied begun begun_at cancelled
@@ -251,7 +251,7 @@ module _ {R : Type 0} (k : RecordRules R) where
         },
         record {
           tally = tally-none lawful desk call moment number keys m live is_sound.none_ready active;
-          once = once-none lawful desk call moment number keys m live is_sound.none_ready active;
+          sent = sends-none lawful desk call moment number keys m live is_sound.none_ready active;
         },
       )
 

@@ -1,16 +1,18 @@
 -- What two sets know after a link change that leads from one into the other.
 use Rattle.std.proofs.Common.{◌≡◌, ◌⊎◌, ℕ, List, [], ◌∷◌, ◌++◌, Option, None, sym, ap, ◌∙◌, subst, inl, inr, ⊎_elim}
-use Rattle.std.specs.Prelude.{IsSome}
+use Rattle.std.specs.Prelude.{IsSome, unwrap_or}
 use Rattle.std.specs.FinMap.{get, insert}
 use Rattle.ioc_fields.specs.declared.field_no.FieldNo.{FieldNo}
 use Rattle.ioc_dbcommon.specs.declared.link_field.LinkField.{LinkField}
 use Rattle.ioc_dbcommon.specs.Links.{no_link, use_of, named_by}
+use Rattle.ioc_record.specs.Laws.{IsLawful}
 use Rattle.ioc_record.specs.RecordRules.{RecordRules}
+use Rattle.ioc_history.proofs.Dropping.{links-drop, rewires-drop, begun-rewired-drops}
 use Rattle.ioc_set_records.specs.Contents.{Records, record_at}
 use Rattle.ioc_set_records.specs.Joined.{relinked}
-use Rattle.ioc_store.specs.World.{World, begun_at, put}
+use Rattle.ioc_store.specs.World.{World, at, begun_at, put}
 use Rattle.ioc_store.specs.Scanning.{device_of}
-use Rattle.ioc_store.specs.Worlds.{has-put, has-put_back}
+use Rattle.ioc_store.specs.Worlds.{at-put_same, has-put, has-put_back}
 use Rattle.ioc_history.specs.declared.entry.Note.{Note}
 use Rattle.ioc_history.specs.declared.cell.View.{View}
 use Rattle.ioc_history.specs.Key.{Key, Has as Has_key}
@@ -23,7 +25,7 @@ use Rattle.ioc_history.specs.LinkChange.{TakesLink, link_note}
 use Rattle.ioc_journaled_set.specs.LinkLaws.{SetsLead, SetsMayBeOne}
 use Rattle.ioc_history.specs.Account.{AreKnown}
 use Rattle.ioc_set.specs.SetState.{SetState, now_of}
-use Rattle.ioc_set_store.specs.Resting.{resting}
+use Rattle.ioc_set.specs.Resting.{resting}
 use Rattle.ioc_set.specs.Sound.{IsSound as IsSound-set}
 use Rattle.ioc_set.specs.Linking.{LeadsInto, MayBeOne}
 use Rattle.ioc_journaled_set.specs.LinkChanges.{keys_of}
@@ -77,6 +79,30 @@ module _ {R D : Type 0} (k : RecordRules R) (before other after other_then rest 
       joined q (begun_back k (now_of led.both) moment q
       (rewired_back k (device_of k (record_at k before.records s)) (begun_at moment (now_of led.both)) s q (begun_there k (now_of led.both) moment s own_in_both)
       (subst (λ (x : Records R). IsSome (get x q)) (ap (λ (w : World R). w.records) led.sent) has)))
+
+  -- The record of the change has its new link in the joined set.
+  stay_record : record_at k led.stay.records s ≡ k.with_link (record_at k before.records s) field no_link
+  unfolding at put
+  stay_record = elim (led.falls.shared s) [
+    | inl p ↦ ap (λ (o : Option R). unwrap_or o k.missing) p.0 ∙ at-put_same k (now_of before) s (k.with_link (record_at k before.records s) field no_link)
+    | inr p ↦ absurd (none_some (get led.stay.records s) p.0 led.falls.own)
+  ]
+
+  both_record : record_at k led.both.records s ≡ k.with_link (record_at k led.stay.records s) field link
+  unfolding at put
+  both_record = elim (led.joins.shared s) [
+    | inl p ↦ ap (λ (o : Option R). unwrap_or o k.missing) (sym p.0) ∙ at-put_same k (now_of led.stay) s (k.with_link (record_at k led.stay.records s) field link)
+    | inr p ↦ absurd (none_some (get linked s) p.0 (set_there k s s led.stay.records _ led.falls.own led.falls.own))
+  ]
+
+  -- The change drops what its record tells.
+  pub lead_drops : IsLawful k → (dropped : ℕ) → dropped ≡ come_to.dropped → dropped ≡ links-drop k (at k (now_of before) s) field link
+  unfolding at
+  lead_drops lawful dropped is =
+      let text = device_of k (record_at k before.records s) in
+      is ∙ ap (λ (w : World R). w.dropped) led.sent ∙ begun-rewired-drops k text (now_of led.both) moment s
+      ∙ ap (λ (r : R). rewires-drop k text r 0 [])
+      (both_record ∙ ap (λ (r : R). k.with_link r field link) stay_record ∙ lawful.set_twice (record_at k before.records s) field no_link link)
 
   pub lead_within : (owned also : List Key) → Cover owned (now_of before) → Cover also (now_of other) → (key : Key) → Has_key key (keys_of after ++ keys_of rest) → Has_key key (owned ++ also)
   lead_within owned also covers also_covers =

@@ -8,7 +8,7 @@ use Rattle.ioc_record.specs.RecordRules.{RecordRules, targets}
 use Rattle.ioc_store.specs.World.{World, Has, IsClosed, at}
 use Rattle.ioc_history.specs.Covering.{Holds}
 use Rattle.ioc_set.specs.SetState.{SetState, nothing_held}
-use Rattle.ioc_set_store.specs.Resting.{resting}
+use Rattle.ioc_set.specs.Resting.{resting}
 use Rattle.ioc_journaled_set.specs.Holding.{IsHeld}
 use Rattle.ioc_journaled_set.proofs.Keys.{no_keys}
 

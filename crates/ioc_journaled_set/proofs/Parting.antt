@@ -1,5 +1,5 @@
 -- What a set knows after a link change within it.
-use Rattle.std.proofs.Common.{◌≡◌, ℕ, false, true, List, ◌++◌, Option, sym, ap, subst}
+use Rattle.std.proofs.Common.{◌≡◌, ℕ, false, true, List, ◌++◌, Option, sym, ap, ◌∙◌, subst}
 use Rattle.std.specs.Prelude.{Contains, IsSome, is_some, unwrap_or}
 use Rattle.std.specs.FinMap.{get}
 use Rattle.ioc_fields.specs.declared.field_no.FieldNo.{FieldNo}
@@ -25,6 +25,8 @@ use Rattle.ioc_set.specs.SetState.{SetState, now_of}
 use Rattle.ioc_set.specs.Sound.{IsSound as IsSound-set}
 use Rattle.ioc_set.specs.Linking.{FallsApart, link_change_of}
 use Rattle.ioc_history.specs.Key.{Has as Has_key}
+use Rattle.ioc_history.proofs.Dropping.{links-drop, changed-drops}
+use Rattle.ioc_set.specs.Doing.{with_kept}
 use Rattle.ioc_journaled_set.specs.Holding.{KeepsDevices}
 use Rattle.ioc_journaled_set.specs.LinkChanges.{keys_of}
 use Rattle.ioc_journaled_set.proofs.Dealing.{of_first, of_other, not_both, dealt_within, dealt_apart}
@@ -60,6 +62,16 @@ module _ {R : Type 0} (k : RecordRules R) where
     allowed = allowed;
   }
 
+-- The record of a held set is the one of all records, after whatever list.
+module _ {R : Type 0} (k : RecordRules R) (lasts : Lasts k) (base v : World R) (seen : List Note) (owned : List Key) (covers : Cover owned v) (holds : Holds k (map_of k base seen) v) (s : ℕ) (there : Has v s) where
+  known_record : (log : List Note) → Continues seen owned log → IsLegal k base log → at k (map_of k base log) s ≡ at k v s
+  unfolding at
+  known_record log go legal = ap (λ (o : Option R). unwrap_or o k.missing) ((holds_on k lasts base v seen owned covers holds log go legal).records s there)
+
+  pub known_drops : (field : FieldNo) (link : LinkField) (dropped : ℕ) → dropped ≡ links-drop k (at k v s) field link
+      → (log : List Note) → Continues seen owned log → IsLegal k base log → dropped ≡ links-drop k (at k (map_of k base log) s) field link
+  known_drops field link dropped is log go legal = is ∙ ap (λ (r : R). links-drop k r field link) (sym (known_record log go legal))
+
 module _ {R D : Type 0} (k : RecordRules R) (before stay rest : SetState R D) (moment s : ℕ) (field : FieldNo) (link : LinkField) (takes : TakesLink k (now_of before) s field)
     (falls : FallsApart before (link_change_of k before moment s field link).records s stay rest) where
   abbrev begins : World R
@@ -82,6 +94,12 @@ module _ {R D : Type 0} (k : RecordRules R) (before stay rest : SetState R D) (m
         dealt_within stay rest (owned ++ also)
         (λ q some. owned_there q (of_first (get all) (get stay.records) (get rest.records) falls.shared q some))
         (λ q some. owned_there q (of_other (get all) (get stay.records) (get rest.records) falls.shared q some))
+
+  -- The change drops what its record tells.
+  pub part_drops : (come_to : World R) (dropped : ℕ) → dropped ≡ come_to.dropped
+      → with_kept (link_change_of k before moment s field link).records before.live before.waiting come_to ≡ link_change_of k before moment s field link
+      → dropped ≡ links-drop k (at k (now_of before) s) field link
+  part_drops come_to dropped is left = is ∙ ap (λ (w : World R). w.dropped) left ∙ changed-drops k (now_of before) moment s field link
 
   -- Devices go with their records.
   module _ (had : ℕ → Option D → Type 0) (keeps : KeepsDevices had before) where

@@ -13,7 +13,7 @@ use Rattle.ioc_notify.specs.Living.{is_live}
 use Rattle.ioc_journaled_set.specs.PutPlaces.{without}
 use Rattle.ioc_history.proofs.Basics.{one-there, later, passes-there}
 use Rattle.ioc_history.proofs.LiveFew.{numbers, number-there}
-use Rattle.ioc_set_store.proofs.Gathered.{there-passes}
+use Rattle.ioc_set.proofs.Gathered.{there-passes}
 
 abbrev pub Differ : List ℕ → Type 0
 Differ xs = AllPairs (λ earlier later. earlier ≢ later) xs

@@ -23,6 +23,9 @@ use Rattle.ioc_history.specs.Legal.{AreLiveAlike, IsLegal, IsSound, IsUntouched,
 use Rattle.ioc_history.specs.Covering.{Holds, Cover}
 use Rattle.ioc_history.specs.Laws.{Lasts, GoesOn, StaysSound}
 use Rattle.ioc_history.specs.Account.{journalled, MayFollow, Added}
+use Rattle.ioc_history.specs.Counting.{sent_in, nothing_sent}
+use Rattle.ioc_history.specs.CountLaws.{LinksCountNothing}
+use Rattle.ioc_journaled_set.specs.Sent.{MayCountNothing}
 use Rattle.ioc_set.specs.SetState.{SetState, now_of}
 use Rattle.ioc_journaled_set.specs.LinkChanges.{IsKnown, link_refusal}
 use Rattle.ioc_journaled_set.proofs.Serving.{holds_on}
@@ -113,6 +116,20 @@ module _ {R : Type 0} (k : RecordRules R) (lasts : Lasts k) (stays : StaysSound 
   -- The refusal may follow any legal list.
   pub refusal_may_follow : (entry : Entry) → link_refusal moment s field link ≡ entry → MayFollow k base seen owned entry
   refusal_may_follow entry is = subst (λ (x : Entry). MayFollow k base seen owned x) is (λ log desk call own sound go legal. (refusal_goes_on log desk call own sound go legal).legal)
+
+  begun_sends : (m : World R) → sent_in (begun_at moment m) ≡ nothing_sent
+  unfolding begun begun_at
+  begun_sends m = refl
+
+  -- The refusal counts nothing.
+  pub refusal_counts_nothing : LinksCountNothing k → (entry : Entry) → link_refusal moment s field link ≡ entry → MayCountNothing k base seen owned entry
+  refusal_counts_nothing law entry is = subst (λ (x : Entry). MayCountNothing k base seen owned x) is (λ log desk call own sound go legal.
+      let n = noted (journalled desk call (link_refusal moment s field link)) (owned ++ own) in
+      let m = map_of k base log in
+      record {
+        tally = (law m n refl).0;
+        sent = ap (λ (d : Called R). sent_in d.world) (refused_of_all log desk call (owned ++ own) sound (holds_on k lasts base v seen owned covers holds log go legal)) ∙ begun_sends m;
+      })
 
   -- A held set stays held after the refusal.
   pub held_after_refusal : (entry : Entry) → link_refusal moment s field link ≡ entry → (log longer : List Note) → Added k base seen owned entry log longer → Holds k (map_of k base longer) v

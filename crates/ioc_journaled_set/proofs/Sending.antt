@@ -6,14 +6,15 @@ use Rattle.ioc_store.specs.declared.outbox.OutboxItem.{OutboxItem}
 use Rattle.ioc_store.specs.declared.outbox.OutboxItem.TheVariants.{Once, Post, Change}
 use Rattle.ioc_events.specs.declared.event.Entry.{Entry}
 use Rattle.ioc_history.specs.declared.entry.Note.{Note}
+use Rattle.ioc_history.specs.declared.event_counts.SentCounts.{SentCounts}
 use Rattle.ioc_history.specs.Key.{Key}
 use Rattle.ioc_history.specs.Line.{noted}
 use Rattle.ioc_history.specs.Legal.{map_of}
 use Rattle.ioc_history.specs.Account.{journalled}
-use Rattle.ioc_history.specs.Counting.{once_in, MaySend, BothMaySend, MayCount, BothMayCount, DoesCount}
+use Rattle.ioc_history.specs.Counting.{once_in, nothing_sent, MaySend, MayCount, BothMayCount, DoesCount}
 use Rattle.ioc_ledger.specs.Shared.{ShareView}
 use Rattle.ioc_ledger.specs.declared.tally.Tally.{Tally}
-use Rattle.ioc_history.specs.CountLaws.{counts_nothing, QuestionsCountNothing}
+use Rattle.ioc_history.specs.CountLaws.{counts_nothing, is_link_change, QuestionsCountNothing, LinksCountNothing}
 use Rattle.ioc_journaled_set.specs.Sent.{MayCountNothing}
 
 -- One more item that is a once request is one more.
@@ -34,21 +35,20 @@ none_more_once (Change t ∷ xs) x isnt = none_more_once xs x isnt
 
 -- An event that counts nothing.
 module _ {R : Type 0} (k : RecordRules R) (base : World R) (seen : List Note) (owned : List Key) (entry : Entry) (nothing : MayCountNothing k base seen owned entry) where
-  pub sends_none : (sent : ℕ) → sent ≡ 0 → MaySend k base seen owned entry sent
-  sends_none sent is log desk call own sound go legal = is ∙ sym (nothing log desk call own sound go legal).once
+  pub sends_none : (sent : SentCounts) → sent ≡ nothing_sent → MaySend k base seen owned entry sent
+  sends_none sent is log desk call own sound go legal = is ∙ sym (nothing log desk call own sound go legal).sent
 
   pub counts_none : (share : Option ShareView) (before after : Tally) → share ≡ None → MayCount k base seen owned entry share before after
   counts_none share before after is log desk call own sound go legal =
       subst (λ (o : Option ShareView). DoesCount k (map_of k base log) (noted (journalled desk call entry) (owned ++ own)) o before after) (sym is) (nothing log desk call own sound go legal).tally
 
--- A question or a link change counts nothing.
+-- A question counts nothing.
 module _ {R : Type 0} (k : RecordRules R) (law : QuestionsCountNothing k) (base : World R) (entry : Entry) (nothing : counts_nothing entry.call ≡ true) (seen : List Note) (owned : List Key) where
   pub asks_none : MayCountNothing k base seen owned entry
   asks_none log desk call own sound go legal = law (map_of k base log) (noted (journalled desk call entry) (owned ++ own)) nothing
 
-  pub both_send_none : (also_seen : List Note) (also_owned : List Key) (sent : ℕ) → sent ≡ 0 → BothMaySend k base seen owned also_seen also_owned entry sent
-  both_send_none also_seen also_owned sent is log desk call own sound go also legal = is ∙ sym (law (map_of k base log) (noted (journalled desk call entry) ((owned ++ also_owned) ++ own)) nothing).once
-
-  pub both_count_none : (also_seen : List Note) (also_owned : List Key) (share : Option ShareView) (before after : Tally) → share ≡ None → BothMayCount k base seen owned also_seen also_owned entry share before after
-  both_count_none also_seen also_owned share before after is log desk call own sound go also legal =
-      subst (λ (o : Option ShareView). DoesCount k (map_of k base log) (noted (journalled desk call entry) ((owned ++ also_owned) ++ own)) o before after) (sym is) (law (map_of k base log) (noted (journalled desk call entry) ((owned ++ also_owned) ++ own)) nothing).tally
+-- A link change counts nothing.
+module _ {R : Type 0} (k : RecordRules R) (law : LinksCountNothing k) (base : World R) (entry : Entry) (changes : is_link_change entry.call ≡ true) (seen : List Note) (owned : List Key) where
+  pub links_count_none : (also_seen : List Note) (also_owned : List Key) (share : Option ShareView) (before after : Tally) → share ≡ None → BothMayCount k base seen owned also_seen also_owned entry share before after
+  links_count_none also_seen also_owned share before after is log desk call own sound go also legal =
+      subst (λ (o : Option ShareView). DoesCount k (map_of k base log) (noted (journalled desk call entry) ((owned ++ also_owned) ++ own)) o before after) (sym is) (law (map_of k base log) (noted (journalled desk call entry) ((owned ++ also_owned) ++ own)) changes).0

@@ -1,5 +1,5 @@
 -- What a set knows after an event of its own.
-use Rattle.std.proofs.Common.{◌≡◌, ◌↔◌, ℕ, Bool, true, false, cond, List, [], ◌∷◌, ◌++◌, length, Option, Some, None, refl, sym, ap, ◌∙◌, subst, zero, suc, arith}
+use Rattle.std.proofs.Common.{◌≡◌, ◌↔◌, ℕ, Bool, true, false, cond, List, [], ◌∷◌, ◌++◌, length, Option, Some, None, refl, sym, ap, ap₂, ◌∙◌, subst, zero, suc, arith}
 use Rattle.std.specs.Prelude.{◌==◌, Contains, is_some, Result, Ok}
 use Rattle.ioc_values.specs.declared.error.IocError.{IocError}
 use Rattle.std.specs.Ordering.{nat_cmp}
@@ -31,7 +31,7 @@ use Rattle.ioc_history.specs.Key.{Key, Has as Has_key}
 use Rattle.ioc_history.specs.Line.{Continues, holder, noted}
 use Rattle.ioc_history.specs.KeyLaws.{has_left}
 use Rattle.ioc_history.specs.Legal.{AreLiveAlike, IsLegal, IsSound, key_of, notifications_key, map_of, done}
-use Rattle.ioc_history.specs.Counting.{once_in, once_by, tallied_by, MaySend, MayCount, DoesCount}
+use Rattle.ioc_history.specs.Counting.{once_in, sent_counts, sent_in, sent_by, tallied_by, MaySend, MayCount, DoesCount}
 use Rattle.ioc_history.specs.CountLaws.{PartsCountAlike}
 use Rattle.ioc_store.specs.declared.outbox.OutboxItem.{OutboxItem}
 use Rattle.ioc_history.specs.Covering.{Holds, Cover, CancelsWithin, AreHeldAlike, IsOf, IsDone}
@@ -198,6 +198,9 @@ module _ {R D : Type 0} (k : RecordRules R) (gives : D → Ask → ℕ → Answe
   pub outbox_then : come_to.outbox ≡ after.outbox
   outbox_then = ap (λ (w : World R). w.outbox) does.left
 
+  dropped_then : come_to.dropped ≡ after.dropped
+  dropped_then = ap (λ (w : World R). w.dropped) does.left
+
   -- The counts of the set are those before with what the event counts.
   pub tally_then : h'.tally ≡ tallied h.tally (begun_at e.moment (now_of h)) e.event (done_by k (now_of h) e)
   tally_then =
@@ -242,10 +245,10 @@ module _ {R D : Type 0} (k : RecordRules R) (gives : D → Ask → ℕ → Answe
     pub moved_on : MovesAlike k (map_of k base log) (map_of k base (log ++ note ∷ [])) (now_of h) after
     moved_on = moves base (now_of h) after log note sound legal holds is_of is_done
 
-    -- The event sends as many once requests among all records as on the set.
-    pub sent_on : PartsCountAlike k → length (once_in come_to.outbox) ≡ once_by k (map_of k base log) note
+    -- The event sends and drops as much among all records as on the set.
+    pub sent_on : PartsCountAlike k → sent_in come_to ≡ sent_by k (map_of k base log) note
     unfolding done called
-    sent_on law = ap (λ (items : List OutboxItem). length (once_in items)) outbox_then ∙ sym (law base (now_of h) log note sound legal holds is_of).once
+    sent_on law = ap₂ (λ (items : List OutboxItem) (dropped : ℕ). sent_counts (length (once_in items)) dropped) outbox_then dropped_then ∙ sym (law base (now_of h) log note sound legal holds is_of).sent
 
     -- The event counts as much among all records as on the set.
     pub counted_on : PartsCountAlike k → h'.tally ≡ tallied_by k h.tally (map_of k base log) note
@@ -307,9 +310,9 @@ module _ {R D : Type 0} {k : RecordRules R} {gives : D → Ask → ℕ → Answe
   pub may_follow : MayFollow k base seen owned entry
   may_follow = subst (λ (x : Entry). MayFollow k base seen owned x) d.entry_is (λ log desk call own sound go legal. (goes_on log desk call own sound go legal).legal)
 
-  -- The event sends as many once requests after any legal list as on the set.
-  pub may_send : MaySend k base seen owned entry (length (once_in come_to.outbox))
-  may_send = subst (λ (x : Entry). MaySend k base seen owned x (length (once_in come_to.outbox))) d.entry_is
+  -- The event sends and drops as much after any legal list as on the set.
+  pub may_send : MaySend k base seen owned entry (sent_in come_to)
+  may_send = subst (λ (x : Entry). MaySend k base seen owned x (sent_in come_to)) d.entry_is
       (λ log desk call own sound go legal.
       sent_on k gives h h' moment event reply come_to d.does d.there d.laws.one_more d.laws.moves base log desk call (owned ++ own) sound legal (held_on log desk call own sound go legal) (covers_on log desk call own sound go legal)
       (no_cancel k (map_of k base log) (now_of h) event (ordinary_on event d.ordinary)) (asks_nothing k (begun_at moment (now_of h)) (begun_at moment (map_of k base log)) event d.ordinary) (λ out. d.same) d.laws.counts)

@@ -21,7 +21,7 @@ use Rattle.ioc_history.proofs.LiveFew.{numbers, number-there, entry-live}
 use Rattle.ioc_set.specs.SetState.{SetState, now_of}
 use Rattle.ioc_set.specs.Sound.{IsSound}
 use Rattle.ioc_set.specs.Linking.{MayBeOne}
-use Rattle.ioc_set_store.specs.Recounting.{together}
+use Rattle.ioc_set.specs.Recounting.{together}
 use Rattle.ioc_journaled_set.specs.LinkLaws.{SetsMayBeOne}
 
 not-there : {A : Type 0} (o : Option A) → o ≡ None → IsSome o → ⊥

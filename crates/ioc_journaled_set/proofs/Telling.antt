@@ -20,7 +20,7 @@ use Rattle.ioc_events.specs.Holding.{IsCounted, holders}
 use Rattle.ioc_events.specs.Step.{Stepped, stepped, done_alone, done_there, refused, with_starts, lets_start, calls_since}
 use Rattle.ioc_history.specs.declared.entry.Note.{Note}
 use Rattle.ioc_history.specs.Key.{Key}
-use Rattle.ioc_history.specs.Counting.{is_completion, once_in, tallied_by}
+use Rattle.ioc_history.specs.Counting.{is_completion, sent_in, nothing_sent, tallied_by}
 use Rattle.ioc_journaled_set.specs.Sent.{MayCountNothing}
 use Rattle.ioc_history.specs.Line.{Continues, noted}
 use Rattle.ioc_history.specs.Legal.{AreLiveAlike, IsLegal, IsSound, IsUntouched, Fits, done, map_of}
@@ -86,7 +86,7 @@ module _ {R : Type 0} (k : RecordRules R) where
   unfolding begun begun_at
   none_called m moment = refl
 
-  none_sent : (m : World R) (moment : ℕ) → length (once_in (begun_at moment m).outbox) ≡ 0
+  none_sent : (m : World R) (moment : ℕ) → sent_in (begun_at moment m) ≡ nothing_sent
   unfolding begun begun_at
   none_sent m moment = refl
 
@@ -130,7 +130,7 @@ module _ {R : Type 0} (k : RecordRules R) where
         let same = done_is log desk number (puts_key ++ own) sound go legal in
         record {
           tally = λ t. none_counted (map_of k base log) entry.moment t (note log desk number (puts_key ++ own) sound go legal) same refl none;
-          once = ap (λ (d : Called R). length (once_in d.world.outbox)) same ∙ none_sent (map_of k base log) entry.moment;
+          sent = ap (λ (d : Called R). sent_in d.world) same ∙ none_sent (map_of k base log) entry.moment;
         }
 
     pub told_alike : (log longer : List Note) → Added k base seen puts_key entry log longer → AreLiveAlike (map_of k base log) (map_of k base longer)

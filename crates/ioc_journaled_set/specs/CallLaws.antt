@@ -1,7 +1,7 @@
 -- The laws on which the calls on journaled sets rest, in one record. This project's own.
 use Rattle.ioc_record.specs.RecordRules.{RecordRules}
 use Rattle.ioc_history.specs.EventLaws.{EventLaws}
-use Rattle.ioc_history.specs.Laws.{Lasts, LiveLasts, OneMore, HoldersMove, HoldersAreFew, HeldAreFewer, EndsOver, NobodyHas, PlaceForOneMore, HeldAlike, StaysSound}
+use Rattle.ioc_history.specs.Laws.{Lasts, LiveLasts, OneMore, HoldersMove, HoldersAreFew, HeldAreFewer, EndsOver, EndsLast, NobodyHas, PlaceForOneMore, HeldAlike, StaysSound}
 use Rattle.ioc_history.specs.CountLaws.{PartsCountAlike}
 
 pub record CallLaws {R : Type 0} (k : RecordRules R) : Type 0 where
@@ -18,6 +18,7 @@ pub record CallLaws {R : Type 0} (k : RecordRules R) : Type 0 where
   pub fewer : HeldAreFewer k
   pub place : PlaceForOneMore k
   pub over : EndsOver k
+  pub last : EndsLast k
   pub nobody : NobodyHas k
   -- An event counts the same among held records as among all.
   pub counts : PartsCountAlike k

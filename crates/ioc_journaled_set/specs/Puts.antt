@@ -22,7 +22,9 @@ use Rattle.ioc_history.specs.Account.{DeskView, HasCalled, Pass, puts_key, calls
 use Rattle.ioc_history.specs.declared.entry.Note.{Note}
 use Rattle.ioc_history.specs.declared.cell.View.{View}
 use Rattle.ioc_history.specs.Line.{holder, Continues}
-use Rattle.ioc_history.specs.Legal.{map_of, IsLegal, IsSound}
+use Rattle.ioc_events.specs.Holding.{IsHeld, Cancels}
+use Rattle.ioc_events.specs.Holding.{Begins as IsBegun}
+use Rattle.ioc_history.specs.Legal.{entry_of, map_of, IsLegal, IsSound}
 use Rattle.ioc_events.specs.Calls.{called}
 use Rattle.ioc_journaled_set.specs.PutPlaces.{Places}
 
@@ -107,8 +109,14 @@ module _ {R : Type 0} (k : RecordRules R) (base : World R) where
 
   -- Holds if these are the puts with notification that have ended by the last of these calls, among
   -- all records: those that ended on its set and that nothing in any set is part of, in the order
-  -- in which they ended on the set.
+  -- in which they ended on the set. These are exactly those that a record or a waiting list had before
+  -- the call, or that the call began, and that none has after it, but for one that the call canceled.
   pub record HaveEnded (on_set : List ℕ) (seen : List Note) (numbers : List ℕ) : Type 0 where
+    pub before : List Note
+    pub last : Note
+    pub ends : seen ≡ before ++ last ∷ []
+    pub exactly : (n : ℕ) → Contains numbers n
+        ↔ ((IsHeld k (map_of k base before) n ⊎ IsBegun (entry_of last).call n) × (IsHeld k (map_of k base seen) n → ⊥) × (Cancels (entry_of last).call n → ⊥))
     pub of_all : (n : ℕ) → Contains numbers n ↔ Contains (map_of k base seen).ended n
     pub in_order : numbers ≡ filter (λ n. not (is_live n (map_of k base seen).live)) on_set
 

@@ -3,7 +3,7 @@ ghost use Rattle.std.specs.Prelude.{◌≡◌, ◌⊎◌, IfOk, IfErr, OnOk, OnE
 ghost use Rattle.ioc_values.specs.declared.error.IocError.TheVariants.{QueueFull};
 ghost use Rattle.ioc_events.specs.declared.event.Event.TheVariants.{Put};
 ghost use Rattle.ioc_journaled_set.specs.Sent.{AreTicketsFor};
-ghost use Rattle.ioc_set_store.specs.SetStore.{world_of};
+ghost use Rattle.ioc_set.specs.SetStore.{world_of};
 ghost use Rattle.ioc_journaled_set.specs.Holding.{numbers_of, Begins, IsNoCall};
 ghost use Rattle.ioc_journaled_set.specs.Puts.{NoneMayBegin, HaveEnded};
 
@@ -17,7 +17,7 @@ use ioc_device::Device;
 use ioc_events::Event;
 use ioc_history::DeskAccount;
 use ioc_record::RecordKind;
-use ioc_set_store::EventBuffers;
+use ioc_set::EventBuffers;
 use ioc_values::IocError;
 use std::sync::{Mutex, Wait};
 

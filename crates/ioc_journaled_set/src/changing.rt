@@ -9,7 +9,7 @@ ghost use Rattle.ioc_store.specs.World.{common_at};
 ghost use Rattle.ioc_topology.specs.Change.{AreLent};
 ghost use Rattle.ioc_history.specs.Places.{IsNoPlace};
 ghost use Rattle.ioc_set.specs.SetState.{now_of, folded};
-ghost use Rattle.ioc_set_store.specs.SetStore.{world_of};
+ghost use Rattle.ioc_set.specs.SetStore.{world_of};
 ghost use Rattle.ioc_journaled_set.specs.Holding.{HeldView, numbers_of};
 ghost use Rattle.ioc_journaled_set.specs.Changing.{size_of, KeepsLarger, KeepsLargest, FellApart, WasLed, Relinks};
 
@@ -19,8 +19,7 @@ use crate::sets_name::SetsName;
 use ioc_device::Device;
 use ioc_history::{DeskAccount, JournalName, Receipt};
 use ioc_record::RecordKind;
-use ioc_set::LinkChange;
-use ioc_set_store::EventBuffers;
+use ioc_set::{EventBuffers, LinkChange};
 use ioc_topology::Locked;
 use ioc_values::IocError;
 use std::mem;

@@ -1,16 +1,17 @@
 //! The share that a set has of the engine's counts.
 ghost use Rattle.std.specs.Prelude.{◌≡◌, ◌<◌, ◌≤◌, ◌-◌, length, IsSome, None, Some};
 ghost use Rattle.std.specs.FinMap.{len};
-ghost use Rattle.ioc_history.specs.Counting.{once_in};
+ghost use Rattle.ioc_history.specs.Counting.{once_in, sent_in};
 ghost use Rattle.ioc_ledger.specs.Shared.{share_view, less_awaited};
 ghost use Rattle.ioc_set.specs.Linking.{awaited_alone};
-ghost use Rattle.ioc_set_store.specs.SetStore.{world_of};
+ghost use Rattle.ioc_set.specs.SetStore.{world_of};
 
-use ioc_history::{EngineCounts, EventCounts, JournalName, RequestTickets, SharedJournal};
+use ioc_history::{
+    EngineCounts, EventCounts, JournalName, RequestTickets, SentCounts, SharedJournal,
+};
 use ioc_ledger::{Tally, TallyShare, Ticket};
 use ioc_record::RecordKind;
-use ioc_set::LockSet;
-use ioc_set_store::EventBuffers;
+use ioc_set::{EventBuffers, LockSet};
 use ioc_store::OutboxItem;
 use std::sync::Wait;
 
@@ -43,8 +44,8 @@ pub(crate) fn take_share<K: RecordKind, B: JournalName<K>>(
 }
 
 /// Returns what an event on a set has counted: the set's share, with its counts before and after the
-/// event, and the number of once requests that the event has sent. Takes the ticket that the event
-/// came with, if it came from a queue.
+/// event, the number of once requests that the event has sent, and that of the items that it has
+/// dropped. Takes the ticket that the event came with, if it came from a queue.
 #[inline(always)]
 pub(crate) fn counts_since<K: RecordKind, B: JournalName<K>, D>(
     share: TallyShare<EngineCounts<K, B>>,
@@ -55,12 +56,16 @@ pub(crate) fn counts_since<K: RecordKind, B: JournalName<K>, D>(
 ) -> EventCounts<K, B>
     ensures share { result.share ≡ Some share }
     ensures counts { (result.before ≡ before) × (result.after ≡ set.now.tally) }
-    ensures sent { result.sent ≡ length (once_in (world_of buffers.now.store).outbox) }
+    ensures sent { result.sent ≡ sent_in (world_of buffers.now.store) }
+    ensures once { result.sent.once ≡ length (once_in (world_of buffers.now.store).outbox) }
     ensures ticket { result.ticket ≡ ticket.old }
     ensures spent { ticket.new ≡ None }
 {
     EventCounts {
-        sent: count_once(buffers.items()),
+        sent: SentCounts {
+            once: count_once(buffers.items()),
+            dropped: buffers.dropped(),
+        },
         share: Some(share),
         before,
         after: set.tally(),

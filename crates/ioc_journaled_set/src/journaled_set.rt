@@ -11,8 +11,8 @@ ghost use Rattle.ioc_set.specs.SetState.{NoneIsLive, folded, now_of};
 ghost use Rattle.ioc_set.specs.NoCalls.{no_call};
 ghost use Rattle.ioc_set.specs.Doing.{is_ordinary};
 ghost use Rattle.ioc_history.specs.Places.{IsNoPlace};
-ghost use Rattle.ioc_set_store.specs.SetStore.{world_of};
-ghost use Rattle.ioc_history.specs.Account.{number_begun};
+ghost use Rattle.ioc_set.specs.SetStore.{world_of};
+ghost use Rattle.ioc_history.specs.Account.{number_begun, HasSeenMore, IsAccount};
 ghost use Rattle.ioc_journaled_set.specs.Puts.{BeginsUnder, HaveEnded};
 ghost use Rattle.ioc_journaled_set.specs.Holding.{is_on_record, IsCounted, IsLent, IsOwner, KeepsDevices, held_view, numbers_of, Serves, Tells, IsNoCall};
 ghost use Rattle.ioc_journaled_set.specs.SameDevice.{IsDeviceOf};
@@ -29,15 +29,15 @@ use ioc_fields::FieldNo;
 use ioc_history::count_laws::questions_count_nothing;
 use ioc_history::legal_laws::{events_are_held, holding_lasts};
 use ioc_history::{
-    Cell, DeskAccount, EngineCounts, EventCounts, KeyPass, Receipt, RequestTickets, pass,
+    Cell, DeskAccount, EngineCounts, EventCounts, KeyPass, Receipt, RequestTickets, SharedJournal,
+    pass,
 };
 use ioc_ledger::{TallyShare, Ticket};
 use ioc_names::RecordNo;
 use ioc_notify::NotifyId;
 use ioc_notify::table_laws::lines_tell_holders;
 use ioc_record::{FieldText, RecordKind};
-use ioc_set::{LockSet, sets_stay_without_puts};
-use ioc_set_store::EventBuffers;
+use ioc_set::{EventBuffers, LockSet, sets_stay_without_puts};
 use ioc_values::IocError;
 use std::alloc::Global;
 use std::marker::Model;
@@ -136,6 +136,27 @@ impl<K: RecordKind + Drop, B: SetsName<K, D>, D: Device> JournaledSet<K, B, D> {
             .live_puts()
             .iter()
             .any(|live| live.number == number)
+    }
+
+    /// Moves the set and a desk on to the list of all calls. The set stays as it is. It has a record.
+    pub fn learn<R: Wait>(
+        &mut self,
+        rt: &R,
+        journal: &SharedJournal<K, B>,
+        desk: &mut DeskAccount<K, B>,
+    )
+        requires some { (n : ℕ) × Contains (numbers_of self.old) n }
+        ensures set { self.new.set ≡ self.old.set }
+        ensures seen { self.new.seen ≡ desk.new.seen }
+        ensures desk { HasSeenMore desk.old desk.new }
+        ensures account { IsAccount K.rules B.base desk.new.seen }
+    {
+        holding_lasts::<K>();
+        let Some(mut pass) = self.pass.take() else {
+            unreachable!();
+        };
+        journal.tell_both(rt, &mut pass, desk);
+        self.pass = Some(pass);
     }
 
     // Refuses a put that names no field of its record, or one that can't be put. Such a call isn't

@@ -11,11 +11,12 @@ ghost use Rattle.ioc_history.specs.declared.entry.Note.{Note};
 ghost use Rattle.ioc_history.specs.Key.{Key, Has};
 ghost use Rattle.ioc_history.specs.Line.{holder};
 ghost use Rattle.ioc_history.specs.Account.{IsHolder, AreRecords, BothMayFollow, HasCalled, AddedByBoth, number_given};
-ghost use Rattle.ioc_history.specs.CountLaws.{counts_nothing};
+ghost use Rattle.ioc_history.specs.CountLaws.{is_link_change};
+ghost use Rattle.ioc_history.specs.Counting.{BothMaySend, sent_counts};
 ghost use Rattle.ioc_history.specs.Places.{IsNoPlace};
 ghost use Rattle.ioc_set.specs.SetState.{now_of, folded};
 ghost use Rattle.ioc_set.specs.Linking.{MayBeOne};
-ghost use Rattle.ioc_set_store.specs.SetStore.{world_of};
+ghost use Rattle.ioc_set.specs.SetStore.{world_of};
 ghost use Rattle.ioc_journaled_set.specs.Puts.{told_at};
 ghost use Rattle.ioc_journaled_set.specs.LinkChanges.{keys_of, IsKnown, Refuses, Parts, Leads};
 
@@ -32,17 +33,18 @@ use ioc_history::{
     DeskAccount, EventCounts, JournalName, KeyPass, Keys, Place, Receipt, SharedJournal, pass,
 };
 use ioc_record::RecordKind;
-use ioc_set::{LinkChange, LockSet};
-use ioc_set_store::EventBuffers;
+use ioc_set::{EventBuffers, LinkChange, LockSet};
 use ioc_values::IocError;
 use std::marker::Brand;
 use std::sync::Wait;
 
-// The two sets after a link change: the one with the record whose link was changed, and the other.
+// The two sets after a link change: the one with the record whose link was changed, and the other;
+// and the number of items that the change has dropped.
 #[derive(Drop)]
 struct LinkedSets<'a, K: RecordKind, D> {
     stay: &'a LockSet<K, D>,
     rest: &'a LockSet<K, D>,
+    dropped: u64,
 }
 
 // Adds a link change to the journal, and assigns the keys of the records to the passes of the two
@@ -60,7 +62,9 @@ fn keep_change<P: Keys, K: RecordKind, B: JournalName<K>, D, R: Wait>(
     requires table { (one.old.table_id ≡ B.table) × (other.old.table_id ≡ B.table) }
     requires one { IsHolder (cell_view one.old) × AreRecords (cell_view one.old).owns }
     requires other { IsHolder (cell_view other.old) × AreRecords (cell_view other.old).owns }
-    requires nothing { (counts_nothing made ≡ true) × (number_given made ≡ None) }
+    requires nothing { (is_link_change made ≡ true) × (number_given made ≡ None) }
+    requires sent { BothMaySend K.rules B.base (cell_view one.old).seen (cell_view one.old).owns (cell_view other.old).seen
+        (cell_view other.old).owns (told_at moment made) (sent_counts 0 after.dropped) }
     requires keys { (P.keys ≡ keys_of after.stay.now) × (P.rest ≡ keys_of after.rest.now) }
     requires within { (key : Key) → Has key (P.keys ++ P.rest) → Has key ((cell_view one.old).owns ++ (cell_view other.old).owns) }
     requires apart { (key : Key) → Has key P.keys → Has key P.rest → ⊥ }
@@ -89,7 +93,7 @@ fn keep_change<P: Keys, K: RecordKind, B: JournalName<K>, D, R: Wait>(
             other,
             desk,
             entry,
-            EventCounts::none(),
+            EventCounts::dropping(after.dropped),
         )
         .receipt
 }
@@ -152,6 +156,7 @@ impl<K: RecordKind + Drop, B: SetsName<K, D>, D: Device> JournaledSet<K, B, D> {
         let after = LinkedSets {
             stay: &self.set,
             rest: &rest,
+            dropped: buffers.dropped(),
         };
         let made = Call::Link(number, field, chosen, Ok(()));
         let receipt = keep_change::<Brand, K, B, D, R>(
@@ -264,6 +269,7 @@ impl<K: RecordKind + Drop, B: SetsName<K, D>, D: Device> JournaledSet<K, B, D> {
         let after = LinkedSets {
             stay: &self.set,
             rest: &rest,
+            dropped: buffers.dropped(),
         };
         let made = Call::Link(number, field, chosen, Ok(()));
         let receipt = keep_change::<Brand, K, B, D, R>(

@@ -3,7 +3,7 @@ ghost use Rattle.std.specs.Prelude.{◌≡◌, ◌≤◌, length, IfOk, IfErr, O
 ghost use Rattle.ioc_store.specs.Given.{answers_of};
 ghost use Rattle.ioc_events.specs.declared.event.Call.TheVariants as call;
 ghost use Rattle.ioc_history.specs.Places.{IsNoPlace};
-ghost use Rattle.ioc_set_store.specs.SetStore.{world_of};
+ghost use Rattle.ioc_set.specs.SetStore.{world_of};
 ghost use Rattle.ioc_set.specs.Doing.{Does};
 ghost use Rattle.ioc_set.specs.Sound.{IsSound};
 
@@ -14,9 +14,8 @@ use ioc_history::{DeskAccount, JournalName, Place, Receipt, RequestTickets};
 use ioc_ledger::Tickets;
 use ioc_notify::Live;
 use ioc_record::RecordKind;
-use ioc_set::LockSet;
-use ioc_set_store::EventBuffers;
-use ioc_set_store::event_buffers::kept_answers;
+use ioc_set::event_buffers::kept_answers;
+use ioc_set::{EventBuffers, LockSet};
 use ioc_values::IocError;
 use std::alloc::{AllocError, Global};
 use std::mem;

@@ -11,7 +11,7 @@ ghost use Rattle.ioc_history.specs.Counting.{BothMaySend, BothMayCount, IsBacked
 ghost use Rattle.ioc_journaled_set.specs.Sent.{AreTicketsFor};
 ghost use Rattle.ioc_history.specs.Line.{holder};
 ghost use Rattle.ioc_history.specs.Account.{IsHolder, AreRecords, BothMayFollow, HasCalled, AddedByBoth, number_begun, number_given, puts_key};
-ghost use Rattle.ioc_set_store.specs.SetStore.{world_of};
+ghost use Rattle.ioc_set.specs.SetStore.{world_of};
 ghost use Rattle.ioc_journaled_set.specs.Puts.{puts_view, MayTake, NoneMayTake, CanBegin, NoneMayBegin, NoneIsAbove, AreTaken, AreCounted, AreMoved};
 ghost use Rattle.ioc_journaled_set.specs.PutPlaces.{without};
 
@@ -24,8 +24,7 @@ use ioc_history::{Appended, DeskAccount, EventCounts, JournalName, KeyPass};
 use ioc_notify::table_laws::{lines_tell_holders, tables_are_short};
 use ioc_notify::{Live, NotificationCounts, NotifyId};
 use ioc_record::RecordKind;
-use ioc_set::LockSet;
-use ioc_set_store::EventBuffers;
+use ioc_set::{EventBuffers, LockSet};
 use std::alloc::{AllocError, Global};
 use std::marker::{Brand, Model, PhantomData};
 use std::sync::{Mutex, MutexGuard, Wait};
@@ -277,7 +276,7 @@ pub(crate) fn keep_beside<K: RecordKind, B: JournalName<K>, D, R: Wait>(
     requires begins { IfSome (number_given ran.entry.call) (λ number. CanBegin all.old number) }
     requires sent { BothMaySend K.rules B.base (cell_view pass.old).seen (cell_view pass.old).owns all.old.seen puts_key ran.entry
         counts.sent }
-    requires outbox { counts.sent ≡ length (once_in (world_of buffers.old.store).outbox) }
+    requires outbox { counts.sent.once ≡ length (once_in (world_of buffers.old.store).outbox) }
     requires counts { BothMayCount K.rules B.base (cell_view pass.old).seen (cell_view pass.old).owns all.old.seen puts_key ran.entry
         counts.share counts.before counts.after }
     requires backed { IsBacked counts.share counts.before }

@@ -18,7 +18,7 @@ use Rattle.ioc_store.specs.Weights.{weight_of, total-insert}
 use Rattle.ioc_store.specs.Worlds.{sent_by, ones_few}
 use Rattle.ioc_events.proofs.Sums.{sum-same, sum-add, sum-none, top, map-sum}
 use Rattle.ioc_set.specs.Awaiting.{one_if_awaits, awaited}
-use Rattle.ioc_set_store.specs.Resting.{resting}
+use Rattle.ioc_set.specs.Resting.{resting}
 use Rattle.ioc_set.specs.Linking.{NoneAwaits}
 use Rattle.ioc_set.proofs.Linked.{has_begun}
 

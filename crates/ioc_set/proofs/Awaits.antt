@@ -7,7 +7,7 @@ use Rattle.ioc_record.specs.RecordRules.{RecordRules}
 use Rattle.ioc_set_records.specs.Contents.{Records, record_at}
 use Rattle.ioc_store.specs.World.{total}
 use Rattle.ioc_set.specs.Awaiting.{one_if_awaits}
-use Rattle.ioc_set_store.proofs.Entries.{entry-next}
+use Rattle.ioc_set.proofs.Entries.{entry-next}
 
 module _ {R : Type 0} (k : RecordRules R) (m : Records R) where
   -- The number of records from a place on that await a completion.

@@ -17,10 +17,10 @@ use Rattle.ioc_events.specs.EventReplay.{at_the_end}
 use Rattle.ioc_events.specs.Holding.{IsCounted, IsHeld, by_a_record}
 use Rattle.ioc_set.specs.Awaiting.{awaited}
 use Rattle.ioc_set.specs.SetState.{SetState, now_of}
-use Rattle.ioc_set_store.specs.Resting.{resting}
+use Rattle.ioc_set.specs.Resting.{resting}
 use Rattle.ioc_set.specs.Linking.{with_empty_history, AreCalm}
 use Rattle.ioc_set.specs.Sound.{IsSound, CountsAddUp}
-use Rattle.ioc_set_store.proofs.Entries.{none_some}
+use Rattle.ioc_set.proofs.Entries.{none_some}
 
 pub none_in : {A : Type 0} (x : A) → Contains [] x → ⊥
 none_in x c = let l = c.1 in omega arith

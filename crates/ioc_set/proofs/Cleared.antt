@@ -4,8 +4,8 @@ use Rattle.ioc_ledger.specs.declared.tally.Tally.{Tally}
 use Rattle.ioc_record.specs.RecordRules.{RecordRules}
 use Rattle.ioc_set_records.specs.Contents.{Contents}
 use Rattle.ioc_events.specs.declared.event.EventEntry.{EventEntry}
-use Rattle.ioc_set_store.specs.Puts.{Puts}
-use Rattle.ioc_set_store.specs.Recounting.{AreLive}
+use Rattle.ioc_set.specs.Puts.{Puts}
+use Rattle.ioc_set.specs.Recounting.{AreLive}
 use Rattle.ioc_set.specs.Awaiting.{awaited}
 use Rattle.ioc_set.specs.SetState.{SetState, folded}
 use Rattle.ioc_set.specs.Doing.{held_by}

@@ -28,13 +28,13 @@ use Rattle.ioc_events.specs.Step.{Stepped, stepped}
 use Rattle.ioc_events.specs.StepRules.{Step}
 use Rattle.ioc_events.specs.EventReplay.{Replay, at_the_end, and_then}
 use Rattle.ioc_events.specs.Holding.{IsCounted}
-use Rattle.ioc_set_store.specs.declared.set_store.SetStore.{SetStore}
-use Rattle.ioc_set_store.specs.SetStore.{world_of, given_of}
-use Rattle.ioc_set_store.specs.Attached.{AttachedGives, attached_in}
-use Rattle.ioc_set_store.specs.Puts.{Puts, AreNone, now_with, is_put_with_notification}
-use Rattle.ioc_set_store.specs.Resting.{resting}
+use Rattle.ioc_set.specs.declared.set_store.SetStore.{SetStore}
+use Rattle.ioc_set.specs.SetStore.{world_of, given_of}
+use Rattle.ioc_set.specs.Attached.{AttachedGives, attached_in}
+use Rattle.ioc_set.specs.Puts.{Puts, AreNone, now_with, is_put_with_notification}
+use Rattle.ioc_set.specs.Resting.{resting}
 use Rattle.ioc_set.specs.Doing.{with_kept, Did}
-use Rattle.ioc_set_store.proofs.AttachedLaws.{base_kept, worked}
+use Rattle.ioc_set.proofs.AttachedLaws.{base_kept, worked}
 
 -- An event begins on a store that has these records and these puts with notification.
 pub starts : {R D : Type 0} (s : SetStore R D) (rs : Records R) (live : List Live) (waiting : List Waiting) (moment : ℕ) → s.members.records ≡ rs → (world_of s).live ≡ live → (world_of s).waiting ≡ waiting
@@ -112,7 +112,7 @@ module _ {R D : Type 0} (k : RecordRules R) (gives : D → Ask → ℕ → Answe
         (subst (λ (l : List Call). DevicesWork (AttachedGives {R = R} gives) (attached_in s.members) (given_of s).moment l (attached_in s'.members)) calls begins.work)))
 
     -- The state of the event, with what the set has taken back.
-    same_world : with_kept after.records is.live is.waiting (world_of (record { members = left; event = record s'.event { notifications = back } })) ≡ world_of s'
+    same_world : with_kept after.records is.live is.waiting (world_of (record { members = left; event = record s'.event { follow_ups = record s'.event.follow_ups { notifications = back } } })) ≡ world_of s'
     same_world = λ i. record {
       records = (now i).records;
       moment = (world_of s').moment;
@@ -124,7 +124,7 @@ module _ {R D : Type 0} (k : RecordRules R) (gives : D → Ask → ℕ → Answe
       waiting = (taken i).waiting;
     }
 
-    pub did : Did k gives before was t (record { moment = moment; event = event; answers = answers; reply = reply }) after is counts (record { members = left; event = record s'.event { notifications = back } })
+    pub did : Did k gives before was t (record { moment = moment; event = event; answers = answers; reply = reply }) after is counts (record { members = left; event = record s'.event { follow_ups = record s'.event.follow_ups { notifications = back } } })
     did = record {
       reply = sym told.reply;
       answers = used;

@@ -14,12 +14,12 @@ use Rattle.ioc_store.specs.World.{World, Keeps, at, begun, begun_at}
 use Rattle.ioc_store.specs.Given.{DevicesWork}
 use Rattle.ioc_events.specs.declared.event.Event.{Event}
 use Rattle.ioc_events.specs.declared.event.EventEntry.{EventEntry}
-use Rattle.ioc_set_store.specs.declared.set_store.SetStore.{SetStore}
-use Rattle.ioc_set_store.specs.SetStore.{world_of}
+use Rattle.ioc_set.specs.declared.set_store.SetStore.{SetStore}
+use Rattle.ioc_set.specs.SetStore.{world_of}
 use Rattle.ioc_set.specs.SetState.{SetState, now_of, folded, done_by, held_after}
-use Rattle.ioc_set_store.specs.Resting.{resting}
+use Rattle.ioc_set.specs.Resting.{resting}
 use Rattle.ioc_set.specs.Sound.{IsSound, TellsOf}
-use Rattle.ioc_set_store.specs.Puts.{Puts}
+use Rattle.ioc_set.specs.Puts.{Puts}
 use Rattle.ioc_set.specs.Doing.{held_by, with_place, with_kept, Did, Does}
 
 below_full : (n : ℕ) → (n == 64) ≡ false → n ≤ 64 → n < 64

@@ -4,7 +4,7 @@ use Rattle.ioc_ledger.specs.declared.tally.Tally.{Tally}
 use Rattle.ioc_record.specs.RecordRules.{RecordRules}
 use Rattle.ioc_set_records.specs.Contents.{Records, Contents, AreLike, RecordsAreLikeTheirBase, record_at}
 use Rattle.ioc_events.specs.declared.event.EventEntry.{EventEntry}
-use Rattle.ioc_set_store.specs.Puts.{Puts, no_puts, AreNone, HasBegun, begun_with}
+use Rattle.ioc_set.specs.Puts.{Puts, no_puts, AreNone, HasBegun, begun_with}
 use Rattle.ioc_set.specs.SetState.{folded}
 use Rattle.ioc_set.specs.Doing.{held_by}
 use Rattle.ioc_set.specs.Linking.{with_empty_history}

@@ -27,15 +27,15 @@ use Rattle.ioc_events.specs.Starting.{is_ready}
 use Rattle.ioc_events.specs.Holding.{IsCounted, IsHeld, by_a_record, in_a_waiting_list, HoldersCounted, holders, how_many, one_if_has}
 use Rattle.ioc_set.specs.Awaiting.{awaited}
 use Rattle.ioc_set.specs.SetState.{SetState, NoneIsLive, now_of}
-use Rattle.ioc_set_store.specs.Resting.{resting}
+use Rattle.ioc_set.specs.Resting.{resting}
 use Rattle.ioc_set.specs.Linking.{with_empty_history, AreHeld, MayBeOne}
-use Rattle.ioc_set_store.specs.Recounting.{own_waiting, together, AreLive, WaitsGoAlong}
+use Rattle.ioc_set.specs.Recounting.{own_waiting, together, AreLive, WaitsGoAlong}
 use Rattle.ioc_set.specs.Sound.{IsSound, CountsAddUp}
 use Rattle.ioc_set.proofs.Calm.{none_in, get-insert, shut}
-use Rattle.ioc_set_store.proofs.Entries.{none_some}
+use Rattle.ioc_set.proofs.Entries.{none_some}
 use Rattle.ioc_events.proofs.Counting.{lives, one_if}
-use Rattle.ioc_set_store.proofs.Fewer.{fewer}
-use Rattle.ioc_set_store.proofs.Gathered.{passes-there}
+use Rattle.ioc_set.proofs.Fewer.{fewer}
+use Rattle.ioc_set.proofs.Gathered.{passes-there}
 
 no_more : (t w l : ℕ) → w ≤ 1 → l ≡ cond (nat_lt 0 (t + w)) 1 0 → w ≤ l
 no_more t zero l once is = omega arith

@@ -16,16 +16,16 @@ use Rattle.ioc_set_records.specs.Joined.{AreShared, relinked}
 use Rattle.ioc_store.specs.World.{at}
 use Rattle.ioc_events.specs.Holding.{IsHeld, by_a_record, in_a_waiting_list, HoldersCounted, how_many}
 use Rattle.ioc_set.specs.SetState.{SetState, now_of}
-use Rattle.ioc_set_store.specs.Resting.{resting}
+use Rattle.ioc_set.specs.Resting.{resting}
 use Rattle.ioc_set.specs.Linking.{AreHeld, MayBeOne}
-use Rattle.ioc_set_store.specs.Recounting.{together, AreLive, WaitsGoAlong}
+use Rattle.ioc_set.specs.Recounting.{together, AreLive, WaitsGoAlong}
 use Rattle.ioc_set.proofs.Calm.{get-insert}
-use Rattle.ioc_set_store.proofs.Entries.{none_some}
+use Rattle.ioc_set.proofs.Entries.{none_some}
 use Rattle.ioc_events.proofs.Counting.{lives, how_many-append}
-use Rattle.ioc_set_store.proofs.Counted.{live-some, some-live}
-use Rattle.ioc_set_store.proofs.Fewer.{fewer}
+use Rattle.ioc_set.proofs.Counted.{live-some, some-live}
+use Rattle.ioc_set.proofs.Fewer.{fewer}
 use Rattle.ioc_events.proofs.Ended.{counted-there, there-counted}
-use Rattle.ioc_set_store.proofs.Gathered.{passes-there, there-passes, together-count, dead}
+use Rattle.ioc_set.proofs.Gathered.{passes-there, there-passes, together-count, dead}
 use Rattle.ioc_set.proofs.HeldRecords.{AreSame, Within, within_relinked, same_itself}
 
 -- Lemmas about those that are live on one of two sets.

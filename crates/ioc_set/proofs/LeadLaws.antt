@@ -19,12 +19,12 @@ use Rattle.ioc_set.specs.SetState.{SetState, NoneIsLive, now_of, folded}
 use Rattle.ioc_set.specs.Doing.{with_kept}
 use Rattle.ioc_set.specs.Linking.{with_empty_history, FallsApart, MayBeOne, BecomeOne, LeadsInto}
 use Rattle.ioc_set.specs.Sound.{IsSound}
-use Rattle.ioc_set_store.specs.Recounting.{AreLive}
+use Rattle.ioc_set.specs.Recounting.{AreLive}
 use Rattle.ioc_set.proofs.Joining.{stay_may}
 use Rattle.ioc_set.proofs.Linked.{stay_within}
 use Rattle.ioc_events.proofs.Counting.{few-one}
 use Rattle.ioc_set.proofs.Calm.{get-insert, none_in}
-use Rattle.ioc_set_store.proofs.Entries.{none_some}
+use Rattle.ioc_set.proofs.Entries.{none_some}
 
 -- An empty link leads nowhere.
 nowhere : named_by (use_of no_link) ≡ []

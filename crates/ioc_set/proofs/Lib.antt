@@ -23,3 +23,10 @@ mod Sums
 mod Staying
 mod NoCalls
 mod Awaits
+mod Giving
+mod AttachedLaws
+mod Entries
+mod Recounts
+mod Counted
+mod Fewer
+pub mod Gathered

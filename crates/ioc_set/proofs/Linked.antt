@@ -17,10 +17,10 @@ use Rattle.ioc_store.specs.Scanning.{rewired}
 use Rattle.ioc_events.specs.declared.event.EventEntry.{EventEntry}
 use Rattle.ioc_events.specs.Holding.{HoldersCounted}
 use Rattle.ioc_set.specs.Awaiting.{awaited}
-use Rattle.ioc_set_store.specs.Puts.{Puts, AreNone, HasBegun, begun_with}
-use Rattle.ioc_set_store.specs.Recounting.{own_waiting}
+use Rattle.ioc_set.specs.Puts.{Puts, AreNone, HasBegun, begun_with}
+use Rattle.ioc_set.specs.Recounting.{own_waiting}
 use Rattle.ioc_set.specs.SetState.{SetState, now_of}
-use Rattle.ioc_set_store.specs.Resting.{resting}
+use Rattle.ioc_set.specs.Resting.{resting}
 use Rattle.ioc_set.specs.Doing.{held_by}
 use Rattle.ioc_set.specs.Linking.{with_empty_history, AreCalm, AreHeld, FallsApart, BecomeOne, awaited_alone}
 use Rattle.ioc_ledger.specs.Requests.{added}

@@ -15,9 +15,9 @@ use Rattle.ioc_events.specs.declared.event.EventEntry.{EventEntry}
 use Rattle.ioc_events.specs.EventReplay.{at_the_end}
 use Rattle.ioc_events.specs.Holding.{IsCounted, HoldersAwait, holders, one_if_has}
 use Rattle.ioc_set.specs.Awaiting.{one_if_awaits, awaited}
-use Rattle.ioc_set_store.specs.Puts.{Puts, no_puts}
+use Rattle.ioc_set.specs.Puts.{Puts, no_puts}
 use Rattle.ioc_set.specs.SetState.{SetState, nothing_held}
-use Rattle.ioc_set_store.specs.Resting.{resting}
+use Rattle.ioc_set.specs.Resting.{resting}
 use Rattle.ioc_set.specs.Sound.{IsSound, CountsAddUp}
 use Rattle.ioc_set.specs.Doing.{held_by}
 use Rattle.ioc_set.proofs.EmptyHistory.{WereNone}

@@ -14,7 +14,7 @@ use Rattle.ioc_set_records.specs.Joined.{AreShared, relinked}
 use Rattle.ioc_store.specs.World.{World, Has, Keeps, at, begun, begun_at, put}
 use Rattle.ioc_store.specs.Scanning.{device_of, rewired}
 use Rattle.ioc_set.specs.SetState.{SetState, now_of}
-use Rattle.ioc_set_store.specs.Resting.{resting}
+use Rattle.ioc_set.specs.Resting.{resting}
 use Rattle.ioc_set.specs.Doing.{with_kept}
 use Rattle.ioc_set.specs.Linking.{with_empty_history, FallsApart, link_change_of}
 use Rattle.ioc_ledger.specs.Requests.{added}

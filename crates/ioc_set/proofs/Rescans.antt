@@ -17,12 +17,12 @@ use Rattle.ioc_store.specs.declared.outbox.OutboxItem.TheVariants.{Change}
 use Rattle.ioc_store.specs.World.{World, Has, Keeps, at, begun, begun_at, put, changed, sent, lost}
 use Rattle.ioc_store.specs.Scanning.{device_of, moved, rewired}
 use Rattle.ioc_store.specs.ScanLaws.{rewired-either}
-use Rattle.ioc_set_store.specs.declared.set_store.SetStore.{SetStore}
-use Rattle.ioc_set_store.specs.SetStore.{world_of}
-use Rattle.ioc_set_store.specs.Resting.{resting}
+use Rattle.ioc_set.specs.declared.set_store.SetStore.{SetStore}
+use Rattle.ioc_set.specs.SetStore.{world_of}
+use Rattle.ioc_set.specs.Resting.{resting}
 use Rattle.ioc_set.specs.Doing.{with_records, with_kept}
 use Rattle.ioc_set.proofs.Calm.{get-insert}
-use Rattle.ioc_set_store.proofs.Entries.{none_some}
+use Rattle.ioc_set.proofs.Entries.{none_some}
 
 -- The state of an event in a store whose records were swapped with those of a set.
 pub came_to : {R D : Type 0} (s' s'' : SetStore R D) (after : Contents R D) (w : World R) → after ≡ s'.members → s''.event ≡ s'.event → world_of s' ≡ w

@@ -25,7 +25,7 @@ use Rattle.ioc_events.specs.Starting.{NoneReady, is_ready}
 use Rattle.ioc_events.specs.Holding.{IsCounted, HoldersAwait, holders}
 use Rattle.ioc_set.specs.Awaiting.{awaited, one_if_completes}
 use Rattle.ioc_set.specs.SetState.{SetState, now_of, before_of, done_by, counted_on, held_after, folded}
-use Rattle.ioc_set_store.specs.Resting.{resting}
+use Rattle.ioc_set.specs.Resting.{resting}
 use Rattle.ioc_set.specs.Sound.{IsSound, TellsOf}
 use Rattle.ioc_set.proofs.Counts.{AnswersAddUp, answers_same, answers_then}
 

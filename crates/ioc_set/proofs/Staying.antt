@@ -22,7 +22,7 @@ use Rattle.ioc_events.specs.declared.event.Call.TheVariants as call
 use Rattle.ioc_events.specs.Holding.{IsCounted, IsHeld, EndsExactly, holders}
 use Rattle.ioc_set.specs.SetState.{SetState, NoneIsLive, now_of, done_by}
 use Rattle.ioc_set.specs.Sound.{IsSound}
-use Rattle.ioc_set_store.specs.Puts.{is_put_with_notification}
+use Rattle.ioc_set.specs.Puts.{is_put_with_notification}
 use Rattle.ioc_set.specs.Doing.{is_ordinary, with_place, Does}
 use Rattle.ioc_set.proofs.DoneLaws.{now_kept}
 

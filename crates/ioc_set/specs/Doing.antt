@@ -18,11 +18,11 @@ use Rattle.ioc_events.specs.declared.event.Event.TheVariants.{Process, Put, Comp
 use Rattle.ioc_events.specs.declared.event.EventEntry.{EventEntry}
 use Rattle.ioc_events.specs.declared.reply.Reply.{Reply}
 use Rattle.ioc_events.specs.Step.{tallied}
-use Rattle.ioc_set_store.specs.declared.set_store.SetStore.{SetStore}
-use Rattle.ioc_set_store.specs.SetStore.{world_of}
-use Rattle.ioc_set_store.specs.Puts.{Puts, now_with}
+use Rattle.ioc_set.specs.declared.set_store.SetStore.{SetStore}
+use Rattle.ioc_set.specs.SetStore.{world_of}
+use Rattle.ioc_set.specs.Puts.{Puts, now_with}
 use Rattle.ioc_set.specs.SetState.{SetState, now_of, folded, done_by, held_after}
-use Rattle.ioc_set_store.specs.Resting.{resting}
+use Rattle.ioc_set.specs.Resting.{resting}
 use Rattle.ioc_set.specs.Sound.{TellsOf}
 
 -- Holds of a request, a put and a completion.

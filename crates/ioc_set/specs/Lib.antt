@@ -5,3 +5,9 @@ pub mod Doing
 pub mod SetStateCode
 pub mod Linking
 pub mod NoCalls
+pub mod Attached
+pub mod SetStore
+pub mod SetStoreLaws
+pub mod Resting
+pub mod Puts
+pub mod Recounting

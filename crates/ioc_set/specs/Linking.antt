@@ -20,9 +20,9 @@ use Rattle.ioc_store.specs.World.{World, begun_at}
 use Rattle.ioc_store.specs.Scanning.{device_of, rewired, with_link_changed}
 use Rattle.ioc_events.specs.Holding.{HoldersAwait, HoldersCounted}
 use Rattle.ioc_set.specs.SetState.{SetState, NoneIsLive, now_of, nothing_held}
-use Rattle.ioc_set_store.specs.Resting.{resting}
+use Rattle.ioc_set.specs.Resting.{resting}
 use Rattle.ioc_set.specs.Doing.{with_kept}
-use Rattle.ioc_set_store.specs.Recounting.{WaitsGoAlong, together}
+use Rattle.ioc_set.specs.Recounting.{WaitsGoAlong, together}
 use Rattle.ioc_set.specs.Sound.{IsSound}
 
 -- The set with these records, devices, puts with notification and counts, and with an empty

@@ -14,7 +14,7 @@ use Rattle.ioc_store.specs.World.{World, begun_at}
 use Rattle.ioc_store.specs.Given.{listed}
 use Rattle.ioc_events.specs.declared.event.EventEntry.{EventEntry}
 use Rattle.ioc_events.specs.Step.{Stepped, stepped, tallied}
-use Rattle.ioc_set_store.specs.Resting.{resting}
+use Rattle.ioc_set.specs.Resting.{resting}
 
 -- The state of a set before the first event of its history.
 pub record SetBase (R : Type 0) : Type 0 where

@@ -1,11 +1,13 @@
 //! Events on a lock set, except link changes.
 ghost use Rattle.std.specs.Prelude.{◌≡◌, ◌<◌, ◌≤◌, ◌+◌, length, IfOk, OnOk, OnErr, vec_len, vec_capacity};
 ghost use Rattle.ioc_set_records.specs.Contents.{RecordsAreLikeTheirBase};
-ghost use Rattle.ioc_set_store.specs.SetStore.{world_of};
+ghost use Rattle.ioc_set.specs.SetStore.{world_of};
 ghost use Rattle.ioc_set.specs.Doing.{Does, held_by, with_place};
 
+use crate::event_buffers::EventBuffers;
 use crate::laws::{events_leave_sound, held_records_are_sound};
 use crate::linking::clear_history;
+use crate::live_puts::LivePuts;
 use crate::lock_set::LockSet;
 use crate::running::run_set_event;
 use ioc_device::Device;
@@ -13,7 +15,6 @@ use ioc_events::{Event, EventEntry, Reply};
 use ioc_ledger::Tally;
 use ioc_record::RecordKind;
 use ioc_set_records::Members;
-use ioc_set_store::{EventBuffers, LivePuts};
 use std::alloc::{AllocError, Global};
 
 // Makes a place for one more event in the history, which is cleared first if it is full.

@@ -28,9 +28,9 @@ ghost use Rattle.ioc_set.specs.Awaiting.{awaited};
 ghost use Rattle.ioc_set.specs.SetState.{SetState, NoneIsLive, now_of, folded, held_after};
 ghost use Rattle.ioc_set.specs.Doing.{is_ordinary, Does};
 ghost use Rattle.ioc_set.specs.Linking.{with_empty_history, AreCalm, AreHeld, MayBeOne};
-ghost use Rattle.ioc_set_store.specs.Recounting.{AreLive};
+ghost use Rattle.ioc_set.specs.Recounting.{AreLive};
 ghost use Rattle.ioc_set.specs.Sound.{CountsAddUp, IsSound, TellsOf};
-ghost use Rattle.ioc_set_store.specs.Puts.{is_put_with_notification};
+ghost use Rattle.ioc_set.specs.Puts.{is_put_with_notification};
 
 use crate::awaiting_laws::events_count_awaited;
 use ioc_device::Device;

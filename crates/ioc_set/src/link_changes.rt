@@ -7,13 +7,15 @@ ghost use Rattle.ioc_store.specs.World.{Has, begun_at};
 ghost use Rattle.ioc_set_records.specs.Joined.{HasLink, HasFreeLink, MayLink, relinked};
 ghost use Rattle.ioc_set.specs.SetState.{NoneIsLive, now_of, folded};
 ghost use Rattle.ioc_set.specs.Linking.{with_empty_history, FallsApart, MayBeOne, BecomeOne, LeadsInto, link_change_of};
-ghost use Rattle.ioc_set_store.specs.SetStore.{world_of};
+ghost use Rattle.ioc_set.specs.SetStore.{world_of};
 ghost use Rattle.ioc_set.specs.Doing.{with_kept};
 
 use crate::awaited::take_awaited;
+use crate::event_buffers::EventBuffers;
 use crate::laws::held_records_are_sound;
 use crate::link_change::LinkChange;
 use crate::linking::{add_counts, clear_history, rescan_on};
+use crate::live_puts::{LivePuts, PutsRoom, joined_puts, own_puts};
 use crate::lock_set::LockSet;
 use ioc_dbcommon::LinkBox;
 use ioc_device::Device;
@@ -22,8 +24,6 @@ use ioc_links::MAX_DEVICE_BYTES;
 use ioc_names::RecordNo;
 use ioc_record::RecordKind;
 use ioc_set_records::JoinBuffers;
-use ioc_set_store::live_puts::{PutsRoom, joined_puts, own_puts};
-use ioc_set_store::{EventBuffers, LivePuts};
 use ioc_values::Short;
 use std::alloc::{AllocError, Global};
 

@@ -5,11 +5,13 @@ ghost use Rattle.ioc_set_records.specs.Contents.{RecordsAreLikeTheirBase};
 ghost use Rattle.ioc_store.specs.Scanning.{rewired};
 ghost use Rattle.ioc_store.specs.World.{begun_at};
 ghost use Rattle.ioc_set.specs.Doing.{with_records};
-ghost use Rattle.ioc_set_store.specs.Resting.{resting};
+ghost use Rattle.ioc_set.specs.Resting.{resting};
 ghost use Rattle.ioc_ledger.specs.Requests.{added};
-ghost use Rattle.ioc_set_store.specs.Puts.{begun_with};
-ghost use Rattle.ioc_set_store.specs.SetStore.{world_of};
+ghost use Rattle.ioc_set.specs.Puts.{begun_with};
+ghost use Rattle.ioc_set.specs.SetStore.{world_of};
 
+use crate::event_buffers::EventBuffers;
+use crate::live_puts::LivePuts;
 use ioc_device::Device;
 use ioc_events::EventEntry;
 use ioc_ledger::Tally;
@@ -18,7 +20,6 @@ use ioc_names::RecordNo;
 use ioc_process::scanning::rewire;
 use ioc_record::RecordKind;
 use ioc_set_records::Members;
-use ioc_set_store::{EventBuffers, LivePuts};
 use ioc_values::Short;
 use std::mem;
 

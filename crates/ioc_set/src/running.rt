@@ -2,19 +2,19 @@
 ghost use Rattle.std.specs.Prelude.{◌≡◌, ◌≤◌, true, List, vec_capacity};
 ghost use Rattle.std.specs.FinMap.{len};
 ghost use Rattle.ioc_events.specs.Holding.{IsCounted};
-ghost use Rattle.ioc_set_store.specs.Resting.{resting};
-ghost use Rattle.ioc_set_store.specs.Puts.{is_put_with_notification};
+ghost use Rattle.ioc_set.specs.Resting.{resting};
+ghost use Rattle.ioc_set.specs.Puts.{is_put_with_notification};
 ghost use Rattle.ioc_set.specs.Doing.{Did};
 
+use crate::event_buffers::{EventBuffers, kept_answers};
 use crate::laws::{none_live_stays_so, notifications_begin_by_notify};
+use crate::live_puts::LivePuts;
 use ioc_device::Device;
 use ioc_events::event_rules::rules_are_steps;
 use ioc_events::{Event, EventEntry, run_event};
 use ioc_ledger::Tally;
 use ioc_record::RecordKind;
 use ioc_set_records::Members;
-use ioc_set_store::event_buffers::kept_answers;
-use ioc_set_store::{EventBuffers, LivePuts};
 use std::alloc::Global;
 use std::mem;
 
@@ -57,11 +57,11 @@ pub fn run_set_event<K: RecordKind + Drop, D: Device>(
     members.devices_are_owned();
     puts.none_without_room();
     mem::swap(&mut buffers.store.members, members);
-    puts.lend(&mut buffers.store.event.notifications);
+    puts.lend(&mut buffers.store.event.follow_ups.notifications);
     buffers.store.begin_at(moment);
     let told = run_event(&mut buffers.store, &mut buffers.frames, event, tally);
     let answers = kept_answers(&buffers.store.event.calls, &mut buffers.spare, alloc);
-    puts.take_back(&mut buffers.store.event.notifications);
+    puts.take_back(&mut buffers.store.event.follow_ups.notifications);
     mem::swap(members, &mut buffers.store.members);
     members.devices_are_owned();
     EventEntry {

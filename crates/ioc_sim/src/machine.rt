@@ -234,7 +234,7 @@ impl Machine {
         ensures { OnOk result (machine_of self.new ≡ with_ended_kept (machine_of self.old)) }
     {
         self.ended
-            .extend_from_slice(self.map.event.notifications.ended())
+            .extend_from_slice(self.map.event.follow_ups.notifications.ended())
     }
 
     // Takes what an event has sent, and keeps the puts with notification that ended in it.
@@ -242,8 +242,8 @@ impl Machine {
     fn send(&mut self) -> Result<(), AllocError>
         ensures { OnOk result (machine_of self.new ≡ with_sent (machine_of self.old)) }
     {
-        self.scanner.do_outbox(&self.map.event.outbox)?;
-        if self.map.event.notifications.ended().is_empty() {
+        self.scanner.do_outbox(&self.map.event.follow_ups.outbox)?;
+        if self.map.event.follow_ups.notifications.ended().is_empty() {
             return Ok(());
         }
         self.keep_ended()

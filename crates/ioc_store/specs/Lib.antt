@@ -3,6 +3,7 @@ pub mod Links
 pub mod Marks
 pub mod Given
 pub mod Outbox
+pub mod FollowUps
 pub mod Places
 pub mod Scanning
 pub mod Notifying

@@ -6,6 +6,7 @@ use Rattle.std.specs.Ordering.{nat_cmp}
 use Rattle.std.specs.FinMap.{FinMap, from_entries}
 use Rattle.std.specs.Vec.{with_item}
 use Rattle.ioc_store.specs.declared.one_map.OneMap.{OneMap}
+use Rattle.ioc_store.specs.declared.event_store.FollowUps.{FollowUps}
 use Rattle.ioc_store.specs.Given.{Given, calls_of}
 use Rattle.ioc_store.specs.Outbox.{items_of}
 use Rattle.ioc_store.specs.World.{World}
@@ -24,11 +25,11 @@ module _ {R D : Type 0} where
     records = numbered s.records.items;
     moment = s.event.moment;
     calls = calls_of s.event.calls;
-    outbox = items_of s.event.outbox;
-    dropped = s.event.outbox.dropped;
-    live = s.event.notifications.live.live;
-    ended = s.event.notifications.ended.items;
-    waiting = s.event.notifications.waiting.waiting;
+    outbox = items_of s.event.follow_ups.outbox;
+    dropped = s.event.follow_ups.outbox.dropped;
+    live = s.event.follow_ups.notifications.live.live;
+    ended = s.event.follow_ups.notifications.ended.items;
+    waiting = s.event.follow_ups.notifications.waiting.waiting;
   }
 
   abbrev pub given_of : OneMap R D → Given D
@@ -36,3 +37,6 @@ module _ {R D : Type 0} where
 
   abbrev pub with_record : OneMap R D → ℕ → R → OneMap R D
   with_record s n r = record s { records = with_item s.records n r }
+
+  abbrev pub with_follow_ups : OneMap R D → FollowUps → OneMap R D
+  with_follow_ups s f = record s { event = record s.event { follow_ups = f } }

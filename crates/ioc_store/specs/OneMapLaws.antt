@@ -12,11 +12,13 @@ use Rattle.ioc_device.specs.declared.Ask.{Ask}
 use Rattle.ioc_device.specs.declared.Answer.{Answer}
 use Rattle.ioc_device.specs.declared.Answer.TheVariants.{Fault}
 use Rattle.ioc_store.specs.declared.one_map.OneMap.{OneMap}
+use Rattle.ioc_store.specs.declared.event_store.FollowUps.{FollowUps}
+use Rattle.ioc_store.specs.FollowUps.{followed_by}
 use Rattle.ioc_store.specs.Outbox.{items_of}
 use Rattle.ioc_store.specs.Given.{calls_of, with_device, DeviceGives, its_device, no_device}
 use Rattle.ioc_store.specs.World.{Has, put, at}
 use Rattle.ioc_record.specs.RecordRules.{RecordRules}
-use Rattle.ioc_store.specs.OneMap.{numbered, world_of, given_of, with_record, device_at}
+use Rattle.ioc_store.specs.OneMap.{numbered, world_of, given_of, with_record, with_follow_ups, device_at}
 
 module _ {R : Type 0} where
   -- The entry with the number `i + q` is the item at index `q`.
@@ -76,7 +78,7 @@ module _ {R D : Type 0} where
   pub with_record-world : (s : OneMap R D) (n : ℕ) (r : R) → Has (world_of s) n → world_of (with_record s n r) ≡ put (world_of s) n r
   unfolding put
   with_record-world s n r has =
-      ap (λ m. record { records = m; moment = s.event.moment; calls = calls_of s.event.calls; outbox = items_of s.event.outbox; dropped = s.event.outbox.dropped; live = s.event.notifications.live.live; ended = s.event.notifications.ended.items; waiting = s.event.notifications.waiting.waiting })
+      ap (λ m. record { records = m; moment = s.event.moment; calls = calls_of s.event.calls; outbox = items_of s.event.follow_ups.outbox; dropped = s.event.follow_ups.outbox.dropped; live = s.event.follow_ups.notifications.live.live; ended = s.event.follow_ups.notifications.ended.items; waiting = s.event.follow_ups.notifications.waiting.waiting })
       (same_map nat_cmp_total nat_cmp-IsAntisymmetric _ _ (λ q. get-numbered (set s.records.items n r) q ∙ slice_get-set s.records.items n q r (has_within s.records.items n has)
       ∙ ap (λ b. cond b (Some r) (slice_get s.records.items q)) (sym (unsigned_tied q n))
       ∙ ap (cond (eq_by_cmp nat_cmp q n) (Some r)) (sym (get-numbered s.records.items q)) ∙ sym (get-insert nat_cmp_total (numbered s.records.items) n r q)))
@@ -98,6 +100,12 @@ module _ {R D : Type 0} where
 
   pub moment-given : (s : OneMap R D) → (given_of s).moment ≡ (world_of s).moment
   moment-given s = refl
+
+  pub with_follow_ups-world : (s : OneMap R D) (f : FollowUps) → world_of (with_follow_ups s f) ≡ followed_by f (world_of s)
+  with_follow_ups-world s f = refl
+
+  pub with_follow_ups-given : (s : OneMap R D) (f : FollowUps) → given_of (with_follow_ups s f) ≡ given_of s
+  with_follow_ups-given s f = refl
 
 device-if : {D : Type 0} (there : Option (Option D)) (b : Bool) (d : D) → unwrap_or (cond b (Some (Some d)) there) Nothing_ ≡ cond b (Some d) (unwrap_or there Nothing_)
 device-if there true d = refl

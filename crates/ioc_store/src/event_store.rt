@@ -8,15 +8,22 @@ use crate::notifications::Notifications;
 use crate::outbox::Outbox;
 use std::alloc::{AllocError, Global};
 
-/// The state of an event: its time stamp, its device calls, and what it sends. One value serves any
-/// number of events, one after another.
+/// What follows an event: the items that it sends, and the puts with notification, which go on, wait
+/// or have ended in it.
+#[derive(Drop)]
+pub struct FollowUps {
+    pub outbox: Outbox,
+    pub notifications: Notifications,
+}
+
+/// The state of an event: its time stamp, its device calls, and what follows it. One value serves
+/// any number of events, one after another.
 #[derive(Drop)]
 pub struct EventStore {
     /// The time stamp of the event, in nanoseconds since 1970-01-01 00:00 UTC.
     pub moment: u64,
     pub calls: Calls,
-    pub outbox: Outbox,
-    pub notifications: Notifications,
+    pub follow_ups: FollowUps,
 }
 
 impl EventStore {
@@ -28,11 +35,11 @@ impl EventStore {
     pub fn new(alloc: Global) -> Result<Self, AllocError>
         ensures moment { IfOk result (λ e. e.moment ≡ 0) }
         ensures calls { IfOk result (λ e. calls_of e.calls ≡ []) }
-        ensures items { IfOk result (λ e. items_of e.outbox ≡ []) }
-        ensures dropped { IfOk result (λ e. e.outbox.dropped ≡ 0) }
-        ensures live { IfOk result (λ e. e.notifications.live.live ≡ []) }
-        ensures ended { IfOk result (λ e. e.notifications.ended.items ≡ []) }
-        ensures waiting { IfOk result (λ e. e.notifications.waiting.waiting ≡ []) }
+        ensures items { IfOk result (λ e. items_of e.follow_ups.outbox ≡ []) }
+        ensures dropped { IfOk result (λ e. e.follow_ups.outbox.dropped ≡ 0) }
+        ensures live { IfOk result (λ e. e.follow_ups.notifications.live.live ≡ []) }
+        ensures ended { IfOk result (λ e. e.follow_ups.notifications.ended.items ≡ []) }
+        ensures waiting { IfOk result (λ e. e.follow_ups.notifications.waiting.waiting ≡ []) }
     {
         let calls = Calls::new(alloc)?;
         let outbox = Outbox::new(alloc)?;
@@ -40,8 +47,10 @@ impl EventStore {
         Ok(EventStore {
             moment: 0,
             calls,
-            outbox,
-            notifications,
+            follow_ups: FollowUps {
+                outbox,
+                notifications,
+            },
         })
     }
 
@@ -49,15 +58,15 @@ impl EventStore {
     pub fn begin(&mut self, moment: u64)
         ensures moment { self.new.moment ≡ moment }
         ensures calls { calls_of self.new.calls ≡ [] }
-        ensures items { items_of self.new.outbox ≡ [] }
-        ensures dropped { self.new.outbox.dropped ≡ 0 }
-        ensures live { self.new.notifications.live.live ≡ self.old.notifications.live.live }
-        ensures ended { self.new.notifications.ended.items ≡ [] }
-        ensures waiting { self.new.notifications.waiting ≡ self.old.notifications.waiting }
+        ensures items { items_of self.new.follow_ups.outbox ≡ [] }
+        ensures dropped { self.new.follow_ups.outbox.dropped ≡ 0 }
+        ensures live { self.new.follow_ups.notifications.live.live ≡ self.old.follow_ups.notifications.live.live }
+        ensures ended { self.new.follow_ups.notifications.ended.items ≡ [] }
+        ensures waiting { self.new.follow_ups.notifications.waiting ≡ self.old.follow_ups.notifications.waiting }
     {
         self.moment = moment;
         self.calls.clear();
-        self.outbox.clear();
-        self.notifications.clear_ended();
+        self.follow_ups.outbox.clear();
+        self.follow_ups.notifications.clear_ended();
     }
 }

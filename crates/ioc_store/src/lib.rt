@@ -12,7 +12,7 @@ pub mod scan_change;
 pub mod store;
 
 pub use call::Call;
-pub use event_store::EventStore;
+pub use event_store::{EventStore, FollowUps};
 pub use frames::Frame;
 pub use one_map::OneMap;
 pub use outbox::OutboxItem;

@@ -5,13 +5,12 @@ ghost use Rattle.std.specs.FinMap.{len};
 ghost use Rattle.std.specs.Vec.{vec_capacity};
 
 use crate::call::Call;
-use crate::event_store::EventStore;
+use crate::event_store::{EventStore, FollowUps};
 use crate::frames::Frame;
-use crate::outbox::OutboxItem;
 use crate::store::Store;
 use ioc_device::{Answer, Ask, Device, answer_of};
 use ioc_names::RecordNo;
-use ioc_notify::{NotifyId, Waiting};
+use ioc_notify::NotifyId;
 use ioc_record::RecordKind;
 use std::alloc::{AllocError, Global};
 
@@ -34,8 +33,8 @@ impl<K: RecordKind, D: Device> OneMap<K, D> {
         ensures records { result.records ≡ records }
         ensures devices { result.devices ≡ devices }
         ensures fresh { world_of result ≡ begun_at 0 (world_of result) }
-        ensures live { (world_of result).live ≡ event.notifications.live.live }
-        ensures waiting { (world_of result).waiting ≡ event.notifications.waiting.waiting }
+        ensures live { (world_of result).live ≡ event.follow_ups.notifications.live.live }
+        ensures waiting { (world_of result).waiting ≡ event.follow_ups.notifications.waiting.waiting }
     {
         let mut map = OneMap {
             records,
@@ -116,14 +115,16 @@ impl<K: RecordKind, D: Device> Store for OneMap<K, D> {
 
     type Device = D;
 
-    ghost use Rattle.ioc_store.specs.OneMap.{world_of, given_of, with_record};
-    ghost use Rattle.ioc_store.specs.OneMapLaws.{with_record-world, with_record-given, calls-given, moment-given};
+    ghost use Rattle.ioc_store.specs.OneMap.{world_of, given_of, with_record, with_follow_ups};
+    ghost use Rattle.ioc_store.specs.OneMapLaws.{with_record-world, with_record-given, calls-given, moment-given, with_follow_ups-world, with_follow_ups-given};
 
     ghost world = { world_of };
 
     ghost given = { given_of };
 
     ghost with_record = { with_record };
+
+    ghost with_follow_ups = { with_follow_ups };
 
     ghost with_record_world = { with_record-world };
 
@@ -132,6 +133,10 @@ impl<K: RecordKind, D: Device> Store for OneMap<K, D> {
     ghost calls_given = { calls-given };
 
     ghost moment_given = { moment-given };
+
+    ghost with_follow_ups_world = { with_follow_ups-world };
+
+    ghost with_follow_ups_given = { with_follow_ups-given };
 
     fn has(&self, number: RecordNo) -> bool {
         let place = number.index();
@@ -156,66 +161,18 @@ impl<K: RecordKind, D: Device> Store for OneMap<K, D> {
         call.answer
     }
 
-    fn moment(&self) -> u64 {
-        self.event.moment
-    }
-
-    fn send(&mut self, item: OutboxItem) {
-        self.event.outbox.send(item);
-    }
-
-    fn count_dropped(&mut self) {
-        self.event.outbox.count_dropped();
-    }
-
-    #[tactic(auto, unfolding(crate::specs::World::taken_on))]
-    fn take_on(&mut self, notification: NotifyId) {
-        self.event.notifications.take_on(notification);
-    }
-
-    #[tactic(auto, unfolding(crate::specs::World::let_go))]
-    fn let_go(&mut self, notification: NotifyId) {
-        self.event.notifications.let_go(notification);
-    }
-
-    fn has_place(&self, notification: NotifyId) -> bool {
-        self.event.notifications.has_place(notification)
-    }
-
-    fn is_live(&self, notification: NotifyId) -> bool {
-        self.event.notifications.is_live(notification)
-    }
-
-    #[tactic(auto, unfolding(crate::specs::World::admitted))]
-    fn admit(&mut self, notification: NotifyId) {
-        self.event.notifications.admit(notification);
-    }
-
     #[tactic(auto, unfolding(crate::specs::World::cancelled))]
     fn cancel(&mut self, notification: NotifyId) {
         free_all(&mut self.records, notification);
-        self.event.notifications.forget(notification);
+        self.event.follow_ups.notifications.forget(notification);
     }
 
-    fn waiting(&self) -> &[Waiting] {
-        self.event.notifications.waiting()
+    fn event(&self) -> &EventStore {
+        &self.event
     }
 
-    #[tactic(auto, unfolding(crate::specs::World::queued))]
-    fn queue(&mut self, item: &Waiting) {
-        self.event.notifications.queue(item);
-    }
-
-    #[tactic(auto, unfolding(crate::specs::World::unqueued))]
-    fn unqueue(&mut self, notification: NotifyId) {
-        self.event.notifications.unqueue(notification);
-    }
-
-    fn asked(&self) -> usize {
-        self.event.calls.len()
-    }
-
-    fn later_from(&self, start: usize) -> usize {
-        self.event.calls.later_from(start)
+    fn follow_ups_mut(&mut self) -> &mut FollowUps {
+        let event = &mut self.event;
+        &mut event.follow_ups
     }
 }

@@ -43,10 +43,10 @@ pub(crate) struct KeyedCell<'a, S: Locked> {
 /// Each cell has a flag. It is raised and lowered only while the lock of the cell is held. Whenever
 /// this lock is free and the set [may be taken](Locked::may_be_taken), the flag is up.
 ///
-/// Locks are taken in this order: the topology guard, then cells by rising key. A cell without a
-/// set may be locked at any time, because other callers release its lock at once. The list of free
-/// cells is locked only briefly. A caller that looks for a record holds no lock when it waits for
-/// the topology guard.
+/// Who holds the topology guard locks the cell of a set only by attempts, and gives the guard up
+/// before it waits for a set that is [busy](crate::Busy). A cell without a set may be locked at any
+/// time, because other callers release its lock at once. The list of free cells is locked only
+/// briefly. A caller that looks for a record holds no lock when it waits for the topology guard.
 #[derive(Drop)]
 pub struct Directory<S: Locked> {
     // The key of the cell of each record's set. It may be out of date by the time it is used.

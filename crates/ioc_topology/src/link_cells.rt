@@ -4,6 +4,7 @@ ghost use Rattle.std.specs.Prelude.{◌≢◌, ◌↔◌, ◌<◌, IsTrue, IfSom
 ghost use Rattle.ioc_topology.specs.Change.{AreKnown, AreLent, AreSound, OtherIsRefused, LinkIsRefused};
 ghost use Rattle.ioc_topology.specs.Keys.{AllDiffer};
 
+use crate::busy::{Busy, lock_briefly};
 use crate::directory::{Directory, KeyedCell, set_homes};
 use crate::locked::Locked;
 use ioc_names::RecordNo;
@@ -58,17 +59,15 @@ impl<'a, S: Locked> Model for LinkCells<'a, S> {
 }
 
 impl<'a, S: Locked> LinkCells<'a, S> {
-    /// Locks both sets, by rising key.
-    pub fn lock<R: Wait>(&self, rt: &R) -> (MutexGuard<'_, S>, MutexGuard<'_, S>) {
-        if self.first.key < self.second.key {
-            let low = self.first.lock.lock(rt);
-            let high = self.second.lock.lock(rt);
-            (low, high)
-        } else {
-            let low = self.second.lock.lock(rt);
-            let high = self.first.lock.lock(rt);
-            (high, low)
-        }
+    /// Locks both sets.
+    ///
+    /// # Errors
+    ///
+    /// [`Busy`] if a call keeps one of them for long; neither is locked then.
+    pub fn lock(&self) -> Result<(MutexGuard<'a, S>, MutexGuard<'a, S>), Busy<'a, S>> {
+        let first = lock_briefly(self.first.lock)?;
+        let second = lock_briefly(self.second.lock)?;
+        Ok((first, second))
     }
 }
 

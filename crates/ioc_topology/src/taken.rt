@@ -3,6 +3,7 @@ ghost use Rattle.std.specs.Prelude.{◌≡◌, true, All, IfOk, IfSome};
 ghost use Rattle.std.specs.Borrow.{Bor};
 ghost use Rattle.std.specs.Fn.{FnReturnsAt};
 
+use crate::busy::{Busy, lock_briefly};
 use crate::directory::{Directory, KeyedCell};
 use crate::locked::Locked;
 use std::alloc::{AllocError, Global};
@@ -17,13 +18,15 @@ pub struct Taken<'a, S: Locked> {
     pub sets: Vec<S>,
     // The cell of each, in the same order.
     cells: Vec<KeyedCell<'a, S>>,
+    // The lock of a set that wasn't taken because a call keeps it.
+    busy: Option<Busy<'a, S>>,
 }
 
 impl<S: Locked> Directory<S> {
     /// Takes each set that [may be taken](Locked::may_be_taken) and passes the test out of its
-    /// cell. The caller holds the topology guard until all are put back, so no set parts or joins
-    /// another meanwhile. The cells are locked one after another, only those of sets that may be
-    /// taken, and the test takes no lock of the directory.
+    /// cell, except those that are [`Busy`]. The caller holds the topology guard until all are put
+    /// back, so no set parts or joins another meanwhile. The cells are locked one after another, only
+    /// those of sets that may be taken, and the test takes no lock of the directory.
     ///
     /// # Errors
     ///
@@ -41,18 +44,26 @@ impl<S: Locked> Directory<S> {
         let mut all = self.flagged(rt, alloc)?;
         let mut sets = Vec::with_capacity(alloc, all.len())?;
         let mut cells = Vec::with_capacity(alloc, all.len())?;
+        let mut busy = None;
         while let Some(cell) = all.pop() {
-            if let Some(set) = take_if(rt, alloc, cell.lock, test) {
+            let found = match take_if(alloc, cell.lock, test) {
+                Ok(found) => found,
+                Err(kept) => {
+                    busy = Some(kept);
+                    continue;
+                }
+            };
+            if let Some(set) = found {
                 sets.push_reserved(set);
                 cells.push_reserved(cell);
             }
         }
-        Ok(Taken { sets, cells })
+        Ok(Taken { sets, cells, busy })
     }
 
-    /// Takes each set with records out of its cell. The caller holds the topology guard until all
-    /// are put back, so no set parts or joins another meanwhile, and no cell is made. The cells are
-    /// locked one after another, by rising key.
+    /// Takes each set with records out of its cell, up to the first that is [`Busy`]. The caller
+    /// holds the topology guard until all are put back, so no set parts or joins another meanwhile,
+    /// and no cell is made. The cells are locked one after another, by rising key.
     ///
     /// # Errors
     ///
@@ -63,26 +74,36 @@ impl<S: Locked> Directory<S> {
         let bound = self.keys.lock(rt).bound();
         let mut sets = Vec::with_capacity(alloc, bound)?;
         let mut cells = Vec::with_capacity(alloc, bound)?;
+        let mut busy = None;
         for key in 0..bound {
             let Some(lock) = self.lock_at(key) else {
                 continue;
             };
-            if let Some(set) = take_filled(rt, alloc, lock) {
+            let found = match take_filled(alloc, lock) {
+                Ok(found) => found,
+                Err(kept) => {
+                    busy = Some(kept);
+                    break;
+                }
+            };
+            if let Some(set) = found {
                 sets.push_reserved(set);
                 cells.push_reserved(KeyedCell { key, lock });
             }
         }
-        Ok(Taken { sets, cells })
+        Ok(Taken { sets, cells, busy })
     }
 
-    /// Puts the sets back into their cells, where they are found again.
-    pub fn put_back<R: Wait>(&self, rt: &R, taken: Taken<'_, S>) {
-        let Taken { sets, cells } = taken;
+    /// Puts the sets back into their cells, where they are found again. Returns the lock of a set
+    /// that wasn't taken because it was busy, if there was one.
+    pub fn put_back<'a, R: Wait>(&self, rt: &R, taken: Taken<'a, S>) -> Option<Busy<'a, S>> {
+        let Taken { sets, cells, busy } = taken;
         for (cell, set) in cells.into_iter().zip(sets) {
             let mut guard = cell.lock.lock(rt);
             put_in(&mut *guard, set);
             self.set_flag(cell.key, guard.may_be_taken());
         }
+        busy
     }
 }
 
@@ -94,33 +115,32 @@ fn put_in<S: Locked>(cell: &mut S, set: S)
 }
 
 // Takes the set of a cell if it passes the test, and leaves a set without records there.
-fn take_if<S: Locked, F: Fn(&S) -> bool, R: Wait>(
-    rt: &R,
+fn take_if<'a, S: Locked, F: Fn(&S) -> bool>(
     alloc: Global,
-    lock: &Mutex<S>,
+    lock: &'a Mutex<S>,
     test: &F,
-) -> Option<S>
+) -> Result<Option<S>, Busy<'a, S>>
     requires { (s : Bor S) → S.sound s.now → F.pre test.now s }
-    ensures sound { IfSome result S.sound }
-    ensures met { IfSome result (λ s. FnReturnsAt F.Fn test.now s true) }
+    ensures sound { IfOk result (λ taken. IfSome taken S.sound) }
+    ensures met { IfOk result (λ taken. IfSome taken (λ s. FnReturnsAt F.Fn test.now s true)) }
 {
-    let mut set = lock.lock(rt);
+    let mut set = lock_briefly(lock)?;
     set.is_sound();
     if test(&set) {
-        Some(mem::replace(&mut *set, S::empty(alloc)))
+        Ok(Some(mem::replace(&mut *set, S::empty(alloc))))
     } else {
-        None
+        Ok(None)
     }
 }
 
 // Takes the set of a cell if it has records, and leaves a set without records there.
-fn take_filled<S: Locked, R: Wait>(rt: &R, alloc: Global, lock: &Mutex<S>) -> Option<S>
-    ensures { IfSome result S.sound }
+fn take_filled<'a, S: Locked>(alloc: Global, lock: &'a Mutex<S>) -> Result<Option<S>, Busy<'a, S>>
+    ensures { IfOk result (λ taken. IfSome taken S.sound) }
 {
-    let mut set = lock.lock(rt);
+    let mut set = lock_briefly(lock)?;
     if set.len() == 0 {
-        return None;
+        return Ok(None);
     }
     set.is_sound();
-    Some(mem::replace(&mut *set, S::empty(alloc)))
+    Ok(Some(mem::replace(&mut *set, S::empty(alloc))))
 }

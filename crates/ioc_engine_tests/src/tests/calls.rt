@@ -2,7 +2,6 @@
 use crate::tests::calling::Call;
 use crate::tests::eight::{CALLS, RECORDS, THREADS, text};
 use crate::tests::running::{Ended, Work, run_text};
-use crate::tests::scanned;
 use crate::tests::sensor::Sensor;
 use crate::tests::sessions::AtEnd::{self, Counts, Devices, Records, Sets};
 use crate::tests::sessions::{Session, sessions};
@@ -10,6 +9,7 @@ use crate::tests::steps::Step::{self, Makes};
 use crate::tests::steps::{Says, Wanted};
 use crate::tests::worked::WORKED;
 use crate::tests::workers::{EACH, POSTS};
+use crate::tests::{beside, scanned};
 use ioc_engine::{DeviceName, FieldText, IocError, Limits, Tally, TicketTally};
 use std::alloc::{AllocError, Global};
 use std::fmt::Write;
@@ -311,6 +311,55 @@ fn waiting<R: Threads + Wait + Sync>(
 #[test]
 fn two_sets_at_once(rt: HostRuntime) -> Result<(), Fail> {
     assert_eq!(rt; waiting(&rt, rt.alloc())?, None);
+    Ok(())
+}
+
+// Returns whether the calls of a case have the expected results.
+fn is_answered_beside<R: Threads + Wait + Sync>(
+    rt: &R,
+    alloc: Global,
+    case: &beside::Case,
+) -> Result<bool, IocError> {
+    let asked = flag(alloc)?;
+    let answered = flag(alloc)?;
+    let device = Sensor::Holding(Arc::try_clone(&asked)?, Arc::try_clone(&answered)?);
+    let mut devices = Vec::new(alloc);
+    devices.push((DeviceName::cut(b"d"), device))?;
+    devices.push((DeviceName::cut(b"e"), Sensor::Later))?;
+    devices.push((DeviceName::cut(b"f"), Sensor::Later))?;
+    let held = beside::Held {
+        first: case.first,
+        waiting: case.waiting,
+        others: case.others,
+        asked: &asked,
+        answered: &answered,
+    };
+    let work = Work::Behind(&held);
+    let ended = run_text(rt, alloc, beside::RECORDS, devices, Limits::default(), work);
+    let steps = case
+        .first
+        .len()
+        .saturating_add(case.waiting.len())
+        .saturating_add(case.others.len());
+    Ok(result(ended, &[Sets(case.sets), Records(8), Devices(3)]) == (steps, true))
+}
+
+// Returns the first case in which a call waits for the device of another set, if there is one.
+fn waiting_behind<R: Threads + Wait + Sync>(
+    rt: &R,
+    alloc: Global,
+) -> Result<Option<&'static str>, IocError> {
+    for case in &beside::cases() {
+        if !is_answered_beside(rt, alloc, case)? {
+            return Ok(Some(case.name));
+        }
+    }
+    Ok(None)
+}
+
+#[test]
+fn no_call_waits_for_another_sets_device(rt: HostRuntime) -> Result<(), Fail> {
+    assert_eq!(rt; waiting_behind(&rt, rt.alloc())?, None);
     Ok(())
 }
 

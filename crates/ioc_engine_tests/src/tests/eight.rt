@@ -218,7 +218,8 @@ fn are_parts_alike<B: EngineName<D>, D: Device, C: Clock + Drop, R: Wait>(
         links.push(leads_to(one.shown(record, FieldNo::Common(CommonField::Flnk))))?;
     }
     let least = least_joined(alloc, &links)?;
-    Ok(are_walked(&least, &engine.parts(rt)?))
+    let mut desk = engine.desk(rt)?;
+    Ok(are_walked(&least, &engine.parts(rt, &mut desk)?))
 }
 
 // Returns whether an engine has the records and the parts of one map.

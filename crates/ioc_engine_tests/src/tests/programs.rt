@@ -1,5 +1,5 @@
 //! A run of the program `ioc`.
-use ioc_app::{Args, Outputs, RunFault, counting_devices, ioc_run};
+use ioc_app::{Outputs, Plant, RunFault, Ticks, counting_devices, ioc_run};
 use ioc_engine::{CountingClock, LoadError, Macros, load};
 use std::alloc::Global;
 use std::sync::Wait;
@@ -41,19 +41,17 @@ fn run<R: Threads + Wait + Sync>(
     let Ok(devices) = counting_devices(alloc, &database) else {
         return Err(NoRun::Load(LoadError::NoMemory));
     };
-    let args = Args {
-        database: "plant.db",
-        macros,
-        ticks: 100,
+    let plant = Plant {
+        database,
+        devices,
+        clock: CountingClock::new(),
         workers: 4,
-        journal: Some("run.journal"),
     };
     let outputs = Outputs {
         lines,
         journal: Some(journal),
     };
-    let clock = CountingClock::new();
-    match ioc_run(rt, alloc, database, devices, clock, &args, outputs) {
+    match ioc_run(rt, alloc, plant, &mut Ticks(100), outputs) {
         Ok(()) => Ok(()),
         Err(fault) => Err(NoRun::Run(fault)),
     }

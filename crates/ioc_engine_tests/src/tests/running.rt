@@ -2,6 +2,7 @@
 //! function that starts an engine is costly to prove.
 ghost use Rattle.ioc_engine.specs.Named.{IsNamedBy};
 
+use crate::tests::beside::{Held, make_beside};
 use crate::tests::eight::eight;
 use crate::tests::moments::moments_rise;
 use crate::tests::scanned::is_scanned_alike;
@@ -38,6 +39,8 @@ pub enum Work<'a> {
         asked: &'a AtomicU64,
         answered: &'a AtomicU64,
     },
+    /// The calls of three threads, of which the first waits for its device.
+    Behind(&'a Held<'a>),
     /// The calls of eight threads, and the same calls on one map.
     Eight,
     /// Two desks, of which the second learns of the call of the first, and their entries.
@@ -129,6 +132,7 @@ fn done<
             );
             one.saturating_add(other)
         }
+        Work::Behind(held) => make_beside(rt, engine, held),
         Work::Eight => eight(rt, alloc, engine).unwrap_or(0),
         Work::Workers { asked, answered } => two_workers(rt, engine, asked, answered),
         Work::Served {
@@ -181,8 +185,11 @@ fn end<B: EngineName<D>, D: Device, C: Clock + Drop, R: Wait>(
     engine: Engine<B, D, C>,
     held: usize,
 ) -> Option<Ended> {
-    let sets = match engine.parts(rt) {
-        Ok(parts) => parts.len(),
+    let sets = match engine.desk(rt) {
+        Ok(mut desk) => match engine.parts(rt, &mut desk) {
+            Ok(parts) => parts.len(),
+            Err(_closed) => 0,
+        },
         Err(_closed) => 0,
     };
     let report = engine.stop(rt);

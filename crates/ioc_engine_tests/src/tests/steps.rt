@@ -47,6 +47,8 @@ pub enum Step {
     Ends(Call, Wanted, &'static [u64]),
     /// The lock sets have the records with these names.
     Parts(&'static [&'static [&'static [u8]]]),
+    /// The engine shows its lock sets, whatever they are.
+    ShowsParts,
     /// A checkpoint of the journal is made.
     Checkpoint,
     /// A scan with this choice requests this many records.
@@ -160,7 +162,10 @@ fn are_parts<B: EngineName<D>, D: Device, C: Clock + Drop, R: Wait>(
     engine: &Engine<B, D, C>,
     wanted: &[&[&[u8]]],
 ) -> bool {
-    let Ok(parts) = engine.parts(rt) else {
+    let Ok(mut desk) = engine.desk(rt) else {
+        return false;
+    };
+    let Ok(parts) = engine.parts(rt, &mut desk) else {
         return false;
     };
     for names in wanted {
@@ -178,8 +183,11 @@ fn closes<B: EngineName<D>, D: Device, C: Clock + Drop, R: Wait>(
     engine: &Engine<B, D, C>,
 ) -> bool {
     let was_closed = engine.is_closed();
+    let Ok(mut desk) = engine.desk(rt) else {
+        return false;
+    };
     engine.close(rt);
-    let is_silent = matches!(engine.parts(rt), Err(IocError::Stopped))
+    let is_silent = matches!(engine.parts(rt, &mut desk), Err(IocError::Stopped))
         && matches!(engine.desk(rt), Err(IocError::Stopped))
         && matches!(engine.checkpoint(rt), Err(IocError::Stopped));
     !was_closed && engine.is_closed() && is_silent
@@ -264,6 +272,7 @@ fn holds<B: EngineName<D>, D: Device, C: Clock + Drop, R: Wait>(
         Step::Makes(call, wanted) => answers(rt, engine, desk, call, wanted, &[]),
         Step::Ends(call, wanted, ended) => answers(rt, engine, desk, call, wanted, ended),
         Step::Parts(wanted) => are_parts(rt, engine, wanted),
+        Step::ShowsParts => engine.parts(rt, desk).is_ok(),
         Step::Checkpoint => engine.checkpoint(rt).is_ok(),
         Step::Scans(choice, wanted) => engine.scan(rt, desk, choice) == Ok(wanted),
         Step::ScanFails(choice, error) => engine.scan(rt, desk, choice) == Err(error),

@@ -2,7 +2,7 @@
 ghost use Rattle.std.specs.Prelude.{◌≡◌, ◌<◌, ℕ, true, length, slice_index_or, OnOk, OnErr};
 ghost use Rattle.ioc_notify.specs.Living.{is_live};
 ghost use Rattle.ioc_set.specs.SetState.{SetState};
-ghost use Rattle.ioc_set_store.specs.SetStore.{world_of};
+ghost use Rattle.ioc_set.specs.SetStore.{world_of};
 ghost use Rattle.ioc_journaled_set.specs.GiveUpLaws.{GivesUp, CameToNothing};
 ghost use Rattle.ioc_journaled_set.specs.Sets.{EachGivesUp};
 
@@ -11,8 +11,7 @@ use ioc_device::Device;
 use ioc_events::Event;
 use ioc_notify::NotifyId;
 use ioc_record::RecordKind;
-use ioc_set::LockSet;
-use ioc_set_store::EventBuffers;
+use ioc_set::{EventBuffers, LockSet};
 use std::alloc::{AllocError, Global};
 use std::sync::Wait;
 

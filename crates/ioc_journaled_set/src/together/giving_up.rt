@@ -23,8 +23,7 @@ use ioc_history::legal_laws::{holding_lasts, live_lasts};
 use ioc_history::{DeskAccount, EventCounts, JournalName, KeyPass, Receipt};
 use ioc_notify::{Live, NotifyId};
 use ioc_record::RecordKind;
-use ioc_set::LockSet;
-use ioc_set_store::EventBuffers;
+use ioc_set::{EventBuffers, LockSet};
 use ioc_values::IocError;
 use std::sync::Wait;
 

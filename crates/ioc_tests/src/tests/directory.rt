@@ -113,7 +113,9 @@ fn relink_in<'a>(
         let Some(both) = sets.link_cells(new, number, &other)? else {
             continue;
         };
-        let (mut first_guard, mut second_guard) = both.lock(rt);
+        let Ok((mut first_guard, mut second_guard)) = both.lock() else {
+            continue;
+        };
         let mut spare_guard = new.lock_spare(rt);
         let first = &mut *first_guard;
         let second = &mut *second_guard;

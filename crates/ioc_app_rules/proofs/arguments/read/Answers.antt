@@ -5,7 +5,7 @@ use Rattle.ioc_app_rules.proofs.arguments.read.Goals as goal
 pub returns : goal.returns
 returns c = record {
   database = first_some c.args.matches.now (codes "DB") c.get_str.result c.in-Some.database c.get_str.ensures c.in-Some.is;
-  ticks = c.in_ok-ticks.ensures;
+  mode = c.in_ok-mode.ensures;
   workers = c.in_ok-workers.ensures;
   journal = first_is c.args.matches.now (codes "journal") c.get_str-2.result c.get_str-2.ensures;
   macros = c.in_ok-macros.ensures.ok;

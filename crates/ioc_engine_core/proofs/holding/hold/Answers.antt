@@ -7,7 +7,7 @@ use Rattle.ioc_history.specs.KeyLaws.{record_kind}
 use Rattle.ioc_history.specs.Covering.{Cover}
 use Rattle.ioc_history.specs.Account.{IsHolder, AreRecords}
 use Rattle.ioc_set.specs.SetState.{SetState, now_of}
-use Rattle.ioc_set_store.specs.Resting.{resting}
+use Rattle.ioc_set.specs.Resting.{resting}
 use Rattle.ioc_journaled_set.specs.Holding.{IsOwner, KeepsDevices}
 use Rattle.ioc_journaled_set.specs.SameDevice.{IsDeviceOf}
 use Rattle.ioc_journaled_set.proofs.Keys.{contains_record, there_key}

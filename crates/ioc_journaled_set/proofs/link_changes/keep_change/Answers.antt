@@ -2,8 +2,10 @@ use Rattle.std.proofs.Common.{List, sym, ◌∙◌, subst, arith}
 use Rattle.crossbeam_utils.specs.Seq.{cell_view}
 use Rattle.ioc_device.specs.declared.Answer.{Answer}
 use Rattle.ioc_history.specs.Account.{BothMayFollow, HasCalled, AddedByBoth}
+use Rattle.ioc_history.specs.Counting.{BothMaySend, sent_counts}
+use Rattle.ioc_history.specs.declared.event_counts.SentCounts.{SentCounts}
 use Rattle.ioc_history.proofs.Numbers.{begins_none}
-use Rattle.ioc_journaled_set.proofs.Sending.{both_send_none, both_count_none}
+use Rattle.ioc_journaled_set.proofs.Sending.{links_count_none}
 use Rattle.ioc_journaled_set.proofs.link_changes.keep_change.Goals as goal
 
 pub append_two-requires-clause-other : goal.append_two-requires-clause-other
@@ -18,11 +20,15 @@ append_two-requires-clause-follows g c =
 
 pub append_two-requires-clause-sent : goal.append_two-requires-clause-sent
 append_two-requires-clause-sent g c =
-    both_send_none g.K.RecordKind.rules c.questions_count_nothing.ensures g.B.JournalName.base _ c.requires.nothing.0 (cell_view c.args.one.now).seen (cell_view c.args.one.now).owns (cell_view c.args.other.now).seen (cell_view c.args.other.now).owns _ c.none.ensures.sent
+    let one = cell_view c.args.one.now in
+    let other = cell_view c.args.other.now in
+    let none = c.new-2.ensures ∙ c.new.ensures.items in
+    subst (λ (s : SentCounts). BothMaySend g.K.RecordKind.rules g.B.JournalName.base one.seen one.owns other.seen other.owns (record { moment = c.args.moment; call = c.args.made; answers = c.new-2.result }) s) (sym c.dropping.ensures.sent)
+    (subst (λ (l : List Answer). BothMaySend g.K.RecordKind.rules g.B.JournalName.base one.seen one.owns other.seen other.owns (record { moment = c.args.moment; call = c.args.made; answers = l }) (sent_counts 0 c.args.after.dropped)) (sym none) c.requires.sent)
 
 pub append_two-requires-clause-counts : goal.append_two-requires-clause-counts
 append_two-requires-clause-counts g c =
-    both_count_none g.K.RecordKind.rules c.questions_count_nothing.ensures g.B.JournalName.base _ c.requires.nothing.0 (cell_view c.args.one.now).seen (cell_view c.args.one.now).owns (cell_view c.args.other.now).seen (cell_view c.args.other.now).owns _ _ _ c.none.ensures.share
+    links_count_none g.K.RecordKind.rules c.questions_count_nothing.ensures.links g.B.JournalName.base _ c.requires.nothing.0 (cell_view c.args.one.now).seen (cell_view c.args.one.now).owns (cell_view c.args.other.now).seen (cell_view c.args.other.now).owns _ _ _ c.dropping.ensures.share
 
 pub returns-clause-call : goal.returns-clause-call
 returns-clause-call g c =

@@ -5,7 +5,7 @@ use Rattle.ioc_record.specs.RecordRules.{RecordRules}
 use Rattle.ioc_set_records.specs.Contents.{Records}
 use Rattle.ioc_store.specs.World.{total}
 use Rattle.ioc_set.specs.Awaiting.{one_if_awaits, awaited}
-use Rattle.ioc_set_store.proofs.Entries.{key_there, none-past}
+use Rattle.ioc_set.proofs.Entries.{key_there, none-past}
 use Rattle.ioc_set.proofs.Awaits.{awaits-on, awaits-past}
 use Rattle.ioc_set.proofs.awaited.count_awaited.Goals as goal
 use Rattle.ioc_set.proofs.awaited.count_awaited.Goals.{in-Some+in-Some-pending, in-Some+in_default-pending, in_default}

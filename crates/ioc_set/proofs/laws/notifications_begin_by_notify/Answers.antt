@@ -1,6 +1,6 @@
 use Rattle.std.proofs.Common.{ap}
 use Rattle.ioc_events.proofs.Beginning.{step-begins}
-use Rattle.ioc_set_store.specs.Puts.{is_put_with_notification}
+use Rattle.ioc_set.specs.Puts.{is_put_with_notification}
 use Rattle.ioc_set.proofs.laws.notifications_begin_by_notify.Goals as goal
 
 pub returns : goal.returns

@@ -4,10 +4,10 @@ use Rattle.ioc_set_records.specs.Contents.{Contents}
 use Rattle.ioc_store.specs.Given.{Given}
 use Rattle.ioc_store.specs.Scanning.{rewired}
 use Rattle.ioc_store.specs.World.{World, begun_at}
-use Rattle.ioc_set_store.specs.declared.attached.Attached.{Attached}
-use Rattle.ioc_set_store.specs.Attached.{attached_in}
-use Rattle.ioc_set_store.specs.Resting.{resting}
-use Rattle.ioc_set_store.proofs.AttachedLaws.{bases_alike, devices_alike}
+use Rattle.ioc_set.specs.declared.attached.Attached.{Attached}
+use Rattle.ioc_set.specs.Attached.{attached_in}
+use Rattle.ioc_set.specs.Resting.{resting}
+use Rattle.ioc_set.proofs.AttachedLaws.{bases_alike, devices_alike}
 use Rattle.ioc_set.proofs.DidLaws.{starts}
 use Rattle.ioc_events.proofs.Rewired.{rewired-leaves}
 use Rattle.ioc_set.proofs.Rescans.{came_to, live_begun, waiting_begun}

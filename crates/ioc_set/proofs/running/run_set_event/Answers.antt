@@ -3,7 +3,7 @@ use Rattle.std.specs.FinMap.{len}
 use Rattle.ioc_store.specs.World.{World}
 use Rattle.ioc_process.specs.Running.{CanRun}
 use Rattle.ioc_set_records.specs.Contents.{Contents}
-use Rattle.ioc_set_store.specs.Puts.{Puts}
+use Rattle.ioc_set.specs.Puts.{Puts}
 use Rattle.ioc_set.proofs.DidLaws.{starts, can_run_begun, none_here, did}
 use Rattle.ioc_set.proofs.running.run_set_event.Goals as goal
 
@@ -12,7 +12,7 @@ run_event-told-requires g c =
     let before = c.args.members.now in
     let puts = c.args.puts.now in
     let buffers = c.args.buffers.now in
-    let start = c.begin_at.ensures.world ∙ starts (record { members = c.swap.new.x; event = record buffers.store.event { notifications = c.lend.new.event } }) before.records puts.live puts.waiting c.args.moment
+    let start = c.begin_at.ensures.world ∙ starts (record { members = c.swap.new.x; event = record buffers.store.event { follow_ups = record buffers.store.event.follow_ups { notifications = c.lend.new.event } } }) before.records puts.live puts.waiting c.args.moment
     (ap (λ (m : Contents g.row.K.Denot g.row.D.Denot). m.records) c.swap.ensures.x_after) c.lend.ensures.live c.lend.ensures.waiting in
     subst (λ (w : World g.row.K.Denot). CanRun g.K.RecordKind.rules w buffers.frames) (sym start)
     (can_run_begun g.K.RecordKind.rules before.records puts.live puts.waiting c.args.moment buffers.frames c.requires.counted.closed buffers.no_frame c.requires.frames)
@@ -22,7 +22,7 @@ take_back-requires-clause-room g c without =
     let before = c.args.members.now in
     let puts = c.args.puts.now in
     let buffers = c.args.buffers.now in
-    let start = c.begin_at.ensures.world ∙ starts (record { members = c.swap.new.x; event = record buffers.store.event { notifications = c.lend.new.event } }) before.records puts.live puts.waiting c.args.moment
+    let start = c.begin_at.ensures.world ∙ starts (record { members = c.swap.new.x; event = record buffers.store.event { follow_ups = record buffers.store.event.follow_ups { notifications = c.lend.new.event } } }) before.records puts.live puts.waiting c.args.moment
     (ap (λ (m : Contents g.row.K.Denot g.row.D.Denot). m.records) c.swap.ensures.x_after) c.lend.ensures.live c.lend.ensures.waiting in
     none_here g.K.RecordKind.rules g.D.Device.gives c.rules_are_steps.ensures.allowed c.none_live_stays_so.ensures c.notifications_begin_by_notify.ensures
     before puts c.args.tally.now c.run_event-told.new.tally c.begin_at.new.self c.run_event-told.new.store c.args.event.now c.run_event-told.result c.args.moment c.kept_answers-answers.result
@@ -45,7 +45,7 @@ returns-clause-did g c =
     let before = c.args.members.now in
     let puts = c.args.puts.now in
     let buffers = c.args.buffers.now in
-    let start = c.begin_at.ensures.world ∙ starts (record { members = c.swap.new.x; event = record buffers.store.event { notifications = c.lend.new.event } }) before.records puts.live puts.waiting c.args.moment
+    let start = c.begin_at.ensures.world ∙ starts (record { members = c.swap.new.x; event = record buffers.store.event { follow_ups = record buffers.store.event.follow_ups { notifications = c.lend.new.event } } }) before.records puts.live puts.waiting c.args.moment
     (ap (λ (m : Contents g.row.K.Denot g.row.D.Denot). m.records) c.swap.ensures.x_after) c.lend.ensures.live c.lend.ensures.waiting in
     rw c.copy_of.ensures (did g.K.RecordKind.rules g.D.Device.gives c.rules_are_steps.ensures.allowed c.none_live_stays_so.ensures c.notifications_begin_by_notify.ensures
     before puts c.args.tally.now c.run_event-told.new.tally c.begin_at.new.self c.run_event-told.new.store c.args.event.now c.run_event-told.result c.args.moment c.kept_answers-answers.result

@@ -1,13 +1,12 @@
 use Rattle.std.proofs.Common.{All, List, refl, sym, subst}
 use Rattle.std.proofs.lemmas.Option.{IfSome_then}
-use Rattle.std.proofs.lemmas.Result.{IfOk-weaker}
 use Rattle.ioc_journaled_set.specs.Holding.{HeldView, IsSoundlyHeld}
 use Rattle.ioc_engine_core.proofs.engine.EngineCore.give_up.Goals as goal
 
 pub returns-clause-gave_up : goal.returns-clause-gave_up
 returns-clause-gave_up g c =
     let Sound = λ (sets : List (HeldView g.row.K.Denot g.row.D.Denot)). All (IsSoundlyHeld g.K.RecordKind.rules g.B.JournalName.base) sets in
-    IfOk-weaker c.cancel_on-given.result _ _ (λ given some. IfSome_then given some (λ x gave. record {
+    IfSome_then c.in_ok-given.field-0 c.in_ok-given.ensures.gave_up (λ x gave. record {
       answer = refl;
       puts = c.deref_mut.result.now;
       puts_then = c.cancel_on-given.new.all;
@@ -16,4 +15,4 @@ returns-clause-gave_up g c =
       sound = subst Sound (sym c.as_mut_slice-sets.ensures.value) c.in_ok-taken.ensures.sound;
       gave_up = gave;
       sound_then = c.all_sound.ensures;
-    })) c.cancel_on-given.ensures.gave_up
+    })

@@ -26,7 +26,7 @@ invariant_of-self g c =
     let e = c.append-pass.ensures in
     kept-then (one-set c.self.invariant c.desk.invariant c.desk.view_is c.args.made c.requires.stored c.requires.may c.append-pass.ensures.goes_on) c.self.invariant _ _ _
     (λ has. e.born _ (has_right _ (cell_view c.args.set.now).owns (cell_view c.desk.inside.pass).owns (subst (Has (desk_key c.desk.inside.number)) (sym (ap (λ (x : View). x.owns) c.desk.invariant.holds)) has)))
-    e.keeper.0 e.keeper.1 (ap (λ (p : PlacesOf JournalEntry). p.filled) c.fill.ensures) (sym c.is_request-is_request.ensures.one) c.add-tickets.ensures.tickets c.record_event-share.ensures.book
+    e.keeper.0 e.keeper.1 (ap (λ (p : PlacesOf JournalEntry). p.filled) c.fill.ensures) (sym c.is_request-is_request.ensures.one) c.add-tickets.ensures.tickets c.record_event-share.ensures.book _ c.count_dropped.ensures
 
 pub invariant_of-desk : goal.invariant_of-desk
 invariant_of-desk g c = desk-then (one-set c.self.invariant c.desk.invariant c.desk.view_is c.args.made c.requires.stored c.requires.may c.append-pass.ensures.goes_on) c.desk.invariant _ _ c.append-pass.ensures.desk.0 c.append-pass.ensures.desk.1

@@ -16,4 +16,5 @@ invariant_of-self g c =
       new_desk = i.new_desk;
       tickets_are = c.call.ensures.tickets _ _ i.tickets_are;
       counted = i.counted;
+      drops = i.drops;
     }

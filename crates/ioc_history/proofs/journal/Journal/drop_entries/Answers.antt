@@ -37,6 +37,7 @@ invariant_of-self g c =
       new_desk = i.new_desk;
       tickets_are = i.tickets_are;
       counted = i.counted;
+      drops = i.drops;
     }
 
 pub returns-clause-dropped : goal.returns-clause-dropped

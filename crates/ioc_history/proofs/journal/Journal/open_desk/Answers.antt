@@ -4,11 +4,12 @@ use Rattle.ioc_history.specs.declared.entry.Note.{Note}
 use Rattle.ioc_history.specs.declared.cell.View.{View}
 use Rattle.ioc_history.specs.Key.{Key, Has}
 use Rattle.ioc_history.specs.Line.{keeper, claiming}
+use Rattle.ioc_ledger.specs.Requests.{capped}
 use Rattle.ioc_history.specs.Account.{desk_key, calls, calls_by, Below, IsAccount}
 use Rattle.ioc_history.specs.Desks.{LeadsFrom}
 use Rattle.ioc_history.specs.Places.{JournalOf}
 use Rattle.ioc_history.proofs.Calls.{none_below}
-use Rattle.ioc_history.specs.Counting.{AreTicketsOf, counts_of}
+use Rattle.ioc_history.specs.Counting.{AreTicketsOf, counts_of, dropped_in}
 use Rattle.ioc_history.proofs.journal.Journal.open_desk.Goals as goal
 
 pub claim_key-pass-requires-clause-fresh : goal.claim_key-pass-requires-clause-fresh
@@ -36,6 +37,7 @@ invariant_of-self g c =
           (λ (was : Has k (cell_view c.self.inside.pass).born). let lt = i.given k was kind in omega arith) (subst (Has k) born has);
       new_desk = λ m le. subst (λ l. Below m 0 (calls l)) (sym seen) (i.new_desk m (omega arith));
       tickets_are = subst (λ (l : List Note). AreTicketsOf g.K.RecordKind.rules g.B.JournalName.base l c.self.inside.tickets) (sym seen) i.tickets_are;
+      drops = subst (λ (l : List Note). c.self.inside.items_dropped ≡ capped (dropped_in g.K.RecordKind.rules g.B.JournalName.base l)) (sym seen) i.drops;
       counted = subst (λ (l : List Note). c.self.inside.counted ≡ counts_of g.K.RecordKind.rules g.B.JournalName.base l) (sym seen) i.counted;
     }
 

@@ -2,9 +2,10 @@ use Rattle.std.proofs.Common.{◌≡◌, List, refl, sym, ap, ◌∙◌, subst, 
 use Rattle.crossbeam_utils.specs.Seq.{cell_view}
 use Rattle.ioc_history.specs.declared.cell.View.{View}
 use Rattle.ioc_history.specs.Line.{keeper}
+use Rattle.ioc_ledger.specs.Requests.{capped}
 use Rattle.ioc_history.specs.Account.{calls, Below, IsAccount}
 use Rattle.ioc_history.specs.declared.entry.Note.{Note}
-use Rattle.ioc_history.specs.Counting.{AreTicketsOf, counts_of}
+use Rattle.ioc_history.specs.Counting.{AreTicketsOf, counts_of, dropped_in}
 use Rattle.ioc_history.proofs.TicketsThen.{none-yet}
 use Rattle.ioc_history.proofs.journal.Journal.without_calls.Goals as goal
 
@@ -24,5 +25,6 @@ invariant_of-result g c =
       given = λ key has kind. absurd (c.requires.given key has kind);
       new_desk = λ m le. subst (λ l. Below m 0 (calls l)) (sym seen) tt;
       tickets_are = subst (λ (l : List Note). AreTicketsOf g.K.RecordKind.rules g.B.JournalName.base l c.args.tickets) (sym seen) (none-yet g.K.RecordKind.rules g.B.JournalName.base c.args.tickets c.requires.tickets);
+      drops = subst (λ (l : List Note). 0 ≡ capped (dropped_in g.K.RecordKind.rules g.B.JournalName.base l)) (sym seen) refl;
       counted = subst (λ (l : List Note). c.args.counted ≡ counts_of g.K.RecordKind.rules g.B.JournalName.base l) (sym seen) c.requires.none.1;
     }

@@ -43,12 +43,12 @@ append-appended-requires-clause-follows g c =
 pub append-appended-requires-clause-sent : goal.append-appended-requires-clause-sent
 append-appended-requires-clause-sent g c =
     sends_none g.K.RecordKind.rules g.B.JournalName.base (cell_view c.in-Some.pass).seen (cell_view c.in-Some.pass).owns _
-    (asks_none g.K.RecordKind.rules c.questions_count_nothing.ensures g.B.JournalName.base _ refl (cell_view c.in-Some.pass).seen (cell_view c.in-Some.pass).owns) _ c.none.ensures.sent
+    (asks_none g.K.RecordKind.rules c.questions_count_nothing.ensures.questions g.B.JournalName.base _ refl (cell_view c.in-Some.pass).seen (cell_view c.in-Some.pass).owns) _ c.none.ensures.sent
 
 pub append-appended-requires-clause-counts : goal.append-appended-requires-clause-counts
 append-appended-requires-clause-counts g c =
     counts_none g.K.RecordKind.rules g.B.JournalName.base (cell_view c.in-Some.pass).seen (cell_view c.in-Some.pass).owns _
-    (asks_none g.K.RecordKind.rules c.questions_count_nothing.ensures g.B.JournalName.base _ refl (cell_view c.in-Some.pass).seen (cell_view c.in-Some.pass).owns) _ _ _ c.none.ensures.share
+    (asks_none g.K.RecordKind.rules c.questions_count_nothing.ensures.questions g.B.JournalName.base _ refl (cell_view c.in-Some.pass).seen (cell_view c.in-Some.pass).owns) _ _ _ c.none.ensures.share
 
 pub invariant_of-self : goal.invariant_of-self
 invariant_of-self g c =

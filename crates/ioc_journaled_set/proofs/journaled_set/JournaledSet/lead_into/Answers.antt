@@ -8,6 +8,7 @@ use Rattle.ioc_record.specs.Values.{stops_put}
 use Rattle.ioc_set_records.specs.Joined.{HasLink, relinked}
 use Rattle.ioc_store.specs.World.{World, common_at}
 use Rattle.ioc_history.specs.Covering.{Holds}
+use Rattle.ioc_history.specs.Counting.{BothMaySend, sent_counts}
 use Rattle.ioc_history.specs.Legal.{map_of, IsLegal, IsSound}
 use Rattle.ioc_history.specs.Line.{Continues}
 use Rattle.ioc_history.specs.Key.{Key}
@@ -19,7 +20,7 @@ use Rattle.ioc_history.specs.declared.entry.Note.{Note}
 use Rattle.ioc_history.specs.declared.cell.View.{View}
 use Rattle.ioc_set.specs.SetState.{SetState, now_of}
 use Rattle.ioc_set.specs.Linking.{MayBeOne}
-use Rattle.ioc_set_store.specs.SetStore.{world_of}
+use Rattle.ioc_set.specs.SetStore.{world_of}
 use Rattle.ioc_journaled_set.specs.Holding.{HeldView, IsHeld, IsCounted}
 use Rattle.ioc_journaled_set.specs.LinkChanges.{link_change}
 use Rattle.ioc_journaled_set.specs.SameDevice.{IsDeviceOf}
@@ -28,10 +29,10 @@ use Rattle.ioc_ledger.specs.Shared.{ShareView, share_view}
 use Rattle.ioc_journaled_set.proofs.Shares.{has_share, none_counted, share_is}
 use Rattle.ioc_journaled_set.proofs.Counting.{some_len}
 use Rattle.ioc_journaled_set.proofs.LinkShares.{freed_len, fewer_parts, started_before, rest_awaits, share_stays, share_leaves, share_joins}
-use Rattle.ioc_journaled_set.proofs.Dealing.{dealt_owner, both_may_follow, known_then}
-use Rattle.ioc_journaled_set.proofs.Leading.{lead_within, lead_apart, after_keeps, rest_keeps, lead_goes_on}
+use Rattle.ioc_journaled_set.proofs.Dealing.{dealt_owner, both_may_follow, both_may_send, known_then}
+use Rattle.ioc_journaled_set.proofs.Leading.{lead_within, lead_apart, lead_drops, after_keeps, rest_keeps, lead_goes_on}
 use Rattle.ioc_journaled_set.proofs.Nothing.{nothing_is_held}
-use Rattle.ioc_journaled_set.proofs.Parting.{takes_link}
+use Rattle.ioc_journaled_set.proofs.Parting.{takes_link, known_drops}
 use Rattle.ioc_journaled_set.proofs.journaled_set.JournaledSet.lead_into.Given.{Over}
 use Rattle.ioc_journaled_set.proofs.journaled_set.JournaledSet.lead_into.Goals.{After-take_share-share}
 use Rattle.ioc_journaled_set.proofs.journaled_set.JournaledSet.lead_into.Goals as goal
@@ -181,6 +182,20 @@ keep_change-receipt-requires-clause-follows g c =
     let beside = cell_view c.in-Some-take.beside in
     subst (λ (l : LinkField). BothMayFollow k g.B.JournalName.base pass.seen pass.owns beside.seen beside.owns (link_change c.args.change.moment c.args.change.number c.args.change.field l)) (sym c.get-chosen.ensures)
     (both_may_follow k g.B.JournalName.base c.args.change.moment c.args.change.number c.args.change.field c.args.change.link pass.seen pass.owns beside.seen beside.owns (λ (m : World g.row.K.Denot). Holds k m (now_of c.lead_into.new.self) × Holds k m (now_of c.in-Ok.rest)) (goes g at))
+
+pub keep_change-receipt-requires-clause-sent : goal.keep_change-receipt-requires-clause-sent
+keep_change-receipt-requires-clause-sent g c =
+    let at = (goal.at.keep_change-receipt-requires-clause-sent g c).After-take_share-share in
+    let k = g.K.RecordKind.rules in
+    let base = g.B.JournalName.base in
+    let pass = cell_view c.in-Some.pass in
+    let beside = cell_view c.in-Some-take.beside in
+    let n = c.args.change.number in
+    let drops = lead_drops k c.self.inside.set c.other.inside.set c.lead_into.new.self c.lead_into.new.other c.in-Ok.rest c.args.change.moment n c.args.change.field c.args.change.link (world_of c.lead_into.new.buffers.store) (takes g at) c.in-Ok.ensures.led (apart g at)
+    g.met.K.RecordKind.lawful c.dropped.result c.dropped.ensures in
+    subst (λ (l : LinkField). BothMaySend k base pass.seen pass.owns beside.seen beside.owns (link_change c.args.change.moment n c.args.change.field l) (sent_counts 0 c.dropped.result)) (sym c.get-chosen.ensures)
+    (both_may_send k base c.args.change.moment n c.args.change.field c.args.change.link pass.seen pass.owns beside.seen beside.owns (λ (m : World g.row.K.Denot). Holds k m (now_of c.lead_into.new.self) × Holds k m (now_of c.in-Ok.rest)) (goes g at) c.dropped.result
+    (known_drops k c.holding_lasts.ensures base (now_of c.self.inside.set) pass.seen pass.owns (held g at).owner.covers (held g at).holds n (takes g at).there c.args.change.field c.args.change.link c.dropped.result drops))
 
 pub invariant_of-self-2 : goal.invariant_of-self-2
 invariant_of-self-2 g c =

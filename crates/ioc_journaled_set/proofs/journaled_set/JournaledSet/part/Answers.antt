@@ -8,6 +8,7 @@ use Rattle.ioc_record.specs.Values.{stops_put}
 use Rattle.ioc_set_records.specs.Joined.{HasLink}
 use Rattle.ioc_store.specs.World.{World, common_at}
 use Rattle.ioc_history.specs.Covering.{Holds, Cover}
+use Rattle.ioc_history.specs.Counting.{BothMaySend, sent_counts}
 use Rattle.ioc_history.specs.Legal.{map_of, IsLegal, IsSound}
 use Rattle.ioc_history.specs.Line.{Continues}
 use Rattle.ioc_history.specs.Key.{Key}
@@ -19,7 +20,7 @@ use Rattle.ioc_history.specs.declared.cell.View.{View}
 use Rattle.ioc_set.specs.SetState.{now_of}
 use Rattle.ioc_journaled_set.specs.Holding.{HeldView, held_view, IsHeld}
 use Rattle.ioc_journaled_set.specs.LinkChanges.{link_change, Parts}
-use Rattle.ioc_set_store.specs.SetStore.{world_of}
+use Rattle.ioc_set.specs.SetStore.{world_of}
 use Rattle.ioc_journaled_set.specs.SameDevice.{IsDeviceOf}
 use Rattle.ioc_ledger.specs.declared.tally.Tally.{Tally}
 use Rattle.ioc_ledger.specs.Shared.{ShareView, share_view}
@@ -27,8 +28,8 @@ use Rattle.ioc_set.specs.Linking.{link_change_of}
 use Rattle.ioc_journaled_set.proofs.Shares.{has_share, share_is}
 use Rattle.ioc_journaled_set.proofs.Counting.{some_len}
 use Rattle.ioc_journaled_set.proofs.LinkShares.{change_len, fewer_parts, started_before, rest_awaits, share_stays, share_leaves}
-use Rattle.ioc_journaled_set.proofs.Dealing.{dealt_owner, both_may_follow, known_then}
-use Rattle.ioc_journaled_set.proofs.Parting.{takes_link, part_within, part_apart, stay_keeps, rest_keeps, part_goes_on}
+use Rattle.ioc_journaled_set.proofs.Dealing.{dealt_owner, both_may_follow, both_may_send, known_then}
+use Rattle.ioc_journaled_set.proofs.Parting.{takes_link, part_within, part_apart, part_drops, known_drops, stay_keeps, rest_keeps, part_goes_on}
 use Rattle.ioc_journaled_set.proofs.journaled_set.JournaledSet.part.Given.{Over}
 use Rattle.ioc_journaled_set.proofs.journaled_set.JournaledSet.part.Goals.{After-take_share-share}
 use Rattle.ioc_journaled_set.proofs.journaled_set.JournaledSet.part.Goals as goal
@@ -135,6 +136,20 @@ keep_change-receipt-requires-clause-follows g c =
     let other = cell_view c.copy-other.result in
     subst (λ (l : LinkField). BothMayFollow k g.B.JournalName.base pass.seen pass.owns other.seen other.owns (link_change c.args.change.moment c.args.change.number c.args.change.field l)) (sym c.get-chosen.ensures)
     (both_may_follow k g.B.JournalName.base c.args.change.moment c.args.change.number c.args.change.field c.args.change.link pass.seen pass.owns other.seen other.owns (λ (m : World g.row.K.Denot). Holds k m (now_of c.part.new.self) × Holds k m (now_of c.in-Ok.rest)) (goes g at))
+
+pub keep_change-receipt-requires-clause-sent : goal.keep_change-receipt-requires-clause-sent
+keep_change-receipt-requires-clause-sent g c =
+    let at = (goal.at.keep_change-receipt-requires-clause-sent g c).After-take_share-share in
+    let k = g.K.RecordKind.rules in
+    let base = g.B.JournalName.base in
+    let pass = cell_view c.copy-other.new.pass in
+    let other = cell_view c.copy-other.result in
+    let n = c.args.change.number in
+    let holds = subst (λ (x : View). Holds k (map_of k base x.seen) (now_of c.self.inside.set)) (sym c.copy-other.ensures.kept.1) (held g at).holds in
+    let drops = part_drops k c.self.inside.set c.part.new.self c.in-Ok.rest c.args.change.moment n c.args.change.field c.args.change.link (takes g at) c.in-Ok.ensures.apart (world_of c.part.new.buffers.store) c.dropped.result c.dropped.ensures c.in-Ok.ensures.left in
+    subst (λ (l : LinkField). BothMaySend k base pass.seen pass.owns other.seen other.owns (link_change c.args.change.moment n c.args.change.field l) (sent_counts 0 c.dropped.result)) (sym c.get-chosen.ensures)
+    (both_may_send k base c.args.change.moment n c.args.change.field c.args.change.link pass.seen pass.owns other.seen other.owns (λ (m : World g.row.K.Denot). Holds k m (now_of c.part.new.self) × Holds k m (now_of c.in-Ok.rest)) (goes g at) c.dropped.result
+    (known_drops k c.holding_lasts.ensures base (now_of c.self.inside.set) pass.seen pass.owns (covers g at) holds n (takes g at).there c.args.change.field c.args.change.link c.dropped.result drops))
 
 pub invariant_of-self-2 : goal.invariant_of-self-2
 invariant_of-self-2 g c =

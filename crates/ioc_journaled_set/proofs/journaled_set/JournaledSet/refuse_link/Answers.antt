@@ -15,8 +15,11 @@ use Rattle.ioc_journaled_set.specs.Holding.{HeldView, held_view, IsHeld}
 use Rattle.ioc_journaled_set.specs.LinkChanges.{Refuses}
 use Rattle.ioc_journaled_set.specs.SameDevice.{IsDeviceOf}
 use Rattle.ioc_journaled_set.proofs.Serving.{owner_on}
-use Rattle.ioc_journaled_set.proofs.Refusing.{link_there, link_has, refusal_may_follow, held_after_refusal}
-use Rattle.ioc_journaled_set.proofs.Sending.{sends_none, counts_none, asks_none}
+use Rattle.ioc_journaled_set.proofs.Refusing.{link_there, link_has, refusal_may_follow, refusal_counts_nothing, held_after_refusal}
+use Rattle.ioc_journaled_set.proofs.Sending.{sends_none, counts_none}
+use Rattle.ioc_journaled_set.specs.Sent.{MayCountNothing}
+use Rattle.ioc_journaled_set.proofs.journaled_set.JournaledSet.refuse_link.Given.{Over}
+use Rattle.ioc_journaled_set.proofs.journaled_set.JournaledSet.refuse_link.Goals.{After-none}
 use Rattle.ioc_journaled_set.proofs.journaled_set.JournaledSet.refuse_link.Goals as goal
 
 pub unreachable-requires : goal.unreachable-requires
@@ -47,15 +50,31 @@ append-appended-requires-clause-follows g c =
     (cell_view c.in-Some.pass).seen (cell_view c.in-Some.pass).owns held.owner.covers held.holds _
     (λ i. record { moment = c.args.change.now.moment; call = calling.Link c.args.change.now.number c.args.change.now.field (sym c.get.ensures i) (Err PutDisabled); answers = sym none i })
 
+module _ (g : Over) (c : After-none g) where
+  counts_nothing : MayCountNothing g.K.RecordKind.rules g.B.JournalName.base (cell_view c.in-Some.pass).seen (cell_view c.in-Some.pass).owns
+      (record { moment = c.args.change.now.moment; call = calling.Link c.args.change.now.number c.args.change.now.field c.get.result (Err PutDisabled); answers = c.new-2.result })
+  counts_nothing =
+      let k = g.K.RecordKind.rules in
+      let set = c.self.inside.set in
+      let is : c.self.inside.pass ≡ Some c.in-Some.pass = sym c.take.ensures.value ∙ c.in-Some.is in
+      let held = subst (λ (o : Option Pass). IsHeld k g.B.JournalName.base (IsDeviceOf g.D.Device.gives g.B.SetsName.devices) g.B.CellName.table o set) is c.self.invariant.0 in
+      let has = subst (λ (v : HeldView g.row.K.Denot g.row.D.Denot). HasLink k v.set.records c.args.change.now.number c.args.change.now.field) (sym c.self.view_is) c.requires.field in
+      let stops = subst (λ (v : HeldView g.row.K.Denot g.row.D.Denot). stops_put (common_at k (now_of v.set) c.args.change.now.number) c.args.change.now.field ≡ true) (sym c.self.view_is) c.requires.forbidden in
+      let none = c.new-2.ensures ∙ c.new.ensures.items in
+      refusal_counts_nothing k c.holding_lasts.ensures c.lists_leave_sound.ensures.after g.B.JournalName.base (now_of set) c.args.change.now.moment c.args.change.now.number c.args.change.now.field c.args.change.now.link
+      (link_there k set c.args.change.now.number c.args.change.now.field has) (link_has k set c.args.change.now.number c.args.change.now.field has) stops c.requires.known
+      (cell_view c.in-Some.pass).seen (cell_view c.in-Some.pass).owns held.owner.covers held.holds c.questions_count_nothing.ensures.links _
+      (λ i. record { moment = c.args.change.now.moment; call = calling.Link c.args.change.now.number c.args.change.now.field (sym c.get.ensures i) (Err PutDisabled); answers = sym none i })
+
 pub append-appended-requires-clause-sent : goal.append-appended-requires-clause-sent
 append-appended-requires-clause-sent g c =
     sends_none g.K.RecordKind.rules g.B.JournalName.base (cell_view c.in-Some.pass).seen (cell_view c.in-Some.pass).owns _
-    (asks_none g.K.RecordKind.rules c.questions_count_nothing.ensures g.B.JournalName.base _ refl (cell_view c.in-Some.pass).seen (cell_view c.in-Some.pass).owns) _ c.none.ensures.sent
+    (counts_nothing g (goal.at.append-appended-requires-clause-sent g c).After-none) _ c.none.ensures.sent
 
 pub append-appended-requires-clause-counts : goal.append-appended-requires-clause-counts
 append-appended-requires-clause-counts g c =
     counts_none g.K.RecordKind.rules g.B.JournalName.base (cell_view c.in-Some.pass).seen (cell_view c.in-Some.pass).owns _
-    (asks_none g.K.RecordKind.rules c.questions_count_nothing.ensures g.B.JournalName.base _ refl (cell_view c.in-Some.pass).seen (cell_view c.in-Some.pass).owns) _ _ _ c.none.ensures.share
+    (counts_nothing g (goal.at.append-appended-requires-clause-counts g c).After-none) _ _ _ c.none.ensures.share
 
 pub invariant_of-self : goal.invariant_of-self
 invariant_of-self g c =

@@ -1,24 +1,26 @@
-use Rattle.std.proofs.Common.{◌≡◌, ℕ, Option, Some, None, sym, ap, ◌∙◌, subst, arith}
+use Rattle.ioc_history.specs.Line.{noted}
+use Rattle.std.proofs.Common.{◌≡◌, ◌++◌, ℕ, Option, Some, None, sym, ap, ◌∙◌, subst, arith}
 use Rattle.std.specs.Prelude.{Contains}
 use Rattle.crossbeam_utils.specs.Seq.{cell_view}
 use Rattle.ioc_store.specs.World.{Has}
 use Rattle.ioc_events.specs.declared.event.Entry.{Entry}
 use Rattle.ioc_events.specs.declared.event.Call.TheVariants as calling
 use Rattle.ioc_events.specs.Step.{names}
+use Rattle.ioc_history.specs.declared.event_counts.SentCounts.{SentCounts}
 use Rattle.ioc_history.specs.Counting.{MaySend}
 use Rattle.ioc_history.specs.Covering.{Holds}
 use Rattle.ioc_history.specs.Legal.{map_of}
 use Rattle.ioc_history.specs.declared.cell.View.{View}
-use Rattle.ioc_history.specs.Account.{HasCalled, Pass}
+use Rattle.ioc_history.specs.Account.{journalled, HasCalled, Pass}
 use Rattle.ioc_history.proofs.Numbers.{begins_none}
 use Rattle.ioc_set.specs.SetState.{NoneIsLive, now_of}
 use Rattle.ioc_set.specs.NoCalls.{no_call}
-use Rattle.ioc_set_store.specs.SetStore.{world_of}
+use Rattle.ioc_set.specs.SetStore.{world_of}
 use Rattle.ioc_journaled_set.specs.Holding.{HeldView, held_view, numbers_of, IsHeld, Serves}
 use Rattle.ioc_journaled_set.specs.SameDevice.{IsDeviceOf}
 use Rattle.ioc_journaled_set.proofs.Keys.{key_there}
 use Rattle.ioc_journaled_set.proofs.Devices.{worked_there, keeps_on}
-use Rattle.ioc_journaled_set.proofs.Ended.{none_have_ended}
+use Rattle.ioc_journaled_set.proofs.Ended.{none_have_ended, ends_so}
 use Rattle.ioc_journaled_set.proofs.Serving.{IsDoneAlone, names_one, ordinary_on, begins_no_put, owner_on, entry_is, none_held, none_ended, may_follow, may_send, may_count, held_then, only, as_many}
 use Rattle.ioc_journaled_set.proofs.Counting.{some_len}
 use Rattle.ioc_journaled_set.proofs.Shares.{backed, counted_then, has_share, is_there}
@@ -81,7 +83,7 @@ append-appended-requires-clause-follows g c =
 pub append-appended-requires-clause-sent : goal.append-appended-requires-clause-sent
 append-appended-requires-clause-sent g c =
     let at = (goal.at.append-appended-requires-clause-sent g c).After-counts_since-counts in
-    subst (λ (n : ℕ). MaySend g.K.RecordKind.rules g.B.JournalName.base (cell_view c.in-Some.pass).seen (cell_view c.in-Some.pass).owns (record { moment = c.args.moment; call = calling.Event c.args.event.now c.in-Ok.done.0; answers = c.in-Ok.done.1 }) n) (sym c.counts_since-counts.ensures.sent)
+    subst (λ (n : SentCounts). MaySend g.K.RecordKind.rules g.B.JournalName.base (cell_view c.in-Some.pass).seen (cell_view c.in-Some.pass).owns (record { moment = c.args.moment; call = calling.Event c.args.event.now c.in-Ok.done.0; answers = c.in-Ok.done.1 }) n) (sym c.counts_since-counts.ensures.sent)
     (may_send (done g at))
 
 pub append-appended-requires-clause-counts : goal.append-appended-requires-clause-counts
@@ -138,5 +140,11 @@ returns-clause-ended g c =
     let at = (goal.at.returns-clause-ended g c).After-counts_since-counts in
     let added = c.append-appended.ensures.added in
     let none_here = c.sets_stay_without_puts.ensures.ended c.self.inside.set c.run_with_answers.new.set c.args.moment c.args.event.now c.in-Ok.done.0 (world_of c.run_with_answers.new.buffers.store) c.in-Ok.ensures.ok c.requires.ordinary c.is_sound.ensures (none g at) in
-    none_have_ended g.K.RecordKind.rules g.B.JournalName.base (world_of c.run_with_answers.new.buffers.store).ended _ c.append-appended.new.desk.seen none_here c.clear.ensures.items
-    (none_ended (done g at) added.0 _ added.1 c.is_sound.ensures.counted none_here)
+    let k = g.K.RecordKind.rules in
+    let base = g.B.JournalName.base in
+    let pass = cell_view c.in-Some.pass in
+    let a = added.1 in
+    let last = noted (journalled a.desk a.call (record { moment = c.args.moment; call = calling.Event c.args.event.now c.in-Ok.done.0; answers = c.in-Ok.done.1 })) (pass.owns ++ a.own) in
+    none_have_ended k base added.0 last (world_of c.run_with_answers.new.buffers.store).ended _ c.append-appended.new.desk.seen none_here c.clear.ensures.items
+    (none_ended (done g at) added.0 _ added.1 c.is_sound.ensures.counted none_here) a.ends
+    (ends_so k base c.calls_have_laws.ensures.last added.0 c.append-appended.new.desk.seen last a.ends a.sound c.append-appended.ensures.call.legal.legal)

@@ -14,19 +14,20 @@ use Rattle.ioc_history.specs.declared.cell.View.{View}
 use Rattle.ioc_history.specs.Account.{HasCalled, Pass, number_begun, number_given, puts_key, PutsAreKeyed, journalled}
 use Rattle.ioc_set.specs.SetState.{now_of}
 use Rattle.ioc_set.specs.NoCalls.{no_call}
-use Rattle.ioc_set_store.specs.declared.set_store.SetStore.{SetStore}
-use Rattle.ioc_set_store.specs.SetStore.{world_of}
+use Rattle.ioc_set.specs.declared.set_store.SetStore.{SetStore}
+use Rattle.ioc_set.specs.SetStore.{world_of}
 use Rattle.ioc_journaled_set.specs.Holding.{HeldView, held_view, numbers_of, IsHeld, Serves}
 use Rattle.ioc_journaled_set.specs.Puts.{CanBegin, AreMoved, AreCounted, HaveEnded, PutsView, puts_view}
 use Rattle.ioc_journaled_set.specs.SameDevice.{IsDeviceOf}
 use Rattle.ioc_journaled_set.proofs.Keys.{key_there}
 use Rattle.ioc_journaled_set.proofs.Devices.{worked_there, keeps_on}
 use Rattle.ioc_journaled_set.proofs.Serving.{names_one, no_cancel, owner_on, entry_is, only, as_many, asks_alike, if_some_then}
+use Rattle.ioc_history.specs.declared.event_counts.SentCounts.{SentCounts}
 use Rattle.ioc_history.specs.Counting.{BothMaySend}
 use Rattle.ioc_journaled_set.proofs.Counting.{some_len}
 use Rattle.ioc_journaled_set.proofs.Shares.{backed, counted_then, has_share, is_there}
 use Rattle.ioc_journaled_set.proofs.Beside.{IsDoneBeside, both_follow, both_send, both_count, held_beside, moved_beside, ended_beside}
-use Rattle.ioc_journaled_set.proofs.Ended.{have_ended}
+use Rattle.ioc_journaled_set.proofs.Ended.{have_ended, ends_so}
 use Rattle.ioc_history.specs.Line.{noted}
 use Rattle.ioc_history.proofs.Numbers.{numbers_on}
 use Rattle.ioc_journaled_set.proofs.Places.{place_alike}
@@ -87,7 +88,7 @@ keep_beside-appended-requires-clause-follows g c =
 pub keep_beside-appended-requires-clause-sent : goal.keep_beside-appended-requires-clause-sent
 keep_beside-appended-requires-clause-sent g c =
     let at = (goal.at.keep_beside-appended-requires-clause-sent g c).After-is_counted in
-    subst (λ (n : ℕ). BothMaySend g.K.RecordKind.rules g.B.JournalName.base (cell_view c.in-Some.pass).seen (cell_view c.in-Some.pass).owns c.deref_mut-all.result.now.seen puts_key c.in_ok-ran.ran.entry n) (sym c.counts_since-counts.ensures.sent)
+    subst (λ (n : SentCounts). BothMaySend g.K.RecordKind.rules g.B.JournalName.base (cell_view c.in-Some.pass).seen (cell_view c.in-Some.pass).owns c.deref_mut-all.result.now.seen puts_key c.in_ok-ran.ran.entry n) (sym c.counts_since-counts.ensures.sent)
     (both_send (done g at))
 
 pub keep_beside-appended-requires-clause-counts : goal.keep_beside-appended-requires-clause-counts
@@ -157,11 +158,13 @@ returns-clause-ended g c =
     let kept = c.keep_beside-appended.ensures in
     let added = kept.added in
     let longer = c.keep_beside-appended.new.desk.seen in
+    let last = noted (journalled added.1.desk added.1.call c.in_ok-ran.ran.entry) (((cell_view c.in-Some.pass).owns ++ puts_key) ++ added.1.own) in
     let ends = ended_beside (done g at) added.0 _ added.1 c.is_sound.ensures.counted in
     let counts = subst (λ (seen : List Note). AreCounted k base c.keep_beside-appended.new.all.live seen) kept.seen kept.counted.1 in
     subst (λ (x : SetStore g.row.K.Denot g.row.D.Denot). HaveEnded k base (world_of x).ended longer c.keep_beside-appended.new.buffers.ended_everywhere.items) (sym kept.store)
-    (have_ended k base c.lines_tell_holders.ensures.live c.lines_tell_holders.ensures.held (world_of c.run_counted.new.buffers.store).ended c.keep_beside-appended.new.buffers.ended_everywhere.items longer c.keep_beside-appended.new.all.live
-    kept.counted.0 counts (c.calls_have_laws.ensures.sound base longer added.1.sound).2 ends kept.ended)
+    (have_ended k base added.0 last c.lines_tell_holders.ensures.live c.lines_tell_holders.ensures.held (world_of c.run_counted.new.buffers.store).ended c.keep_beside-appended.new.buffers.ended_everywhere.items longer c.keep_beside-appended.new.all.live
+    kept.counted.0 counts (c.calls_have_laws.ensures.sound base longer added.1.sound).2 ends kept.ended added.1.ends
+    (ends_so k base c.calls_have_laws.ensures.last added.0 longer last added.1.ends added.1.sound kept.call.legal.legal))
 
 pub returns-clause-begins : goal.returns-clause-begins
 unfolding done

@@ -6,7 +6,7 @@ use Rattle.std.proofs.lemmas.List.Kept.{AllPairs-filter}
 use Rattle.ioc_notify.specs.Living.{is_live}
 use Rattle.ioc_journaled_set.specs.PutPlaces.{Places, places_of, AreFew}
 use Rattle.ioc_journaled_set.proofs.Placed.{filter_shorter, no_more_than_live, none_free}
-use Rattle.ioc_set_store.proofs.Gathered.{passes-there, there-passes}
+use Rattle.ioc_set.proofs.Gathered.{passes-there, there-passes}
 use Rattle.ioc_journaled_set.proofs.put_places.PutPlaces.make_room.Goals as goal
 
 pub invariant_of-self : goal.invariant_of-self

@@ -1,9 +1,9 @@
 use Rattle.std.proofs.Common.{ap, sym, ◌∙◌, subst}
 use Rattle.ioc_store.specs.World.{World}
 use Rattle.ioc_events.specs.Holding.{IsCounted}
-use Rattle.ioc_set_store.specs.SetStore.{world_of}
+use Rattle.ioc_set.specs.SetStore.{world_of}
 use Rattle.ioc_set.specs.SetState.{SetState, done_by}
-use Rattle.ioc_set_store.specs.Resting.{resting}
+use Rattle.ioc_set.specs.Resting.{resting}
 use Rattle.ioc_set.specs.Doing.{held_by, with_place, Does}
 use Rattle.ioc_set.proofs.DoneLaws.{same_held, now_kept, alike_after, sound_then, does}
 use Rattle.ioc_set.proofs.lock_set.LockSet.do_event.Goals as goal

@@ -4,7 +4,7 @@ use Rattle.std.specs.FinMap.{get}
 use Rattle.ioc_set_records.specs.Contents.{Records}
 use Rattle.ioc_set_records.specs.Joined.{HasLink}
 use Rattle.ioc_set.specs.SetState.{SetState}
-use Rattle.ioc_set_store.specs.SetStore.{world_of}
+use Rattle.ioc_set.specs.SetStore.{world_of}
 use Rattle.ioc_set.proofs.LeadLaws.{names_none, stays-apart, is-free, both-have, leads, none_stays, still_may}
 use Rattle.ioc_set.proofs.lock_set.LockSet.lead_into.Goals as goal
 

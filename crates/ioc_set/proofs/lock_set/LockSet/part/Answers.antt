@@ -1,4 +1,4 @@
-use Rattle.ioc_set_store.specs.SetStore.{world_of}
+use Rattle.ioc_set.specs.SetStore.{world_of}
 use Rattle.ioc_set.proofs.PartLaws.{parts, comes_to}
 use Rattle.ioc_set.proofs.lock_set.LockSet.part.Goals as goal
 

@@ -7,12 +7,12 @@ use Rattle.ioc_set_records.specs.Contents.{Contents, Records}
 use Rattle.ioc_store.specs.World.{World, begun_at}
 use Rattle.ioc_store.specs.Scanning.{rewired}
 use Rattle.ioc_set.specs.SetState.{SetState}
-use Rattle.ioc_set_store.specs.Resting.{resting}
-use Rattle.ioc_set_store.specs.Puts.{Puts}
+use Rattle.ioc_set.specs.Resting.{resting}
+use Rattle.ioc_set.specs.Puts.{Puts}
 use Rattle.ioc_set.specs.Linking.{AreHeld}
 use Rattle.ioc_set.specs.Sound.{CountsAddUp}
 use Rattle.ioc_set.specs.Doing.{held_by, with_kept}
-use Rattle.ioc_set_store.specs.SetStore.{world_of}
+use Rattle.ioc_set.specs.SetStore.{world_of}
 use Rattle.ioc_set.proofs.EmptyHistory.{begun_now}
 use Rattle.ioc_set.proofs.AwaitedSums.{awaited-rescanned}
 use Rattle.ioc_set.proofs.Linked.{empty_history_is_sound, rescanned_part, rescanned_held, rescanned_like}

@@ -1,0 +1,191 @@
+//! The calls of a console.
+use crate::fault::RunFault;
+use crate::task::tick;
+use ioc_console::choice_of;
+use ioc_engine::{
+    Channel, Clock, Desk, Device, Engine, EngineName, FieldText, Input, IocError, NotifyId, Reply,
+};
+use ioc_fields::{FieldNo, name_of};
+use ioc_scan::Period;
+use ioc_values::ByteBuffer;
+use std::alloc::{AllocError, Global};
+use std::sync::Wait;
+
+/// Why a line isn't done.
+#[derive(Clone, Copy, Debug, PartialEq, Eq)]
+pub enum LineFault {
+    /// The call was refused.
+    Refused(IocError),
+    /// The run ends.
+    Run(RunFault),
+}
+
+/// Converts the error of a call. If allocation has failed, the run ends.
+impl From<IocError> for LineFault {
+    fn from(refused: IocError) -> LineFault {
+        match refused {
+            IocError::NoMemory => LineFault::Run(RunFault::Memory),
+            other => LineFault::Refused(other),
+        }
+    }
+}
+
+impl From<AllocError> for LineFault {
+    fn from(_e: AllocError) -> LineFault {
+        LineFault::Run(RunFault::Memory)
+    }
+}
+
+impl From<RunFault> for LineFault {
+    fn from(fault: RunFault) -> LineFault {
+        LineFault::Run(fault)
+    }
+}
+
+/// A desk of an engine, with what its calls need.
+#[derive(Drop)]
+pub struct Caller<'e, B: EngineName<D>, D: Device, C: Drop, R> {
+    pub rt: &'e R,
+    pub alloc: Global,
+    pub engine: &'e Engine<B, D, C>,
+    pub desk: &'e mut Desk<B, D>,
+}
+
+// The text of a channel. A line has 1,024 bytes at most.
+fn channel_text(record: &[u8], field: &[u8]) -> ByteBuffer<1025> {
+    let mut text = ByteBuffer::new();
+    text.extend_cut(record);
+    text.extend_cut(b".");
+    text.extend_cut(field);
+    text
+}
+
+impl<'e, B: EngineName<D>, D: Device, C: Clock + Drop, R: Wait> Caller<'e, B, D, C, R> {
+    // Finds a field of a record by their names.
+    fn channel(&self, record: &[u8], field: &[u8]) -> Result<Channel, IocError> {
+        self.engine.channel(channel_text(record, field).as_slice())
+    }
+
+    /// Returns the text of a field.
+    ///
+    /// # Errors
+    ///
+    /// As [`Engine::channel`] and [`Engine::get`].
+    pub fn get(&mut self, record: &[u8], field: &[u8]) -> Result<FieldText, LineFault> {
+        let channel = self.channel(record, field)?;
+        let (text, _receipt) = self.engine.get(self.rt, self.desk, channel)?;
+        Ok(text)
+    }
+
+    /// Returns the text of a field of a record whose type has it.
+    ///
+    /// # Errors
+    ///
+    /// As [`Caller::get`].
+    pub fn get_field(&mut self, record: &[u8], field: FieldNo) -> Result<FieldText, LineFault> {
+        self.get(record, name_of(field).as_bytes())
+    }
+
+    /// Puts a text into a field.
+    ///
+    /// # Errors
+    ///
+    /// As [`Engine::channel`] and [`Engine::put`].
+    pub fn put(&mut self, record: &[u8], field: &[u8], text: &[u8]) -> Result<Reply, LineFault> {
+        let channel = self.channel(record, field)?;
+        let given = Input::from_text(text);
+        let (reply, _receipt) = self.engine.put(self.rt, self.desk, channel, given)?;
+        Ok(reply)
+    }
+
+    /// Puts a text into a field with notification.
+    ///
+    /// # Errors
+    ///
+    /// As [`Engine::channel`] and [`Engine::put_notify`].
+    pub fn notify(&mut self, record: &[u8], field: &[u8], text: &[u8]) -> Result<Reply, LineFault> {
+        let channel = self.channel(record, field)?;
+        let given = Input::from_text(text);
+        let (reply, _receipt) = self.engine.put_notify(self.rt, self.desk, channel, given)?;
+        Ok(reply)
+    }
+
+    /// Cancels a put with notification.
+    ///
+    /// # Errors
+    ///
+    /// As [`Engine::cancel`].
+    pub fn cancel(&mut self, number: u64) -> Result<Reply, LineFault> {
+        let number = NotifyId::new(number);
+        let (reply, _receipt) = self.engine.cancel(self.rt, self.desk, number)?;
+        Ok(reply)
+    }
+
+    /// Requests a record.
+    ///
+    /// # Errors
+    ///
+    /// As [`Engine::record`] and [`Engine::process`].
+    pub fn process(&mut self, record: &[u8]) -> Result<Reply, LineFault> {
+        let number = self.engine.record(record)?;
+        let (reply, _receipt) = self.engine.process(self.rt, self.desk, number)?;
+        Ok(reply)
+    }
+
+    /// Changes a link of a record.
+    ///
+    /// # Errors
+    ///
+    /// As [`Engine::channel`] and [`Engine::set_link`].
+    pub fn link(&mut self, record: &[u8], field: &[u8], text: &[u8]) -> Result<Reply, LineFault> {
+        let channel = self.channel(record, field)?;
+        let (reply, _receipt) = self.engine.set_link(self.rt, self.desk, channel, text)?;
+        match reply {
+            Ok(()) => Ok(Reply::Plain),
+            Err(refused) => Ok(Reply::Refused(refused)),
+        }
+    }
+
+    /// Posts an event, and returns how many requests were put on the callback queues.
+    ///
+    /// # Errors
+    ///
+    /// As [`Engine::post_event`].
+    pub fn post(&mut self, name: &[u8]) -> Result<u64, LineFault> {
+        let (count, _receipt) = self.engine.post_event(self.rt, self.desk, name)?;
+        Ok(count)
+    }
+
+    /// Tells of an interrupt of devices, and returns how many requests were put on the callback
+    /// queues.
+    ///
+    /// # Errors
+    ///
+    /// As [`Engine::io_interrupt`].
+    pub fn interrupt(&mut self, word: &[u8]) -> Result<u64, LineFault> {
+        let (count, _receipt) = self.engine.io_interrupt(self.rt, self.desk, word)?;
+        Ok(count)
+    }
+
+    /// Scans a period once, and returns how many records were requested.
+    ///
+    /// # Errors
+    ///
+    /// As [`Engine::scan`].
+    pub fn scan(&mut self, period: Period) -> Result<u64, LineFault> {
+        let Some(choice) = choice_of(period) else {
+            return Err(LineFault::Refused(IocError::BadValue));
+        };
+        let count = self.engine.scan(self.rt, self.desk, choice)?;
+        Ok(count as u64)
+    }
+
+    /// Walks the periods of the tick with this number, and returns how many records were requested.
+    ///
+    /// # Errors
+    ///
+    /// As [`tick`].
+    pub fn tick(&mut self, number: u64) -> Result<u64, LineFault> {
+        Ok(tick(self.rt, self.alloc, self.engine, self.desk, number)?)
+    }
+}
