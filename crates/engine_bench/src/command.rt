@@ -32,12 +32,18 @@ fn command<'a>(alloc: Global) -> Result<Command<'a>, AllocError> {
         .action(ArgAction::Append)
         .value_parser(WORKS.as_slice())
         .help("what the threads do");
+    let history = Arg::new(alloc, "history")
+        .long("history")
+        .value_name("EVENTS")
+        .value_parser(value_parser!(usize))
+        .help("how many events a lock set keeps, 1 to 64; 64 if not given");
     let records = "the length of a chain, or the number of records beside those that are called";
     PROGRAM
         .command(alloc)
         .arg(number(alloc, "CALLS", "the number of rounds of each thread"))?
         .arg(number(alloc, "THREADS", "the number of threads"))?
         .arg(number(alloc, "RECORDS", records))?
+        .arg(history)?
         .arg(works)
 }
 
@@ -56,6 +62,7 @@ pub fn jobs(alloc: Global, words: &[String]) -> Result<Vec<Job>, Stop> {
     ) else {
         return Err(Stop::Usage(UsageFault::NoArgument));
     };
+    let history = matches.get_one::<usize>("history").unwrap_or(64);
     let mut jobs = Vec::new(alloc);
     for name in matches.get_strs("WORK").unwrap_or(&[]) {
         let Some(work) = Work::from_name(name) else {
@@ -66,6 +73,7 @@ pub fn jobs(alloc: Global, words: &[String]) -> Result<Vec<Job>, Stop> {
             rounds,
             threads,
             size,
+            history,
         };
         jobs.push(job).map_err(AllocError::from)?;
     }

@@ -85,24 +85,22 @@ pub struct Job {
     pub threads: usize,
     /// The length of a chain, or the number of records beside those that are called.
     pub size: usize,
+    /// The number of events that a lock set keeps.
+    pub history: usize,
 }
 
 impl Job {
     /// Returns the limits of the engine.
     pub fn limits(&self) -> Limits {
-        match self.work {
-            Work::Spread => Limits {
-                journal: MOST_PLACES,
-                checkpoint_at: MOST_PLACES - 100_000,
-            },
-            Work::Narrow => Limits {
-                journal: 200_000,
-                checkpoint_at: 100_000,
-            },
-            _ => Limits {
-                journal: MOST_PLACES,
-                checkpoint_at: 0,
-            },
+        let (journal, checkpoint_at) = match self.work {
+            Work::Spread => (MOST_PLACES, MOST_PLACES - 100_000),
+            Work::Narrow => (200_000, 100_000),
+            _ => (MOST_PLACES, 0),
+        };
+        Limits {
+            journal,
+            checkpoint_at,
+            history: self.history,
         }
     }
 

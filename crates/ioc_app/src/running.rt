@@ -166,6 +166,7 @@ fn limits(is_kept: bool) -> Limits {
         Limits {
             journal: PLACES,
             checkpoint_at: 0,
+            history: 64,
         }
     } else {
         Limits::of(PLACES)

@@ -8,15 +8,19 @@ use crate::difference::Difference;
 use ioc_journal_file::{LineError, parse};
 use std::alloc::{AllocError, Global};
 use std::io::{self, BufRead, Write};
+use thiserror::Error;
 
 /// Why an audit stopped before its end.
-#[derive(Debug, Drop)]
+#[derive(Debug, Drop, Error)]
 pub enum AuditFault {
     /// The journal couldn't be read.
+    #[error("the journal can't be read: {0}")]
     Read(io::Error),
     /// A change couldn't be written.
+    #[error("a change can't be written: {0}")]
     Write(io::Error),
     /// Allocation failed.
+    #[error("out of memory")]
     Memory,
 }
 

@@ -51,6 +51,8 @@ pub struct Engine<B: EngineName<D>, D: Device, C: Drop> {
     pub(crate) lookup: EngineLookup<B, D>,
     pub(crate) clock: C,
     pub(crate) alloc: Global,
+    // How many events a lock set keeps.
+    pub(crate) history: usize,
     pub ghost counted: { length lookup.types.items ≡ core },
 }
 
@@ -65,7 +67,7 @@ impl<B: EngineName<D>, D: Device, C: Drop> Engine<B, D, C> {
         ensures new { IfOk result (λ d. (d.account.next ≡ 0) × (calls_by d.account.number (calls d.account.seen) ≡ [])) }
         ensures refused { IfErr result (λ error. (error ≡ Stopped) ⊎ ((error ≡ JournalFull) ⊎ (error ≡ NoMemory))) }
     {
-        let buffers = EventBuffers::new(self.alloc)?;
+        let buffers = EventBuffers::new(self.alloc, self.history)?;
         let account = self.core.open_desk(rt)?;
         Ok(Desk {
             account,

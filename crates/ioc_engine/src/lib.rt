@@ -67,8 +67,9 @@ pub use seed::Seed;
 /// ```
 pub use ioc_dbfile::DeviceName;
 
-/// The limits of an engine. `journal` is the number of calls that it can take from one checkpoint to
-/// the next, from 1 to 4,194,304; [`Limits::default`] allows 100,000. If fewer places than
+/// The limits of an engine. `history` is the number of events that a lock set keeps in memory, from
+/// 1 to 64; fewer take less memory and more time. `journal` is the number of calls that the engine
+/// can take from one checkpoint to the next, from 1 to 4,194,304; [`Limits::default`] allows 100,000. If fewer places than
 /// `checkpoint_at` are free, a call makes a checkpoint before it begins, so that the journal has
 /// places again: by default, and with [`Limits::of`], a quarter of `journal`. If the call is refused
 /// then, the checkpoint was made nevertheless. Places are counted only after a call that found at

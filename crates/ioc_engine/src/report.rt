@@ -24,6 +24,7 @@ use ioc_names::RecordNo;
 use ioc_set_records::Slot;
 use rec_types::Record;
 use std::alloc::{AllocError, Global};
+use std::fmt;
 use std::sync::Wait;
 
 /// What is left of an engine when it ends by [`Engine::stop`]: its records with their devices, its
@@ -121,6 +122,7 @@ impl<B: EngineName<D>, D: Device, C: Drop> Engine<B, D, C> {
             lookup: _,
             clock: _,
             alloc,
+            history: _,
         } = self;
         Report {
             core: core.stop(rt, alloc),
@@ -270,5 +272,13 @@ impl<B: EngineName<D>, D: Device> Report<B, D> {
             refused: _,
         } = core;
         records_in(alloc, sets)
+    }
+}
+
+/// Writes the counts of requests, and how many items events dropped, as the last line of `ioc-replay`
+/// does.
+impl<B: EngineName<D>, D: Device> fmt::Display for Report<B, D> {
+    fn fmt<W: fmt::Write>(&self, f: &mut fmt::Formatter<W>) -> fmt::Result {
+        write!(f, "tally {} dropped={}", self.tally(), self.dropped())
     }
 }

@@ -67,6 +67,7 @@ impl<B: EngineName<D>, D: Device, C: Clock + Drop> Engine<B, D, C> {
             lookup: EngineLookup::new(lookup),
             clock,
             alloc,
+            history: limits.history,
         };
         match engine.request_starters(rt, starters.as_slice()) {
             Ok(()) => Ok(engine),

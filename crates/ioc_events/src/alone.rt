@@ -3,9 +3,8 @@ ghost use Rattle.std.specs.Prelude.{◌≡◌, true, OnOk, OnErr, IfErr, Some, O
 ghost use Rattle.ioc_fields.specs.Table.{is_process_passive};
 ghost use Rattle.ioc_fields.specs.declared.field_no.FieldNo.TheVariants.{Own};
 ghost use Rattle.ioc_fields.specs.declared.field_no.OwnField.TheVariants.{Val};
-ghost use Rattle.ioc_values.specs.Conversion.{input_of};
-ghost use Rattle.ioc_record.specs.Values.{put_field};
-ghost use Rattle.ioc_store.specs.World.{Has, at, put, common_at};
+ghost use Rattle.ioc_record.specs.Given.{input_given};
+ghost use Rattle.ioc_store.specs.World.{Has, at, common_at};
 ghost use Rattle.ioc_process.specs.Running.{CanProcess, CanRun, HasRun};
 ghost use Rattle.ioc_process.specs.Runs.{ForAnswers};
 ghost use Rattle.ioc_events.specs.declared.event.Event.TheVariants.{Process, Put, Complete};
@@ -17,14 +16,14 @@ use ioc_dbcommon::Common;
 use ioc_fields::{FieldNo, OwnField, RecordType, is_process_passive};
 use ioc_ledger::{Outcome, Tally};
 use ioc_names::RecordNo;
-use ioc_process::outputs::is_proc;
+use ioc_process::outputs::{is_proc, put_into};
 use ioc_process::process::{complete_record, request_record};
 use ioc_process::scanning::rescan;
 use ioc_process::steps::{mark_put, mark_reprocess};
-use ioc_record::{RecordKind, put_field, put_spelled};
+use ioc_record::{Given, Putter, RecordKind};
 use ioc_store::frames::Frame;
 use ioc_store::store::Store;
-use ioc_values::{Finished, Input, IocError};
+use ioc_values::{Finished, IocError};
 
 // VAL is process-passive in each record type.
 #[tactic(auto, unfolding(ioc_fields::specs::Table::is_process_passive, ioc_fields::specs::Table::row_of, ioc_fields::specs::Table::own_row, ioc_fields::specs::Table::numeric_input_row, ioc_fields::specs::Table::numeric_output_row, ioc_fields::specs::Table::output_row, ioc_fields::specs::Table::numeric_row, ioc_fields::specs::Table::bi_row, ioc_fields::specs::Table::bo_row, ioc_fields::specs::Table::two_state_row, ioc_fields::specs::Table::mbbi_row, ioc_fields::specs::Table::mbbo_row, ioc_fields::specs::Table::multi_state_row, ioc_fields::specs::Table::text_row, ioc_fields::specs::Table::text_input_row, ioc_fields::specs::Table::stringout_row, ioc_fields::specs::Table::fanout_row))]
@@ -101,46 +100,6 @@ pub fn request<S: Store>(
     Reply::Outcome(outcome)
 }
 
-// Puts a value into a field of a record that exists.
-fn put_into<S: Store>(
-    store: &mut S,
-    number: RecordNo,
-    field: FieldNo,
-    given: Input,
-) -> Result<(), IocError>
-    requires { Has (S.world store.old) number }
-    ensures ok { OnOk result (put_field S.Record.rules (at S.Record.rules (S.world store.old) number) field given
-        ≡ Ok (at S.Record.rules (S.world store.new) number)) }
-    ensures stored { OnOk result (S.world store.new ≡ put (S.world store.old) number (at S.Record.rules (S.world store.new) number)) }
-    ensures err { IfErr result (λ e. put_field S.Record.rules (at S.Record.rules (S.world store.old) number) field given ≡ Err e) }
-    ensures same { OnErr result (S.world store.new ≡ S.world store.old) }
-    ensures given { S.given store.new ≡ S.given store.old }
-{
-    let record = store.record_mut(number);
-    put_field(record, field, given)
-}
-
-// Puts the value of a text into a field of a record that exists.
-fn put_text_into<S: Store>(
-    store: &mut S,
-    number: RecordNo,
-    field: FieldNo,
-    text: &[u8],
-) -> Result<(), IocError>
-    requires { Has (S.world store.old) number }
-    ensures ok { OnOk result (put_field S.Record.rules (at S.Record.rules (S.world store.old) number) field (input_of text.now)
-        ≡ Ok (at S.Record.rules (S.world store.new) number)) }
-    ensures stored { OnOk result (S.world store.new ≡ put (S.world store.old) number (at S.Record.rules (S.world store.new) number)) }
-    ensures err { IfErr result (λ e. put_field S.Record.rules (at S.Record.rules (S.world store.old) number) field
-        (input_of text.now)
-        ≡ Err e) }
-    ensures same { OnErr result (S.world store.new ≡ S.world store.old) }
-    ensures given { S.given store.new ≡ S.given store.old }
-{
-    let record = store.record_mut(number);
-    put_spelled(record, field, text)
-}
-
 // Processes a record that was put to, if the field requires it. An active record is marked for
 // reprocessing.
 #[tactic(auto, unfolding(crate::specs::Step::after_put))]
@@ -171,51 +130,25 @@ fn process_after_put<S: Store>(
 }
 
 /// Puts a value into a field, and processes the record if the field requires it.
+#[inline(always)]
 pub fn put<S: Store>(
     store: &mut S,
     frames: &mut Vec<Frame>,
     number: RecordNo,
     field: FieldNo,
-    given: Input,
+    given: Given<'_>,
     tally: &mut Tally,
 ) -> Reply
     requires { CanRun S.Record.rules (S.world store.old) frames.old }
     ensures done { HasDone S.Record.rules (S.given store.new) (S.world store.old) (S.world store.new) result
-        tally.old tally.new (Put number field given) }
+        tally.old tally.new (Put number field (input_given given.entry)) }
     ensures run { HasRun S.Record.rules S.Device.gives (S.world store.old) (S.world store.new) (S.given store.old) (S.given store.new)
         frames.old frames.new }
 {
     if !store.has(number) {
         return Reply::Refused(IocError::NoRecord);
     }
-    match put_into(store, number, field, given) {
-        Ok(()) => {
-            rescan(store, number, field);
-            Reply::of(Ok(process_after_put(store, frames, number, field, tally)))
-        }
-        Err(refused) => Reply::Refused(refused),
-    }
-}
-
-/// Puts the value of a text into a field, and processes the record if the field requires it.
-pub fn put_text<S: Store>(
-    store: &mut S,
-    frames: &mut Vec<Frame>,
-    number: RecordNo,
-    field: FieldNo,
-    text: &[u8],
-    tally: &mut Tally,
-) -> Reply
-    requires { CanRun S.Record.rules (S.world store.old) frames.old }
-    ensures done { HasDone S.Record.rules (S.given store.new) (S.world store.old) (S.world store.new) result
-        tally.old tally.new (Put number field (input_of text.now)) }
-    ensures run { HasRun S.Record.rules S.Device.gives (S.world store.old) (S.world store.new) (S.given store.old) (S.given store.new)
-        frames.old frames.new }
-{
-    if !store.has(number) {
-        return Reply::Refused(IocError::NoRecord);
-    }
-    match put_text_into(store, number, field, text) {
+    match put_into(store, number, field, given, Putter::Client) {
         Ok(()) => {
             rescan(store, number, field);
             Reply::of(Ok(process_after_put(store, frames, number, field, tally)))

@@ -8,10 +8,10 @@ ghost use Rattle.ioc_process.specs.Runs.{ForAnswers};
 ghost use Rattle.ioc_events.specs.declared.event.Event.TheVariants.{Put};
 ghost use Rattle.ioc_events.specs.Step.{completes, shown};
 ghost use Rattle.ioc_ledger.specs.Requests.{counted_started};
-ghost use Rattle.ioc_values.specs.Conversion.{input_of};
+ghost use Rattle.ioc_record.specs.Given.{input_given};
 ghost use Rattle.ioc_events.specs.Events.{HasDone, HasStepped, ends_unless, Ends};
 
-use crate::alone::{complete, put, put_text, request};
+use crate::alone::{complete, put, request};
 use crate::event::Event;
 use crate::notify::{cancel, notify};
 use crate::reply::Reply;
@@ -19,7 +19,7 @@ use crate::starting::start_all;
 use ioc_fields::{FieldNo, row_of};
 use ioc_ledger::Tally;
 use ioc_names::RecordNo;
-use ioc_record::{FieldText, RecordKind, text_of};
+use ioc_record::{FieldText, Given, RecordKind, text_of};
 use ioc_store::frames::Frame;
 use ioc_store::store::Store;
 use ioc_values::IocError;
@@ -100,7 +100,7 @@ fn do_alone<S: Store>(
             record,
             field,
             value,
-        } => put(store, frames, *record, *field, *value, tally),
+        } => put(store, frames, *record, *field, Given::Value(value), tally),
         Event::Complete {
             record,
             wait,
@@ -144,28 +144,28 @@ pub fn run_event<S: Store>(
     reply
 }
 
-/// Puts the value of a text into a field as [`Event::Put`] does, and returns the reply. The text
-/// is converted in place.
+/// Puts a value, or the one that a text spells, into a field as [`Event::Put`] does, and returns the
+/// reply.
 ///
 /// # Errors
 ///
 /// Those of [`Event::Put`]. Nothing has changed then.
-pub fn make_spelled_put<S: Store>(
+pub fn run_put<S: Store>(
     store: &mut S,
     frames: &mut Vec<Frame>,
     number: RecordNo,
     field: FieldNo,
-    text: &[u8],
+    given: Given<'_>,
     tally: &mut Tally,
 ) -> Reply
     requires { CanRun S.Record.rules (S.world store.old) frames.old }
     ensures step { HasStepped S.Record.rules (S.given store.new) (S.world store.old) (S.world store.new) result
-        tally.old tally.new (Put number field (input_of text.now)) }
+        tally.old tally.new (Put number field (input_given given.entry)) }
     ensures run { HasRun S.Record.rules S.Device.gives (S.world store.old) (S.world store.new) (S.given store.old) (S.given store.new)
         frames.old frames.new }
 {
     let asked = store.asked();
-    let reply = put_text(store, frames, number, field, text, tally);
+    let reply = put(store, frames, number, field, given, tally);
     end_event(store, frames, asked, reply.is_refused(), tally);
     reply
 }

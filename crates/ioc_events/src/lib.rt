@@ -15,6 +15,6 @@ pub mod reply;
 pub mod starting;
 
 pub use event::{Call, Entry, Event, EventEntry, KeptAnswers};
-pub use events::{make_spelled_put, run_event, run_get};
+pub use events::{run_event, run_get, run_put};
 pub use link_change::run_link;
 pub use reply::Reply;

@@ -40,6 +40,7 @@ with_tickets j tickets = journal_of j.filled j.dropped j.given j.limit j.desks t
 abbrev pub IsNoPlace : IocError → Type 0
 IsNoPlace error = (error ≡ JournalFull) ⊎ (error ≡ NoMemory)
 
--- The number of places that a journal may have, and that may be free when a checkpoint is made.
+-- The number of places that a journal may have, that may be free when a checkpoint is made, and of
+-- events that a set may keep.
 abbrev pub AreAllowed : Limits → Type 0
-AreAllowed limits = (1 ≤ limits.journal) × (limits.journal ≤ 4194304) × (limits.checkpoint_at ≤ limits.journal)
+AreAllowed limits = (1 ≤ limits.journal) × (limits.journal ≤ 4194304) × (limits.checkpoint_at ≤ limits.journal) × (1 ≤ limits.history) × (limits.history ≤ 64)

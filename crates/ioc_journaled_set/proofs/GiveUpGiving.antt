@@ -41,7 +41,7 @@ use Rattle.ioc_history.specs.Covering.{Holds}
 use Rattle.ioc_history.specs.Laws.{StaysSound, CancelIsHeld, BeginningIsHeld, HeldAlike}
 use Rattle.ioc_history.proofs.Placing.{live-once}
 use Rattle.ioc_set.specs.SetState.{SetState, now_of, folded, done_by, held_after}
-use Rattle.ioc_set.specs.Doing.{with_place}
+use Rattle.ioc_set.specs.Doing.{is_full, with_place}
 use Rattle.ioc_set.specs.Sound.{IsSound}
 use Rattle.ioc_journaled_set.specs.GiveUpLaws.{cancel_event, cancel_note, ShareNone, holders_in_all, GivesUp, IsHeldSoundly, SetsGiveUp, CancelGivesUp, CameToNothing}
 use Rattle.ioc_history.proofs.Summing.{point, of-number}
@@ -265,26 +265,26 @@ module _ {R : Type 0} (k : RecordRules R) where
         cancel-steps k (listed answers) (begun_at moment (now_of h)) number live
         (none-then k lawful number (begun_at moment (now_of h)) (begun-none k moment (now_of h) sound.none_ready) (begun-active k number moment (now_of h) (set-active lawful 0 0 moment number [] h sound)))
 
-    now-placed : (h : SetState R D) → now_of (with_place h) ≡ now_of h
-    now-placed h = elim (nat_eq (length h.history) 64) as (λ b. now_of (cond b (folded h) h) ≡ now_of h) [
+    now-placed : (most : ℕ) (h : SetState R D) → now_of (with_place most h) ≡ now_of h
+    now-placed most h = elim (is_full most (length h.history)) as (λ b. now_of (cond b (folded h) h) ≡ now_of h) [
       | true ↦ refl
       | false ↦ refl
     ]
 
-    tally-placed : (h : SetState R D) → (with_place h).tally ≡ h.tally
-    tally-placed h = elim (nat_eq (length h.history) 64) as (λ b. (cond b (folded h) h).tally ≡ h.tally) [
+    tally-placed : (most : ℕ) (h : SetState R D) → (with_place most h).tally ≡ h.tally
+    tally-placed most h = elim (is_full most (length h.history)) as (λ b. (cond b (folded h) h).tally ≡ h.tally) [
       | true ↦ refl
       | false ↦ refl
     ]
 
-    module _ (h after : SetState R D) (moment : ℕ) where
+    module _ (h after : SetState R D) (moment most : ℕ) where
       abbrev given : World R
       given = cancelled k number (begun_at moment (now_of h))
 
       gives : after.records ≡ given.records → after.waiting ≡ given.waiting → after.live ≡ given.live → get after.devices ≡ get h.devices → after.tally ≡ h.tally
-          → after ≡ held_after k (with_place h) (cancel_event moment number) after.devices → GivesUp k moment number h after
+          → after ≡ held_after k (with_place most h) (cancel_event moment number) after.devices → GivesUp k moment number h after
       unfolding begun begun_at cancelled
-      gives records waiting live devices tally told = record { records = records; waiting = waiting; live = live; devices = devices; tally = tally; told = told }
+      gives records waiting live devices tally told = record { records = records; waiting = waiting; live = live; devices = devices; tally = tally; most = most; told = told }
 
       nothing : (come_to : World R) → come_to.calls ≡ given.calls → come_to.outbox ≡ given.outbox → come_to.ended ≡ given.ended → CameToNothing come_to
       unfolding begun begun_at cancelled
@@ -306,28 +306,28 @@ module _ {R : Type 0} (k : RecordRules R) where
   cancel-gives-up {D} gives_answers lawful before after moment number reply come_to sound live does =
       let e = does.entry in
       let is = ap (λ (event : Event). stepped k (listed e.answers) (begun_at e.moment (now_of before)) event) does.event ∙ set-steps lawful number before e.moment e.answers sound live in
-      let placed = ap (λ (w : World R). done_by k w e) (now-placed lawful number before) ∙ is in
+      let placed = ap (λ (w : World R). done_by k w e) (now-placed lawful number does.most before) ∙ is in
       let plain = sym does.tells.reply ∙ ap (λ (s : Stepped R). s.reply) placed in
       let uncalled-here = no-calls lawful 0 0 e.moment number [] (now_of before) in
       let cancelled_alone : Stepped R = record { world = cancelled k number (begun_at e.moment (now_of before)); reply = Plain; requests = followed_by No_requests No_requests } in
       let counts : after.tally ≡ before.tally
       = ap (λ (h : SetState R D). h.tally) does.after
-      ∙ ap (λ (s : Stepped R). tallied (with_place before).tally (begun_at e.moment (now_of (with_place before))) e.event s) placed
-      ∙ ap (λ (w : World R). tallied (with_place before).tally (begun_at e.moment w) e.event cancelled_alone) (now-placed lawful number before)
-      ∙ ap (λ (v : Event). tallied (with_place before).tally (begun_at e.moment (now_of before)) v cancelled_alone) does.event
-      ∙ counts-none lawful 0 0 e.moment number [] (with_place before).tally (now_of before)
-      ∙ tally-placed lawful number before in
+      ∙ ap (λ (s : Stepped R). tallied (with_place does.most before).tally (begun_at e.moment (now_of (with_place does.most before))) e.event s) placed
+      ∙ ap (λ (w : World R). tallied (with_place does.most before).tally (begun_at e.moment w) e.event cancelled_alone) (now-placed lawful number does.most before)
+      ∙ ap (λ (v : Event). tallied (with_place does.most before).tally (begun_at e.moment (now_of before)) v cancelled_alone) does.event
+      ∙ counts-none lawful 0 0 e.moment number [] (with_place does.most before).tally (now_of before)
+      ∙ tally-placed lawful number does.most before in
       let silent = sym does.tells.answers ∙ ap (λ (s : Stepped R). answers_of s.world.calls) placed ∙ ap answers_of uncalled-here in
       record {
         answer = sym does.answer ∙ plain;
-        gives_up = subst (λ (m : ℕ). GivesUp k m number before after) does.moment (gives lawful number before after e.moment
+        gives_up = subst (λ (m : ℕ). GivesUp k m number before after) does.moment (gives lawful number before after e.moment does.most
             (ap (λ (h : SetState R D). h.records) does.after ∙ ap (λ (s : Stepped R). s.world.records) placed)
             (ap (λ (h : SetState R D). h.waiting) does.after ∙ ap (λ (s : Stepped R). s.world.waiting) placed)
             (ap (λ (h : SetState R D). h.live) does.after ∙ ap (λ (s : Stepped R). s.world.live) placed)
             (uncalled does.work (ap (λ (s : Stepped R). s.world.calls) is ∙ uncalled-here))
             counts
-            (does.after ∙ ap (λ (entry : EventEntry). held_after k (with_place before) entry after.devices) (entry-is e number does.event silent plain)));
-        nothing = nothing lawful number before after e.moment come_to
+            (does.after ∙ ap (λ (entry : EventEntry). held_after k (with_place does.most before) entry after.devices) (entry-is e number does.event silent plain)));
+        nothing = nothing lawful number before after e.moment does.most come_to
             (ap (λ (w : World R). w.calls) (does.left ∙ ap (λ (s : Stepped R). s.world) is))
             (ap (λ (w : World R). w.outbox) (does.left ∙ ap (λ (s : Stepped R). s.world) is))
             (ap (λ (w : World R). w.ended) (does.left ∙ ap (λ (s : Stepped R). s.world) is));

@@ -42,7 +42,7 @@ use Rattle.ioc_journaled_set.specs.CallLaws.{CallLaws}
 use Rattle.ioc_journaled_set.specs.Holding.{is_on_record, entry_of_event, IsOwner}
 use Rattle.ioc_journaled_set.specs.Puts.{told_at}
 use Rattle.ioc_set.specs.SetState.{SetState, NoneIsLive, now_of, folded, done_by, held_after}
-use Rattle.ioc_set.specs.Doing.{is_ordinary, with_place, Does}
+use Rattle.ioc_set.specs.Doing.{is_full, is_ordinary, with_place, Does}
 
 pub one_there : {X : Type 0} (x y : X) → Contains (x ∷ []) y → x ≡ y
 one_there x y (zero, lt, is) = is
@@ -163,8 +163,8 @@ module _ {R D : Type 0} (k : RecordRules R) (gives : D → Ask → ℕ → Answe
   abbrev after : World R
   after = (done_by k (now_of h) e).world
 
-  was_now : now_of (with_place h) ≡ now_of h
-  was_now = placed_now k (length h.history == 64) h
+  was_now : now_of (with_place does.most h) ≡ now_of h
+  was_now = placed_now k (is_full does.most (length h.history)) h
 
   used : answers_of after.calls ≡ e.answers
   used = subst (λ (w : World R). answers_of (done_by k w e).world.calls ≡ e.answers) was_now does.tells.answers
@@ -178,7 +178,7 @@ module _ {R D : Type 0} (k : RecordRules R) (gives : D → Ask → ℕ → Answe
       let told : e.answers ≡ answers = sym used ∙ ap (λ (w : World R). answers_of w.calls) (sym does.left) ∙ sym copied in
       λ i. record { moment = does.moment i; call = calling.Event (does.event i) (does.answer i); answers = told i }
 
-  now_then : now_of h' ≡ now_of (held_after k (with_place h) e h'.devices)
+  now_then : now_of h' ≡ now_of (held_after k (with_place does.most h) e h'.devices)
   now_then = ap (λ (z : SetState R D). now_of z) does.after
 
   pub records_then : (now_of h').records ≡ after.records
@@ -205,7 +205,7 @@ module _ {R D : Type 0} (k : RecordRules R) (gives : D → Ask → ℕ → Answe
   pub tally_then : h'.tally ≡ tallied h.tally (begun_at e.moment (now_of h)) e.event (done_by k (now_of h) e)
   tally_then =
       ap (λ (z : SetState R D). z.tally) does.after
-      ∙ ap (λ (t : Tally). tallied t (begun_at e.moment (now_of (with_place h))) e.event (done_by k (now_of (with_place h)) e)) (placed_tally k (length h.history == 64) h)
+      ∙ ap (λ (t : Tally). tallied t (begun_at e.moment (now_of (with_place does.most h))) e.event (done_by k (now_of (with_place does.most h)) e)) (placed_tally k (is_full does.most (length h.history)) h)
       ∙ ap (λ (w : World R). tallied h.tally (begun_at e.moment w) e.event (done_by k w e)) was_now
 
   -- If no put with notification is live before and after, no record is part of one.

@@ -62,7 +62,8 @@ module _ {R D : Type 0} (k : RecordRules R) where
     pub live : after.live ≡ (cancelled k number (now_of before)).live
     pub devices : get after.devices ≡ get before.devices
     pub tally : after.tally ≡ before.tally
-    pub told : after ≡ held_after k (with_place before) (cancel_event moment number) after.devices
+    pub most : ℕ
+    pub told : after ≡ held_after k (with_place most before) (cancel_event moment number) after.devices
 
   -- Holds if a set is sound and held, and these keys include those of its records.
   pub record IsHeldSoundly (m : World R) (keys : List Key) (h : SetState R D) : Type 0 where

@@ -1,5 +1,6 @@
 //! The output of a body: a value to a link or to a device, and the links that it follows.
 ghost use Rattle.std.specs.Prelude.{◌≡◌, ◌<◌, ◌-◌, ◌^◌, ℕ, List, Some, IsTrue, OnOk, OnErr, IfErr, Ok, Err};
+ghost use Rattle.ioc_record.specs.Given.{input_given, put_by};
 ghost use Rattle.ioc_record.specs.Values.{put_untested};
 ghost use Rattle.ioc_values.specs.declared.input.Input.TheVariants.{Value as InputValue};
 ghost use Rattle.ioc_device.specs.declared.Answer.{Answer};
@@ -17,7 +18,7 @@ use ioc_device::{Answer, Ask};
 use ioc_fields::{CommonField, FieldNo, FieldSlot, OwnField};
 use ioc_menus::{Severity, Status};
 use ioc_names::RecordNo;
-use ioc_record::{RecordKind, put_untested};
+use ioc_record::{Given, Putter, RecordKind, put_by};
 use ioc_store::store::Store;
 use ioc_values::{Input, IocError, Value};
 
@@ -76,23 +77,31 @@ pub fn passive_target<S: Store>(store: &S, link: LinkUse) -> Option<RecordNo>
     None
 }
 
-// Puts a value into a field of a record that exists, without a check of DISP.
-fn put_through<S: Store>(
+/// Puts a value into a field of a record that exists, as a client or as a link does.
+///
+/// # Errors
+///
+/// Those of [`put_by`]. Nothing has changed then.
+#[inline(always)]
+pub fn put_into<S: Store>(
     store: &mut S,
     number: RecordNo,
     field: FieldNo,
-    given: Input,
+    given: Given<'_>,
+    by: Putter,
 ) -> Result<(), IocError>
     requires { Has (S.world store.old) number }
-    ensures ok { OnOk result (put_untested S.Record.rules (at S.Record.rules (S.world store.old) number) field given
+    ensures ok { OnOk result (put_by S.Record.rules by (at S.Record.rules (S.world store.old) number) field (input_given given.entry)
         ≡ Ok (at S.Record.rules (S.world store.new) number)) }
     ensures stored { OnOk result (S.world store.new ≡ put (S.world store.old) number (at S.Record.rules (S.world store.new) number)) }
-    ensures err { IfErr result (λ e. put_untested S.Record.rules (at S.Record.rules (S.world store.old) number) field given ≡ Err e) }
+    ensures err { IfErr result (λ e. put_by S.Record.rules by (at S.Record.rules (S.world store.old) number) field
+        (input_given given.entry)
+        ≡ Err e) }
     ensures same { OnErr result (S.world store.new ≡ S.world store.old) }
     ensures given { S.given store.new ≡ S.given store.old }
 {
     let record = store.record_mut(number);
-    put_untested(record, field, given)
+    put_by(record, field, given, by)
 }
 
 // Puts a value into the field that a link names, and returns whether it fits.
@@ -105,7 +114,8 @@ fn place_value<S: Store>(store: &mut S, target: StandingLink, value: Value) -> b
     ensures given { S.given store.new ≡ S.given store.old }
 {
     let StandingLink { number, field, .. } = target;
-    match put_through(store, number, field, Input::Value(value)) {
+    let given = Input::Value(value);
+    match put_into(store, number, field, Given::Value(&given), Putter::Link) {
         Ok(()) => {
             rescan(store, number, field);
             true

@@ -43,7 +43,7 @@ module _ {R D : Type 0} (k : RecordRules R) (gives : D → Ask → ℕ → Answe
       let answers = listed e.answers in
       let w = begun_at e.moment (now_of h) in
       let done = done_by k (now_of h) e in
-      let same : now_of (with_place h) ≡ now_of h = now_kept h (with_place h) refl in
+      let same : now_of (with_place does.most h) ≡ now_of h = now_kept does.most h (with_place does.most h) refl in
       let replied = subst (λ (v : World R). (done_by k v e).reply ≡ e.reply) same does.tells.reply in
       let used = subst (λ (v : World R). answers_of (done_by k v e).world.calls ≡ e.answers) same does.tells.answers in
       let ours : is_ordinary e.event ≡ true = ap is_ordinary does.event ∙ ordinary in

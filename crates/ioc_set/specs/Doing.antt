@@ -2,7 +2,7 @@
 --
 -- Application Developer's Guide, "Runtime Database Access": dbGetField, dbPutField, dbProcess,
 -- dbPutNotify, dbNotifyCancel.
-use Rattle.std.specs.Prelude.{◌≡◌, ◌==◌, ℕ, Bool, true, false, if◌then◌else◌, List, length}
+use Rattle.std.specs.Prelude.{◌≡◌, ◌==◌, ◌≤◌, ◌⊎◌, ◌||◌, ℕ, Bool, true, false, not, nat_lt, if◌then◌else◌, List, length}
 use Rattle.std.specs.FinMap.{get}
 use Rattle.ioc_device.specs.declared.Ask.{Ask}
 use Rattle.ioc_device.specs.declared.Answer.{Answer}
@@ -44,10 +44,17 @@ held_by c puts before counts entries = record {
   history = entries;
 }
 
--- The set with a place for one more event in its history, which is cleared first if it has 64
--- entries.
-abbrev pub with_place : {R D : Type 0} → SetState R D → SetState R D
-with_place h = if length h.history == 64 then folded h else h
+-- A history that keeps this many entries at most is full, which one with 64 entries always is.
+abbrev pub is_full : ℕ → ℕ → Bool
+is_full most count = count == 64 || not (nat_lt count most)
+
+-- The set with a place for one more event in its history, which is cleared first if it is full.
+abbrev pub with_place : {R D : Type 0} → ℕ → SetState R D → SetState R D
+with_place most h = if is_full most (length h.history) then folded h else h
+
+-- A history has at most this many entries, or one.
+abbrev pub IsShort : {R D : Type 0} → ℕ → SetState R D → Type 0
+IsShort most h = (length h.history ≤ most) ⊎ (length h.history ≤ 1)
 
 -- The state of an event with these records.
 abbrev pub with_records : {R : Type 0} → Records R → World R → World R
@@ -60,15 +67,17 @@ with_kept rs live waiting w = record w { records = rs; live = live; waiting = wa
 
 module _ {R D : Type 0} (k : RecordRules R) (gives : D → Ask → ℕ → Answer → D → Type 0) where
   -- An event with this time stamp is done on a set and appended to its history: the set afterwards,
-  -- the reply, and the state of the event beside what the set keeps. Each device that was called
+  -- the reply, and the state of the event beside what the set keeps. The history keeps at most
+  -- `most` entries. Each device that was called
   -- gave its answer by its own relation, in the order of the calls.
   pub record Does (held : SetState R D) (at_moment : ℕ) (done : Event) (reply : Reply) (held_then : SetState R D) (come_to : World R) : Type 0 where
+    pub most : ℕ
     pub entry : EventEntry
     pub moment : entry.moment ≡ at_moment
     pub event : entry.event ≡ done
     pub answer : entry.reply ≡ reply
-    pub tells : TellsOf k (with_place held) entry
-    pub after : held_then ≡ held_after k (with_place held) entry held_then.devices
+    pub tells : TellsOf k (with_place most held) entry
+    pub after : held_then ≡ held_after k (with_place most held) entry held_then.devices
     pub work : DevicesWork gives (get held.devices) at_moment (done_by k (now_of held) entry).world.calls (get held_then.devices)
     pub left : with_kept held_then.records held_then.live held_then.waiting come_to ≡ (done_by k (now_of held) entry).world
 

@@ -1,8 +1,8 @@
 //! Events on a lock set, except link changes.
-ghost use Rattle.std.specs.Prelude.{◌≡◌, ◌<◌, ◌≤◌, ◌+◌, length, IfOk, OnOk, OnErr, vec_len, vec_capacity};
+ghost use Rattle.std.specs.Prelude.{◌≡◌, ◌<◌, ◌≤◌, ◌+◌, ◌⊎◌, [], length, IfOk, OnOk, OnErr, vec_len, vec_capacity};
 ghost use Rattle.ioc_set_records.specs.Contents.{RecordsAreLikeTheirBase};
 ghost use Rattle.ioc_set.specs.SetStore.{world_of};
-ghost use Rattle.ioc_set.specs.Doing.{Does, held_by, with_place};
+ghost use Rattle.ioc_set.specs.Doing.{Does, IsShort, held_by, is_full, with_place};
 
 use crate::event_buffers::EventBuffers;
 use crate::laws::{events_leave_sound, held_records_are_sound};
@@ -17,6 +17,14 @@ use ioc_record::RecordKind;
 use ioc_set_records::Members;
 use std::alloc::{AllocError, Global};
 
+// Returns whether a history with this many entries is full. It keeps at most `most`, and 64.
+#[tactic(auto, unfolding(crate::specs::Doing::is_full))]
+fn is_full(most: usize, count: usize) -> bool
+    ensures { result ≡ is_full most count }
+{
+    count == 64 || count >= most
+}
+
 // Makes a place for one more event in the history, which is cleared first if it is full.
 #[inline(always)]
 fn make_place<K: RecordKind, D>(
@@ -25,27 +33,29 @@ fn make_place<K: RecordKind, D>(
     tally: &Tally,
     base_tally: &mut Tally,
     history: &mut Vec<EventEntry>,
+    most: usize,
 ) -> Result<(), AllocError>
     requires like { RecordsAreLikeTheirBase K.rules members.old }
     requires fits { length puts.old.waiting ≤ 256 }
     ensures held { OnOk result (held_by members.new puts.new base_tally.new tally.now history.new.items
-        ≡ with_place (held_by members.old puts.old base_tally.old tally.now history.old.items)) }
+        ≡ with_place most (held_by members.old puts.old base_tally.old tally.now history.old.items)) }
     ensures puts { OnOk result (puts.new.has_room ≡ puts.old.has_room) }
     ensures like { RecordsAreLikeTheirBase K.rules members.new }
     ensures room { OnOk result (vec_len history.new < vec_capacity history.new) }
+    ensures few { OnOk result ((length history.new.items < most) ⊎ (history.new.items ≡ [])) }
     ensures err { OnErr result ((members.new ≡ members.old) × (puts.new ≡ puts.old) × (base_tally.new ≡ base_tally.old)
         × (history.new.items ≡ history.old.items)) }
 {
     history.reserve(1)?;
-    if history.len() == 64 {
+    if is_full(most, history.len()) {
         clear_history(members, puts, tally, base_tally, history);
     }
     Ok(())
 }
 
 impl<K: RecordKind + Drop, D: Device> LockSet<K, D> {
-    /// Does an event on the set, and appends it to the history; if that has 64 entries, it is
-    /// cleared first. A put with notification passes to the records that are processed for it, and a
+    /// Does an event on the set, and appends it to the history; if that has as many entries as the
+    /// buffers allow, it is cleared first. A put with notification passes to the records that are processed for it, and a
     /// cancel takes it from the records of the set; those that end on the set by an event are in the
     /// store of the buffers.
     ///
@@ -63,6 +73,7 @@ impl<K: RecordKind + Drop, D: Device> LockSet<K, D> {
     ) -> Result<Reply, AllocError>
         ensures ok { IfOk result (λ told. Does K.rules D.gives self.old moment event.now told self.new
             (world_of buffers.new.store)) }
+        ensures short { OnOk result (IsShort buffers.old.history self.new) }
         ensures err { OnErr result (self.new ≡ self.old) }
     {
         events_leave_sound::<K, D>();
@@ -76,6 +87,7 @@ impl<K: RecordKind + Drop, D: Device> LockSet<K, D> {
             &self.tally,
             &mut self.base_tally,
             &mut self.history,
+            buffers.history,
         )?;
         let kept = run_set_event(
             buffers,

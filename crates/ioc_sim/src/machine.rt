@@ -21,12 +21,13 @@ use crate::scripted::Scripted;
 use crate::settled::{event_leaves_settled, link_change_keeps};
 use ioc_dbcommon::{LinkBox, LinkField};
 use ioc_dbfile::{Owners, owners_of, owns_device};
-use ioc_events::{Event, Reply, make_spelled_put, run_event, run_link};
+use ioc_events::{Event, Reply, run_event, run_link, run_put};
 use ioc_fields::FieldNo;
 use ioc_ledger::Tally;
 use ioc_links::Link;
 use ioc_names::{Names, RecordNo};
 use ioc_notify::NotifyId;
+use ioc_record::Given;
 use ioc_scanner::first_lists::{first_lists, starters};
 use ioc_scanner::places::Occasion;
 use ioc_store::{EventStore, Frame, OneMap};
@@ -201,7 +202,14 @@ impl Machine {
     {
         let map = &mut self.map;
         begin_event(map);
-        make_spelled_put(map, &mut self.frames, number, field, text, &mut self.tally)
+        run_put(
+            map,
+            &mut self.frames,
+            number,
+            field,
+            Given::Text(text),
+            &mut self.tally,
+        )
     }
 
     // Does an event, without taking what it sends. It is inlined, so that each caller knows the kind

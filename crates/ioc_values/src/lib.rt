@@ -8,6 +8,7 @@ pub mod input;
 pub mod kind;
 pub mod number;
 pub mod short;
+mod shown;
 pub mod trim;
 pub mod value;
 

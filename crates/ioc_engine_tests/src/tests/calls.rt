@@ -100,6 +100,7 @@ fn limited(journal: u64) -> Limits {
     Limits {
         journal,
         checkpoint_at: 0,
+        history: 1,
     }
 }
 
@@ -545,6 +546,7 @@ fn is_without_end<R: Threads + Wait + Sync>(rt: &R, alloc: Global) -> Result<boo
     let limits = Limits {
         journal: 10,
         checkpoint_at: 1,
+        history: 64,
     };
     let none = Vec::new(alloc);
     let ended = run_text(rt, alloc, text, none, limits, Work::Steps(&steps));
@@ -625,6 +627,7 @@ fn do_tickets_add_up<R: Threads + Wait + Sync>(rt: &R, alloc: Global) -> Result<
     let limits = Limits {
         journal: 16,
         checkpoint_at: 8,
+        history: 2,
     };
     let Some(end) = run_text(rt, alloc, text.as_bytes(), none, limits, Work::Pushers) else {
         return Ok(false);

@@ -8,7 +8,8 @@ use ioc_fields::{CommonField, FieldNo, OwnField, field};
 use ioc_links::Mode;
 use ioc_names::RecordNo;
 use ioc_record::{
-    Record, RecordBody, RecordKind, put_field, put_untested, read_as, set_field, test_put, text_of,
+    Given, Record, RecordBody, RecordKind, put_field, put_untested, read_as, set_field, test_put,
+    text_of,
 };
 use ioc_values::{Finished, Input, IocError, Name, Range, Text, Value};
 use std::alloc::Global;
@@ -261,7 +262,7 @@ fn field_holds<K: RecordKind>(
 fn put_by_client<K: RecordKind>(
     item: &mut K,
     field: FieldNo,
-    given: Input,
+    given: Given<'_>,
 ) -> Result<(), IocError> {
     put_field(item, field, given)
 }
@@ -269,17 +270,19 @@ fn put_by_client<K: RecordKind>(
 // Carries out a step that puts a field, or tests whether a client may.
 fn is_put<K: RecordKind>(item: &mut K, field: FieldNo, step: &Step<'_>) -> bool {
     match step {
-        Step::Put(_, text) => {
-            put_by_client(item, field, Input::from_text(text.as_bytes())).is_ok()
-        }
+        Step::Put(_, text) => put_by_client(item, field, Given::Text(text.as_bytes())).is_ok(),
         Step::PutRefused(_, text, fault) => {
-            put_by_client(item, field, Input::from_text(text.as_bytes())) == Err(*fault)
+            let given = Input::from_text(text.as_bytes());
+            put_by_client(item, field, Given::Value(&given)) == Err(*fault)
+                && put_by_client(item, field, Given::Text(text.as_bytes())) == Err(*fault)
         }
         Step::PutByLink(_, text) => {
-            put_untested(item, field, Input::from_text(text.as_bytes())).is_ok()
+            let given = Input::from_text(text.as_bytes());
+            put_untested(item, field, Given::Value(&given)).is_ok()
         }
         Step::PutNumber(_, number) => {
-            put_by_client(item, field, Input::Value(Value::Long(*number))).is_ok()
+            let given = Input::Value(Value::Long(*number));
+            put_by_client(item, field, Given::Value(&given)).is_ok()
         }
         Step::MayPut(_, fault) => test_put(item, field).err() == *fault,
         _ => false,

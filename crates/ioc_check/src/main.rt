@@ -1,0 +1,115 @@
+//! `ioc-check DB.. [NAME=VALUE]..`: reads a site's database files, and reports every mistake in
+//! them and what in them is worth a look.
+#![tactic(auto)]
+
+mod command;
+mod disk;
+mod left_out;
+mod printing;
+#[cfg(test)]
+mod tests;
+mod writing;
+
+use crate::command::{PROGRAM, Words};
+use crate::disk::Disk;
+use crate::printing::{Counts, add_findings};
+use crate::writing::{database_of, prepared, refuse_overwriting, save};
+use ioc_program::{Ending, Reason, Stop, Stream, given, show};
+use ioc_site::Reading;
+use ioc_site_reader::{Request, Sources, read_files};
+use ioc_site_rules::{add_picture, add_sets, check, put_in_order};
+use std::alloc::{AllocError, Global};
+use std::env;
+use std::io::{self, Write};
+use std::process::ExitCode;
+
+/// What a run prints.
+#[derive(Drop)]
+struct Printed {
+    output: Vec<u8>,
+    errors: Vec<u8>,
+    counts: Counts,
+    /// The text of all records, if it is to be written.
+    database: Option<Vec<u8>>,
+}
+
+// Returns what the reading shows of itself: lock sets and a picture, as the words ask for.
+fn shown(alloc: Global, words: &Words<'_>, reading: &Reading) -> Result<Vec<u8>, AllocError> {
+    let mut out = Vec::new(alloc);
+    if words.sets {
+        add_sets(alloc, reading, &mut out)?;
+    }
+    if words.dot {
+        let mut text = String::new(alloc);
+        add_picture(alloc, reading, &mut text)?;
+        out.extend_from_slice(text.as_bytes())?;
+    }
+    Ok(out)
+}
+
+// Reads and checks the files that the words name.
+fn examine<S: Sources>(alloc: Global, words: &Words<'_>, sources: &mut S) -> Result<Printed, Stop> {
+    let request = Request {
+        paths: words.paths.as_slice(),
+        macros: words.definitions.as_slice(),
+        folders: words.folders.as_slice(),
+    };
+    let reading = read_files(alloc, sources, request)?;
+    refuse_overwriting(alloc, words, reading.files.as_slice())?;
+    let reading = prepared(alloc, words, reading)?;
+    let mut checked = check(alloc, &reading)?;
+    let output = shown(alloc, words, &reading)?;
+    let Reading {
+        files,
+        statements,
+        findings: mut all,
+    } = reading;
+    all.append(&mut checked).map_err(AllocError::from)?;
+    let database = database_of(alloc, words, statements.as_slice(), &mut all)?;
+    put_in_order(alloc, &mut all)?;
+    let mut lines = Vec::new(alloc);
+    add_findings(alloc, files.as_slice(), all.as_slice(), &mut lines)?;
+    let counts = Counts::of(all.as_slice());
+    let is_shown = words.sets || words.dot;
+    let (output, errors) = if is_shown {
+        (output, lines)
+    } else {
+        (lines, output)
+    };
+    Ok(Printed {
+        output,
+        errors,
+        counts,
+        database,
+    })
+}
+
+// Does what the words of the command line ask for, and returns how the program ends.
+fn work(rt: &HostRuntime) -> Result<Ending, Stop> {
+    let alloc = rt.alloc();
+    let all = given(alloc, env::args(rt))?;
+    let words = Words::from_words(alloc, all.as_slice())?;
+    let mut printed = examine(alloc, &words, &mut Disk(rt))?;
+    if let Err(e) = io::writer(rt).write_all(printed.output.as_slice()) {
+        return Err(Stop::Write(Reason::of(&e)));
+    }
+    if let (Some(path), Some(text)) = (words.output, &printed.database) {
+        save(rt, path, text.as_slice())?;
+    }
+    let line = printed.counts.line(alloc)?;
+    printed.errors.extend_from_slice(line.as_bytes())?;
+    let text = String::from_utf8_lossy(alloc, printed.errors.as_slice())?;
+    Ok(Ending {
+        program: PROGRAM.name,
+        status: printed.counts.status(),
+        stream: Stream::Error,
+        told: Some(Stop::Refused(text)),
+    })
+}
+
+fn main(rt: HostRuntime) -> ExitCode {
+    match work(&rt) {
+        Ok(ending) => show(&rt, &ending),
+        Err(stop) => show(&rt, &Ending::of(PROGRAM.name, Err(stop))),
+    }
+}

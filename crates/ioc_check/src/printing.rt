@@ -1,0 +1,97 @@
+//! What the program prints of its findings.
+ghost use Rattle.std.specs.Prelude.{◌≡◌, ◌+◌, ◌<◌, ◌↔◌, count_by, length};
+ghost use Rattle.ioc_check.specs.Counting.{is_error};
+
+use ioc_site::{Finding, Severity};
+use std::alloc::{AllocError, Global};
+use std::fmt::Write;
+
+/// How many mistakes there are, and how many findings that are worth a look.
+#[derive(Clone, Copy, PartialEq, Eq, Debug)]
+pub struct Counts {
+    pub errors: usize,
+    pub warnings: usize,
+}
+
+// Returns whether the finding is a mistake.
+fn is_error(finding: &Finding) -> bool
+    ensures { result ≡ is_error finding.now }
+{
+    match finding.severity {
+        Severity::Error => true,
+        Severity::Warning => false,
+    }
+}
+
+impl Counts {
+    /// Counts the findings.
+    pub fn of(findings: &[Finding]) -> Self
+        ensures errors { result.errors ≡ count_by is_error findings.now }
+        ensures all { result.errors + result.warnings ≡ length findings.now }
+    {
+        let errors = findings.iter().filter(|finding| is_error(finding)).count();
+        Counts {
+            errors,
+            warnings: findings.len() - errors,
+        }
+    }
+
+    /// Returns the exit status: 1 if there is a mistake, and else 0.
+    pub fn status(&self) -> u8
+        ensures sound { (result ≡ 0) ↔ (self.now.errors ≡ 0) }
+        ensures below { result < 2 }
+    {
+        u8::from(self.errors > 0)
+    }
+
+    /// Returns the counts as the last line that is printed, as `1 error, 2 warnings`.
+    ///
+    /// # Errors
+    ///
+    /// [`AllocError`] if allocation fails.
+    pub fn line(&self, alloc: Global) -> Result<String, AllocError> {
+        let Counts { errors, warnings } = *self;
+        let error = if errors == 1 { "error" } else { "errors" };
+        let warning = if warnings == 1 { "warning" } else { "warnings" };
+        format!(in alloc; "{errors} {error}, {warnings} {warning}\n")
+    }
+}
+
+// Appends the place of a finding and how bad it is.
+fn add_head(
+    alloc: Global,
+    files: &[Vec<u8>],
+    finding: &Finding,
+    out: &mut Vec<u8>,
+) -> Result<(), AllocError> {
+    if let Some(file) = files.get(finding.place.file as usize) {
+        out.extend_from_slice(file.as_slice())?;
+    }
+    let (line, column) = (finding.place.line, finding.place.column);
+    let severity = match finding.severity {
+        Severity::Error => "error",
+        Severity::Warning => "warning",
+    };
+    let mut text = String::new(alloc);
+    write!(text, ":{line}:{column}: {severity}: ")?;
+    out.extend_from_slice(text.as_bytes())
+}
+
+/// Appends a line for each finding.
+///
+/// # Errors
+///
+/// [`AllocError`] if allocation fails.
+pub fn add_findings(
+    alloc: Global,
+    files: &[Vec<u8>],
+    findings: &[Finding],
+    out: &mut Vec<u8>,
+) -> Result<(), AllocError> {
+    for finding in findings {
+        add_head(alloc, files, finding, out)?;
+        out.extend_from_slice(finding.text.as_slice())?;
+        out.push(b'\n')?;
+    }
+    Ok(())
+}

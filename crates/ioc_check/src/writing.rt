@@ -1,0 +1,97 @@
+//! The text of all records that is written to a file.
+use crate::command::{PROGRAM, Words};
+use crate::left_out::{Kept, leave_out};
+use crate::printing::Counts;
+use ioc_program::{FileRole, Reason, Stop, is_out_of_memory};
+use ioc_site::{Finding, Reading, Statement};
+use ioc_site_writer::{Written, write_database};
+use ioc_values::LoadError;
+use std::alloc::{Alloc, AllocError, Global};
+use std::fs::{self, Files};
+
+/// Refuses to write to one of the files that were read.
+///
+/// # Errors
+///
+/// [`Stop::Refused`] if it is one. [`Stop::Memory`] if allocation fails.
+pub fn refuse_overwriting(alloc: Global, words: &Words<'_>, files: &[Vec<u8>]) -> Result<(), Stop> {
+    let Some(path) = words.output else {
+        return Ok(());
+    };
+    if files.iter().any(|file| file.as_slice() == path.as_bytes()) {
+        let name = PROGRAM.name;
+        let text = format!(in alloc; "{name}: --write would overwrite '{path}', which is read\n")?;
+        return Err(Stop::Refused(text));
+    }
+    Ok(())
+}
+
+/// Returns what is checked of a reading: all of it, or, if it is to be written, what is left when
+/// that is left out which EPICS has and this project doesn't.
+///
+/// # Errors
+///
+/// [`AllocError`] if allocation fails.
+pub fn prepared(alloc: Global, words: &Words<'_>, reading: Reading) -> Result<Reading, AllocError> {
+    if words.output.is_none() {
+        return Ok(reading);
+    }
+    let Reading {
+        files,
+        statements,
+        mut findings,
+    } = reading;
+    let Kept {
+        statements,
+        mut dropped,
+    } = leave_out(alloc, statements, words.left_out_types)?;
+    findings.append(&mut dropped).map_err(AllocError::from)?;
+    Ok(Reading {
+        files,
+        statements,
+        findings,
+    })
+}
+
+/// Returns the text of all records, if it is to be written and there is no error. Adds warnings of
+/// what is left out of it.
+///
+/// # Errors
+///
+/// [`Stop::BadDb`] if the text is too long. [`Stop::Memory`] if allocation fails.
+pub fn database_of(
+    alloc: Global,
+    words: &Words<'_>,
+    statements: &[Statement],
+    findings: &mut Vec<Finding>,
+) -> Result<Option<Vec<u8>>, Stop> {
+    if words.output.is_none() || Counts::of(findings.as_slice()).errors > 0 {
+        return Ok(None);
+    }
+    match write_database(alloc, statements) {
+        Ok(written) => {
+            let Written { text, mut dropped } = written;
+            findings.append(&mut dropped).map_err(AllocError::from)?;
+            Ok(Some(text))
+        }
+        Err(LoadError::BadDb(fault)) => Err(Stop::BadDb(fault)),
+        Err(LoadError::NoMemory) => Err(Stop::from(AllocError)),
+    }
+}
+
+/// Writes a text to a file.
+///
+/// # Errors
+///
+/// [`Stop::Unwritable`] if the file can't be created or written. [`Stop::Memory`] if allocation
+/// fails.
+pub fn save<R: Files + Alloc<A = Global>>(rt: &R, path: &str, text: &[u8]) -> Result<(), Stop> {
+    match fs::write(rt, path, text) {
+        Ok(()) => Ok(()),
+        Err(e) if is_out_of_memory(&e) => Err(Stop::from(AllocError)),
+        Err(e) => {
+            let path = String::from_str(rt.alloc(), path)?;
+            Err(Stop::Unwritable(FileRole::Database, path, Reason::of(&e)))
+        }
+    }
+}

@@ -1,0 +1,256 @@
+//! Why a line is bad or refused.
+use crate::bad_line::BadLine;
+use crate::directory::{Directory, Listed, field_of, nearest_field};
+use crate::kinds::Taken;
+use crate::layout::LayoutFault;
+use crate::quoted::{Quoted, Shown};
+use ioc_fields::{FieldKind, RecordType, kind_of};
+use ioc_main::{Command, cut_at};
+use ioc_values::IocError;
+use std::fmt;
+
+/// Why a line is bad or refused.
+#[derive(Clone, Copy)]
+pub enum Explanation<'a> {
+    Bad(BadLine<'a>),
+    Layout(LayoutFault<'a>),
+    /// There is no record of the first name. The second may have been meant.
+    NoRecord(Quoted<'a>, Option<&'a [u8]>),
+    /// Records of this type have no field of the first name. The second may have been meant.
+    NoField(RecordType, Quoted<'a>, Option<&'a [u8]>),
+    /// This field is no link.
+    NoLink(Subject<'a>),
+    /// The link of this text leads to no field of a record.
+    LeadsNowhere(Quoted<'a>),
+    /// The record with this name owns no device.
+    NoDevice(Quoted<'a>),
+    /// This field can't be put.
+    NotPut(Subject<'a>),
+    /// This field is a link.
+    LinkField(Subject<'a>),
+    /// The field DISP of the record with this name isn't 0.
+    PutDisabled(Shown<'a>),
+    /// This text doesn't fit this field, which takes this.
+    BadValue(Quoted<'a>, Subject<'a>, Taken),
+    /// This text is no link.
+    BadLink(Quoted<'a>),
+    /// The record with this name doesn't wait under this number.
+    NotAwaited(Quoted<'a>, u64),
+    /// No put with notification is live under this number.
+    NotLive(u64),
+    /// All numbers of puts with notification are live.
+    TooManyLive,
+}
+
+/// The record and the field that a line names, and its text. The field and the text are empty if
+/// the line has none.
+#[derive(Clone, Copy)]
+pub struct Subject<'a> {
+    pub record: &'a [u8],
+    pub field: &'a [u8],
+    pub text: &'a [u8],
+}
+
+/// The name of the field, as `REC.F`.
+impl fmt::Display for Subject<'_> {
+    fn fmt<W: fmt::Write>(&self, f: &mut fmt::Formatter<W>) -> fmt::Result {
+        write!(f, "{}.{}", Shown(self.record), Shown(self.field))
+    }
+}
+
+impl<'a> Subject<'a> {
+    // A record alone.
+    fn record(record: &'a [u8]) -> Self {
+        Subject {
+            record,
+            field: b"",
+            text: b"",
+        }
+    }
+
+    // What a command names, if it names a record.
+    fn of(command: &Command<'a>) -> Option<Self> {
+        match *command {
+            Command::Put(record, field, text)
+            | Command::Notify(record, field, text)
+            | Command::Link(record, field, text) => Some(Subject {
+                record,
+                field,
+                text,
+            }),
+            Command::Get(record, field) => Some(Subject {
+                field,
+                ..Subject::record(record)
+            }),
+            Command::Process(record)
+            | Command::NextDone(record, _)
+            | Command::NextFault(record)
+            | Command::NextLater(record)
+            | Command::Done(record, _, _)
+            | Command::Fault(record, _) => Some(Subject::record(record)),
+            _ => None,
+        }
+    }
+}
+
+// The refusals of a script.
+static REFUSALS: [IocError; 8] = [
+    IocError::NoRecord,
+    IocError::NoField,
+    IocError::NoMod,
+    IocError::PutDisabled,
+    IocError::BadValue,
+    IocError::BadLink,
+    IocError::Stale,
+    IocError::QueueFull,
+];
+
+// Returns the refusal that a reply tells.
+fn refusal_in(reply: &[u8]) -> Option<IocError> {
+    REFUSALS
+        .iter()
+        .copied()
+        .find(|refused| refused.words().as_bytes() == reply)
+}
+
+// Why a line has E1. The link that is given to a record may lead to another that there isn't.
+fn no_record<'a>(directory: &'a Directory, subject: &Subject<'a>) -> Explanation<'a> {
+    if directory.find(subject.record).is_none() {
+        return Explanation::NoRecord(Quoted(subject.record), directory.nearest(subject.record));
+    }
+    let word = cut_at(subject.text.trim_ascii(), b' ').0;
+    let target = cut_at(word, b'.').0;
+    if directory.find(target).is_some() {
+        return Explanation::LeadsNowhere(Quoted(subject.text));
+    }
+    Explanation::NoRecord(Quoted(target), directory.nearest(target))
+}
+
+// Why a line has E2.
+fn no_field<'a>(listed: &Listed, subject: &Subject<'a>) -> Explanation<'a> {
+    if subject.field.is_empty() {
+        return Explanation::NoDevice(Quoted(subject.record));
+    }
+    match field_of(listed, subject.field) {
+        Some(_) => Explanation::NoLink(*subject),
+        None => {
+            let meant = nearest_field(listed.record_type, subject.field);
+            Explanation::NoField(listed.record_type, Quoted(subject.field), meant)
+        }
+    }
+}
+
+// Returns what the field of a line takes.
+fn kind_in(listed: &Listed, subject: &Subject<'_>) -> Option<FieldKind> {
+    kind_of(listed.record_type, field_of(listed, subject.field)?)
+}
+
+// Why a line has E3.
+fn no_mod<'a>(listed: &Listed, subject: &Subject<'a>) -> Explanation<'a> {
+    match kind_in(listed, subject) {
+        Some(FieldKind::Link(_)) => Explanation::LinkField(*subject),
+        _ => Explanation::NotPut(*subject),
+    }
+}
+
+// Why a line that names a record has this refusal.
+fn by_subject<'a>(
+    directory: &'a Directory,
+    refused: IocError,
+    subject: &Subject<'a>,
+) -> Option<Explanation<'a>> {
+    if let IocError::NoRecord = refused {
+        return Some(no_record(directory, subject));
+    }
+    let listed = directory.find(subject.record)?;
+    match refused {
+        IocError::NoField => Some(no_field(listed, subject)),
+        IocError::NoMod => Some(no_mod(listed, subject)),
+        IocError::PutDisabled => Some(Explanation::PutDisabled(Shown(subject.record))),
+        IocError::BadValue => {
+            let taken = Taken(kind_in(listed, subject)?);
+            Some(Explanation::BadValue(Quoted(subject.text), *subject, taken))
+        }
+        IocError::BadLink => Some(Explanation::BadLink(Quoted(subject.text))),
+        _ => None,
+    }
+}
+
+// Why the command of a line has this refusal.
+fn by_command<'a>(
+    directory: &'a Directory,
+    refused: IocError,
+    command: &Command<'a>,
+) -> Option<Explanation<'a>> {
+    match (refused, *command) {
+        (IocError::QueueFull, _) => Some(Explanation::TooManyLive),
+        (IocError::Stale, Command::Cancel(number)) => Some(Explanation::NotLive(number)),
+        (IocError::Stale, Command::Done(record, wait, _) | Command::Fault(record, wait)) => {
+            Some(Explanation::NotAwaited(Quoted(record), wait))
+        }
+        _ => by_subject(directory, refused, &Subject::of(command)?),
+    }
+}
+
+impl<'a> Explanation<'a> {
+    /// Returns why a line has this reply, if it is bad or refused. The reply comes without its line
+    /// feed.
+    pub fn of(directory: &'a Directory, line: &'a [u8], reply: &[u8]) -> Option<Self> {
+        if reply == b"bad".as_slice() {
+            return Some(Explanation::Bad(BadLine::of(line)));
+        }
+        let refused = refusal_in(reply)?;
+        match LayoutFault::of(line) {
+            Some(fault) => Some(Explanation::Layout(fault)),
+            None => by_command(directory, refused, &Command::from_line(line)),
+        }
+    }
+}
+
+// Writes the name that may have been meant.
+fn write_meant<W: fmt::Write>(f: &mut fmt::Formatter<W>, meant: Option<&[u8]>) -> fmt::Result {
+    match meant {
+        Some(name) => write!(f, "; did you mean {}?", Quoted(name)),
+        None => Ok(()),
+    }
+}
+
+impl fmt::Display for Explanation<'_> {
+    fn fmt<W: fmt::Write>(&self, f: &mut fmt::Formatter<W>) -> fmt::Result {
+        match self {
+            Explanation::Bad(fault) => fault.fmt(f),
+            Explanation::Layout(fault) => fault.fmt(f),
+            Explanation::NoRecord(name, meant) => {
+                write!(f, "E1: no record {name}")?;
+                write_meant(f, *meant)
+            }
+            Explanation::LeadsNowhere(link) => write!(f, "E1: the link {link} leads to no field"),
+            Explanation::NoField(record_type, name, meant) => {
+                write!(f, "E2: the type {} has no field {name}", record_type.name())?;
+                write_meant(f, *meant)
+            }
+            Explanation::NoLink(field) => write!(f, "E2: {field} is no link"),
+            Explanation::NoDevice(name) => write!(f, "E2: {name} owns no device"),
+            Explanation::NotPut(field) => write!(f, "E3: {field} can't be put"),
+            Explanation::LinkField(field) => {
+                write!(f, "E3: {field} is a link; the line link changes it")
+            }
+            Explanation::PutDisabled(name) => write!(
+                f,
+                "E4: {name}.DISP isn't 0; put 0 to it first"
+            ),
+            Explanation::BadValue(text, field, taken) => {
+                write!(f, "E5: {text} doesn't fit {field} ({taken})")
+            }
+            Explanation::BadLink(text) => write!(f, "E6: {text} is no link; one is: REC.F PP MS"),
+            Explanation::NotAwaited(name, n) => write!(
+                f,
+                "E8: {name} doesn't wait under the number {n}"
+            ),
+            Explanation::NotLive(n) => write!(f, "E8: no put with notification {n} is live"),
+            Explanation::TooManyLive => {
+                f.write_str("E9: 256 puts with notification are live; let some end")
+            }
+        }
+    }
+}

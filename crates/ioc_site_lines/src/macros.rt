@@ -1,0 +1,125 @@
+//! Definitions of macros.
+use std::alloc::{AllocError, Global};
+
+/// The definition of a macro.
+#[derive(Debug, Drop)]
+pub struct Definition {
+    /// The macro's name.
+    pub name: Vec<u8>,
+    /// The value as it is written: it may use macros in turn.
+    pub value: Vec<u8>,
+}
+
+impl Definition {
+    /// Makes a definition of copies of a name and a value.
+    ///
+    /// # Errors
+    ///
+    /// [`AllocError`] if allocation fails.
+    pub fn new(alloc: Global, name: &[u8], value: &[u8]) -> Result<Self, AllocError> {
+        Ok(Definition {
+            name: name.to_vec(alloc)?,
+            value: value.to_vec(alloc)?,
+        })
+    }
+}
+
+/// A definition that holds.
+#[derive(Drop)]
+struct Held {
+    definition: Definition,
+    /// Whether its value is being replaced.
+    is_open: bool,
+}
+
+/// What a macro has for a value.
+#[derive(Drop)]
+pub enum Value {
+    Undefined,
+    /// The macro is used in its own value.
+    Open,
+    /// The value as it is written, and the number of its definition.
+    Text(Vec<u8>, usize),
+}
+
+/// The definitions that hold, of which later ones take precedence.
+#[derive(Drop)]
+pub struct Macros {
+    alloc: Global,
+    held: Vec<Held>,
+}
+
+impl Macros {
+    /// Begins with no definitions.
+    pub fn new(alloc: Global) -> Self {
+        Macros {
+            alloc,
+            held: Vec::new(alloc),
+        }
+    }
+
+    /// Returns the number of definitions.
+    pub fn count(&self) -> usize {
+        self.held.len()
+    }
+
+    /// Adds a definition.
+    ///
+    /// # Errors
+    ///
+    /// [`AllocError`] if allocation fails.
+    pub fn define(&mut self, definition: Definition) -> Result<(), AllocError> {
+        let is_open = false;
+        self.held.push(Held {
+            definition,
+            is_open,
+        })?;
+        Ok(())
+    }
+
+    /// Adds copies of definitions.
+    ///
+    /// # Errors
+    ///
+    /// [`AllocError`] if allocation fails.
+    pub fn define_all(&mut self, definitions: &[Definition]) -> Result<(), AllocError> {
+        for definition in definitions {
+            let name = definition.name.as_slice();
+            let value = definition.value.as_slice();
+            self.define(Definition::new(self.alloc, name, value)?)?;
+        }
+        Ok(())
+    }
+
+    /// Drops the definitions but the first ones, of this number.
+    pub fn keep(&mut self, count: usize) {
+        self.held.truncate(count);
+    }
+
+    /// Returns the value of a macro.
+    ///
+    /// # Errors
+    ///
+    /// [`AllocError`] if allocation fails.
+    pub fn value_of(&self, name: &[u8]) -> Result<Value, AllocError> {
+        let mut found = Value::Undefined;
+        for (number, held) in self.held.iter().enumerate().rev() {
+            if held.definition.name.as_slice() == name {
+                found = if held.is_open {
+                    Value::Open
+                } else {
+                    Value::Text(held.definition.value.as_slice().to_vec(self.alloc)?, number)
+                };
+                break;
+            }
+        }
+        Ok(found)
+    }
+
+    /// Marks whether the value of the definition with this number is being replaced.
+    pub fn mark(&mut self, number: usize, is_open: bool) {
+        if let Some(held) = self.held.get_mut(number) {
+            held.is_open = is_open;
+        }
+    }
+}

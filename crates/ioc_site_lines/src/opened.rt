@@ -1,0 +1,183 @@
+//! Files that are being read.
+use crate::findings::{joined, shown};
+use crate::json::Json;
+use crate::lexing::{blanks, extent_of, item_extent_of};
+use crate::line::Line;
+use crate::token::{Kind, Token};
+use ioc_site::Place;
+use std::alloc::{AllocError, Global};
+
+/// A file that is being read.
+#[derive(Drop)]
+pub struct OpenFile {
+    pub number: u32,
+    /// Whether it is a substitution file. Such a file's own macros aren't replaced.
+    pub has_sets: bool,
+    text: Vec<u8>,
+    /// Where the next line begins.
+    behind: usize,
+    /// The number of the line.
+    line_number: u32,
+    line: Line,
+    /// Where the rest of the line begins.
+    at: usize,
+}
+
+/// A line as it is written.
+#[derive(Drop)]
+pub struct WrittenLine {
+    pub bytes: Vec<u8>,
+    /// Where it begins.
+    pub place: Place,
+}
+
+impl OpenFile {
+    /// Begins with the first line, behind the byte order mark of UTF-8 if there is one.
+    pub fn new(alloc: Global, number: u32, text: Vec<u8>, has_sets: bool) -> Self {
+        let behind = if text.starts_with(b"\xef\xbb\xbf") {
+            3
+        } else {
+            0
+        };
+        OpenFile {
+            number,
+            has_sets,
+            text,
+            behind,
+            line_number: 0,
+            line: Line::new(alloc),
+            at: 0,
+        }
+    }
+
+    /// Returns the next line without its end, or `None` at the end of the file.
+    ///
+    /// # Errors
+    ///
+    /// [`AllocError`] if allocation fails.
+    pub fn next_written(&mut self, alloc: Global) -> Result<Option<WrittenLine>, AllocError> {
+        let rest = self.text.get(self.behind..).unwrap_or(&[]);
+        if rest.is_empty() {
+            return Ok(None);
+        }
+        let end = rest.iter().position(|byte| *byte == b'\n');
+        let length = end.unwrap_or(rest.len());
+        let mut bytes = rest.get(..length).unwrap_or(rest).to_vec(alloc)?;
+        if end.is_some() && bytes.last().copied() == Some(b'\r') {
+            bytes.pop();
+        }
+        self.behind = self.behind.saturating_add(length).saturating_add(1);
+        self.line_number = self.line_number.saturating_add(1);
+        let place = Place {
+            file: self.number,
+            line: self.line_number,
+            column: 1,
+        };
+        Ok(Some(WrittenLine { bytes, place }))
+    }
+
+    /// Sets the line of which tokens are made.
+    pub fn set_line(&mut self, line: Line) {
+        self.line = line;
+        self.at = 0;
+    }
+
+    /// Returns where the rest of the line begins.
+    pub fn place(&self) -> Place {
+        Place {
+            file: self.number,
+            line: self.line_number,
+            column: self.line.column(self.at),
+        }
+    }
+
+    /// Passes blanks and a comment. Returns the byte behind them on the line.
+    pub fn skip_blanks(&mut self) -> Option<u8> {
+        let rest = self.line.from(self.at);
+        let at = self.at.saturating_add(blanks(rest));
+        let next = self.line.from(at).first().copied();
+        if next == Some(b'#') {
+            self.at = self.line.bytes.len();
+            return None;
+        }
+        self.at = at;
+        next
+    }
+
+    /// Returns the next token of the line.
+    ///
+    /// # Errors
+    ///
+    /// [`AllocError`] if allocation fails.
+    pub fn token(&mut self, alloc: Global) -> Result<Option<Token>, AllocError> {
+        if self.skip_blanks().is_none() {
+            return Ok(None);
+        }
+        let place = self.place();
+        let rest = self.line.from(self.at);
+        let extent = if self.has_sets {
+            item_extent_of(rest)
+        } else {
+            extent_of(rest)
+        };
+        let end = extent.before.saturating_add(extent.length);
+        let written = rest.get(extent.before..end).unwrap_or(&[]);
+        let text = match extent.kind {
+            Kind::Fault => fault_text(alloc, written)?,
+            _ => written.to_vec(alloc)?,
+        };
+        self.at = self.at.saturating_add(extent.whole);
+        let next = self.skip_blanks();
+        let kind = extent.kind;
+        Ok(Some(Token {
+            kind,
+            text,
+            place,
+            next,
+        }))
+    }
+
+    /// Adds the rest of the line to a value in JSON, up to the value's end. Returns whether it ends
+    /// there.
+    ///
+    /// # Errors
+    ///
+    /// [`AllocError`] if allocation fails.
+    pub fn add_json(&mut self, json: &mut Json) -> Result<bool, AllocError> {
+        let mut at = self.at;
+        let mut ends = false;
+        for byte in self.line.from(self.at) {
+            at = at.saturating_add(1);
+            ends = json.add(*byte)?;
+            if ends {
+                break;
+            }
+        }
+        self.at = at;
+        Ok(ends)
+    }
+
+    /// Returns whether a record begins with the line.
+    pub fn begins_record(&self) -> bool {
+        let rest = self.line.from(0).trim_ascii_start();
+        rest.starts_with(b"record(") || rest.starts_with(b"grecord(")
+    }
+}
+
+/// Returns why no token begins with these bytes.
+fn fault_text(alloc: Global, written: &[u8]) -> Result<Vec<u8>, AllocError> {
+    if written.contains(&b'"') {
+        return joined(
+            alloc,
+            &[b"the text that begins here isn't closed; put '\"' at its end, on this line"],
+        );
+    }
+    joined(
+        alloc,
+        &[
+            b"'",
+            shown(written),
+            b"' can't stand outside quotes; put the text in double quotes",
+        ],
+    )
+}

@@ -1,0 +1,298 @@
+//! The tokens of the files that are open, one after the other.
+use crate::closing::comment_start;
+use crate::defining::parse_definitions;
+use crate::expanding::Expander;
+use crate::findings::Findings;
+use crate::json::Json;
+use crate::lexing::blanks;
+use crate::line::Line;
+use crate::macros::Definition;
+use crate::opened::{OpenFile, WrittenLine};
+use crate::token::Token;
+use ioc_site::{Finding, Place, Word};
+use std::alloc::{AllocError, Global};
+use std::mem;
+
+/// How many bytes the lines of all files may have with their macros replaced: 64 MiB.
+const MOST_BYTES: u64 = 1 << 26;
+
+/// The tokens of the files that are open. The last of these files is read first.
+#[derive(Drop)]
+pub struct Stream {
+    /// What allocates.
+    pub alloc: Global,
+    open: Vec<OpenFile>,
+    pub(crate) expander: Expander,
+    /// What is found so far.
+    pub findings: Findings,
+    /// The next token, if it is made already.
+    pub ahead: Option<Token>,
+}
+
+impl Stream {
+    /// Begins with no open file.
+    pub fn new(alloc: Global) -> Self {
+        Stream {
+            alloc,
+            open: Vec::new(alloc),
+            expander: Expander::new(alloc, MOST_BYTES),
+            findings: Findings::new(alloc),
+            ahead: None,
+        }
+    }
+
+    /// Begins to read a file, which is read up to its end before the files that are open.
+    ///
+    /// # Errors
+    ///
+    /// [`AllocError`] if allocation fails.
+    pub fn open_file(
+        &mut self,
+        number: u32,
+        text: Vec<u8>,
+        has_sets: bool,
+    ) -> Result<(), AllocError> {
+        let file = OpenFile::new(self.alloc, number, text, has_sets);
+        self.open.push(file)?;
+        Ok(())
+    }
+
+    /// Returns whether the file with this number is open.
+    pub fn is_open(&self, number: u32) -> bool {
+        self.open.iter().any(|file| file.number == number)
+    }
+
+    /// Returns how many files are open.
+    pub fn open_count(&self) -> usize {
+        self.open.len()
+    }
+
+    /// Adds copies of definitions of macros, which take precedence.
+    ///
+    /// # Errors
+    ///
+    /// [`AllocError`] if allocation fails.
+    pub fn define_all(&mut self, definitions: &[Definition]) -> Result<(), AllocError> {
+        self.expander.macros.define_all(definitions)
+    }
+
+    /// Returns the number of definitions of macros.
+    pub fn macro_count(&self) -> usize {
+        self.expander.macros.count()
+    }
+
+    /// Drops the definitions of macros but the first ones, of this number.
+    pub fn keep_macros(&mut self, count: usize) {
+        self.expander.macros.keep(count);
+    }
+
+    /// Returns what was found.
+    pub fn into_findings(self) -> Vec<Finding> {
+        let Stream { findings, .. } = self;
+        findings.into_list()
+    }
+
+    /// Reports bytes that no text has, and puts blanks in their place.
+    fn check_bytes(&mut self, written: &mut WrittenLine) -> Result<(), AllocError> {
+        let mut place = written.place;
+        let mut is_reported = false;
+        for byte in written.bytes.iter_mut() {
+            let text: &[u8] = match *byte {
+                b'\r' => b"a carriage return without a line feed; put a line feed behind it",
+                0 => b"a byte that is 0; drop it",
+                _ => b"",
+            };
+            if !text.is_empty() {
+                *byte = b' ';
+                if !is_reported {
+                    is_reported = true;
+                    self.findings.report(place, &[text])?;
+                }
+            }
+            place.column = place.column.saturating_add(1);
+        }
+        Ok(())
+    }
+
+    /// Reports what is wrong with the macros of a line.
+    fn report_faults(&mut self, place: Place) -> Result<(), AllocError> {
+        let faults = mem::replace(&mut self.expander.faults, Vec::new(self.alloc));
+        for fault in faults {
+            let place = Place {
+                column: fault.column,
+                ..place
+            };
+            self.findings.report_text(place, fault.text)?;
+        }
+        Ok(())
+    }
+
+    /// Defines the macros of `substitute "A=x,B=y"`, of which this is the text behind the word.
+    fn substitute(&mut self, place: Place, text: &[u8]) -> Result<(), AllocError> {
+        let quoted = match text.trim_ascii() {
+            [b'"', inner @ .., b'"'] => inner,
+            _ => {
+                let text = b"substitute has no text in quotes; write substitute \"A=x,B=y\"";
+                return self.findings.report(place, &[text]);
+            }
+        };
+        let definitions = parse_definitions(self.alloc, quoted)?;
+        if let Some(fault) = &definitions.fault {
+            let parts = [
+                b"'".as_slice(),
+                fault.as_slice(),
+                b"' defines no macro; write NAME=VALUE",
+            ];
+            self.findings.report(place, &parts)?;
+        }
+        self.expander.macros.define_all(definitions.list.as_slice())
+    }
+
+    /// Returns a line with its macros replaced.
+    fn replaced(&mut self, place: Place, code: &[u8]) -> Result<Line, AllocError> {
+        let solid = code.get(blanks(code)..).unwrap_or(&[]);
+        if solid.starts_with(b"%") {
+            return Ok(Line::new(self.alloc));
+        }
+        if let Some(text) = solid.strip_prefix(b"substitute")
+            && matches!(text.first().copied(), Some(b' ' | b'\t' | b'"'))
+        {
+            self.substitute(place, text)?;
+            return Ok(Line::new(self.alloc));
+        }
+        let line = self.expander.expanded_line(code)?;
+        self.report_faults(place)?;
+        Ok(line)
+    }
+
+    /// Returns a file's name with its macros replaced, or `None` if they can't be. That is
+    /// reported.
+    ///
+    /// # Errors
+    ///
+    /// [`AllocError`] if allocation fails.
+    pub fn replaced_name(&mut self, name: &Word) -> Result<Option<Word>, AllocError> {
+        let line = self.expander.expanded_line(name.text.as_slice())?;
+        let faults = mem::replace(&mut self.expander.faults, Vec::new(self.alloc));
+        let is_faulty = !faults.is_empty();
+        for fault in faults {
+            self.findings.report_text(name.place, fault.text)?;
+        }
+        if is_faulty {
+            return Ok(None);
+        }
+        Ok(Some(Word {
+            text: line.bytes,
+            place: name.place,
+            quoted: name.quoted,
+        }))
+    }
+
+    /// Reports that lines have too many bytes, and ends all files.
+    fn end_all(&mut self, place: Place) -> Result<(), AllocError> {
+        self.open.truncate(0);
+        let text = b"the lines up to here have more than 64 MiB; read fewer files at once";
+        self.findings.report(place, &[text])
+    }
+
+    /// Goes to the next line of the last file. Returns whether there is one.
+    fn next_line(&mut self) -> Result<bool, AllocError> {
+        let Some(file) = self.open.last_mut() else {
+            return Ok(false);
+        };
+        let has_sets = file.has_sets;
+        let Some(mut written) = file.next_written(self.alloc)? else {
+            return Ok(false);
+        };
+        self.check_bytes(&mut written)?;
+        let place = written.place;
+        let start = comment_start(self.alloc, written.bytes.as_slice())?;
+        written.bytes.truncate(start);
+        let line = if has_sets {
+            Line::written(self.alloc, written.bytes.as_slice())?
+        } else {
+            self.replaced(place, written.bytes.as_slice())?
+        };
+        if self.expander.is_spent() {
+            self.end_all(place)?;
+            return Ok(false);
+        }
+        if let Some(file) = self.open.last_mut() {
+            file.set_line(line);
+        }
+        Ok(true)
+    }
+
+    /// Goes to the next byte that is no blank, on this line or on one behind it, and to the end of
+    /// files that have none. Returns the byte.
+    ///
+    /// # Errors
+    ///
+    /// [`AllocError`] if allocation fails.
+    pub fn next_byte(&mut self) -> Result<Option<u8>, AllocError> {
+        for _ in 0..u64::MAX {
+            let Some(file) = self.open.last_mut() else {
+                break;
+            };
+            if let Some(byte) = file.skip_blanks() {
+                return Ok(Some(byte));
+            }
+            if !self.next_line()? {
+                self.open.pop();
+            }
+        }
+        Ok(None)
+    }
+
+    /// Returns whether a record begins with the line.
+    fn is_at_record(&self) -> bool {
+        match self.open.last() {
+            Some(file) => file.begins_record(),
+            None => false,
+        }
+    }
+
+    /// Returns where the rest of the line begins, or `None` if no file is open.
+    pub fn place(&self) -> Option<Place> {
+        self.open.last().map(|file| file.place())
+    }
+
+    /// Reads JSON up to its end. Returns whether it has an end before the next record's statement.
+    ///
+    /// # Errors
+    ///
+    /// [`AllocError`] if allocation fails.
+    pub fn read_json(&mut self, json: &mut Json) -> Result<bool, AllocError> {
+        for _ in 0..u64::MAX {
+            let Some(file) = self.open.last_mut() else {
+                break;
+            };
+            if file.add_json(json)? {
+                return Ok(!json.is_crossed);
+            }
+            if json.quote.is_some() {
+                break;
+            }
+            json.text.push(b'\n')?;
+            if !self.next_line()? || self.is_at_record() {
+                break;
+            }
+        }
+        Ok(false)
+    }
+
+    /// Makes the next token, if it isn't made yet.
+    ///
+    /// # Errors
+    ///
+    /// [`AllocError`] if allocation fails.
+    pub fn look(&mut self) -> Result<(), AllocError> {
+        if self.ahead.is_none()
+            && self.next_byte()?.is_some()
+            && let Some(file) = self.open.last_mut()
+        {
+            self.ahead = file.token(self.alloc)?;
+        }
+        Ok(())
+    }
+}

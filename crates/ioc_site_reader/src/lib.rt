@@ -1,0 +1,17 @@
+//! Reads a site's database files as EPICS Base reads them: statements, includes and substitution
+//! files. Every mistake is found at its place, and reading goes on behind it.
+#![tactic(auto)]
+
+mod entries;
+mod files;
+mod reader;
+mod sources;
+mod statements;
+mod substitutions;
+#[cfg(test)]
+mod tests;
+mod words;
+
+pub use ioc_site_lines::{Definition, Definitions, parse_definitions};
+pub use reader::{Request, read_files};
+pub use sources::Sources;

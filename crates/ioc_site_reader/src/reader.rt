@@ -1,0 +1,249 @@
+//! Reads files with the files that they include.
+use crate::entries::{Body, Opening, read_entries};
+use crate::files::{Files, ReadFile};
+use crate::sources::Sources;
+use crate::statements::{alias_statement, next_heading, record_head, skipped_statement};
+use crate::substitutions::{Group, is_substitution_file, read_groups};
+use crate::words::Words;
+use ioc_site::{Place, Reading, RecordText, Statement, Word};
+use ioc_site_lines::{Definition, Keyword};
+use std::alloc::{AllocError, Global};
+
+/// How many files may be open within one another.
+const MOST_OPEN: usize = 32;
+
+/// What is to be read.
+#[derive(Clone, Copy)]
+pub struct Request<'a> {
+    /// The paths of the files, in this order. One that ends in `.substitutions`, `.subs` or `.sub`
+    /// is a substitution file.
+    pub paths: &'a [&'a [u8]],
+    /// The macros that hold in all files.
+    pub macros: &'a [Definition],
+    /// The folders in which a file is sought that isn't beside the one that names it.
+    pub folders: &'a [&'a [u8]],
+}
+
+/// Reads files.
+#[derive(Drop)]
+struct Reader {
+    alloc: Global,
+    files: Files,
+    words: Words,
+    statements: Vec<Statement>,
+}
+
+/// Returns whether the text is UTF-16, by its first two bytes.
+fn is_utf16(text: &[u8]) -> bool {
+    matches!(
+        text,
+        [0xff, 0xfe, ..] | [0xfe, 0xff, ..] | [0, _, ..] | [_, 0, ..]
+    )
+}
+
+impl Reader {
+    /// Begins to read a file, which is named at this place.
+    fn open(&mut self, file: ReadFile, place: Place, has_sets: bool) -> Result<(), AllocError> {
+        let ReadFile { number, text } = file;
+        if self.words.stream.is_open(number) {
+            let text = b"the file is among those that include it; drop this include";
+            return self.words.report(place, &[text]);
+        }
+        if self.words.stream.open_count() >= MOST_OPEN {
+            let text = b"files include one another more than 32 deep; include fewer";
+            return self.words.report(place, &[text]);
+        }
+        if is_utf16(text.as_slice()) {
+            let start = Place {
+                file: number,
+                line: 1,
+                column: 1,
+            };
+            return self
+                .words
+                .report(start, &[b"the file is UTF-16; save it as UTF-8"]);
+        }
+        self.words.stream.open_file(number, text, has_sets)
+    }
+
+    /// Begins to read the file that this word names.
+    fn include<S: Sources>(&mut self, sources: &mut S, name: Word) -> Result<(), AllocError> {
+        let place = name.place;
+        let text = name.text.as_slice();
+        match self.files.find(sources, place.file, text)? {
+            Some(file) => self.open(file, place, false),
+            None => self.words.report(place, &[b"cannot read '", text, b"'"]),
+        }
+    }
+
+    /// Reads the body of a record.
+    fn read_body<S: Sources>(
+        &mut self,
+        sources: &mut S,
+        opening: Opening,
+    ) -> Result<Body, AllocError> {
+        let mut body = Body::new(self.alloc);
+        for _ in 0..u64::MAX {
+            match read_entries(&mut self.words, opening, &mut body)? {
+                Some(file) => self.include(sources, file)?,
+                None => break,
+            }
+        }
+        Ok(body)
+    }
+
+    /// Reads a record, whose first word is at this place.
+    fn read_record<S: Sources>(&mut self, sources: &mut S, place: Place) -> Result<(), AllocError> {
+        let head = record_head(&mut self.words)?;
+        let name = match &head {
+            Some((_, name)) => name.text.as_slice(),
+            None => &[],
+        };
+        let body = if self.words.is_at(b'{')? {
+            self.words.take()?;
+            let place = self.words.last;
+            self.read_body(sources, Opening { place, name })?
+        } else {
+            Body::new(self.alloc)
+        };
+        let Body { entries, aliases } = body;
+        if let Some((record_type, name)) = head {
+            self.statements.push(Statement::Record(RecordText {
+                place,
+                record_type,
+                name,
+                entries,
+                aliases,
+            }))?;
+        }
+        Ok(())
+    }
+
+    /// Reads the folders behind `path` or `addpath`.
+    fn read_path(&mut self, is_added: bool) -> Result<(), AllocError> {
+        let Some(folders) = self.words.expect_text(b"the folders")? else {
+            return self.words.recover(false);
+        };
+        if !is_added {
+            self.files.clear_folders();
+        }
+        self.files.add_folders(folders.text.as_slice())
+    }
+
+    /// Reads statements up to the end of the files that are open.
+    fn read_statements<S: Sources>(&mut self, sources: &mut S) -> Result<(), AllocError> {
+        for _ in 0..u64::MAX {
+            let Some((found, token)) = next_heading(&mut self.words)? else {
+                break;
+            };
+            match found {
+                Keyword::Record => self.read_record(sources, token.place)?,
+                Keyword::Alias => {
+                    if let Some(alias) = alias_statement(&mut self.words)? {
+                        self.statements.push(alias)?;
+                    }
+                }
+                Keyword::Include => match self.words.expect_text(b"the file's name")? {
+                    Some(file) => self.include(sources, file)?,
+                    None => self.words.recover(false)?,
+                },
+                Keyword::Path => self.read_path(token.text.starts_with(b"add"))?,
+                Keyword::Field | Keyword::Info | Keyword::Definition => {
+                    let skipped = skipped_statement(&mut self.words, token)?;
+                    self.statements.push(skipped)?;
+                }
+            }
+        }
+        Ok(())
+    }
+
+    /// Reads a file of the request.
+    fn read_file<S: Sources>(&mut self, sources: &mut S, path: &[u8]) -> Result<(), AllocError> {
+        let number = self.files.number(path)?;
+        let place = Place {
+            file: number,
+            line: 1,
+            column: 1,
+        };
+        let Some(text) = sources.read(path)? else {
+            return self.words.report(place, &[b"cannot read '", path, b"'"]);
+        };
+        let has_sets = is_substitution_file(path);
+        self.open(ReadFile { number, text }, place, has_sets)?;
+        if has_sets {
+            let groups = read_groups(&mut self.words)?;
+            return self.read_groups(sources, groups);
+        }
+        self.read_statements(sources)
+    }
+
+    /// Reads the templates of a substitution file.
+    fn read_groups<S: Sources>(
+        &mut self,
+        sources: &mut S,
+        groups: Vec<Group>,
+    ) -> Result<(), AllocError> {
+        for group in &groups {
+            for set in &group.sets {
+                let count = self.words.stream.macro_count();
+                let template = self.words.stream.replaced_name(&group.template)?;
+                self.words.stream.define_all(set.as_slice())?;
+                if let Some(template) = template {
+                    self.include(sources, template)?;
+                    self.read_statements(sources)?;
+                }
+                self.words.stream.keep_macros(count);
+            }
+        }
+        Ok(())
+    }
+
+    /// Reads the files of a request.
+    fn read_all<S: Sources>(
+        &mut self,
+        sources: &mut S,
+        request: Request,
+    ) -> Result<(), AllocError> {
+        for folder in request.folders {
+            self.files.add_folders(folder)?;
+        }
+        self.words.stream.define_all(request.macros)?;
+        for path in request.paths {
+            let count = self.words.stream.macro_count();
+            self.read_file(sources, path)?;
+            self.words.stream.keep_macros(count);
+        }
+        Ok(())
+    }
+}
+
+/// Reads files with the files that they include. Every mistake is a finding, and reading goes on
+/// behind it.
+///
+/// # Errors
+///
+/// [`AllocError`] if allocation fails.
+pub fn read_files<S: Sources>(
+    alloc: Global,
+    sources: &mut S,
+    request: Request,
+) -> Result<Reading, AllocError> {
+    let mut reader = Reader {
+        alloc,
+        files: Files::new(alloc),
+        words: Words::new(alloc),
+        statements: Vec::new(alloc),
+    };
+    reader.read_all(sources, request)?;
+    let Reader {
+        files,
+        words,
+        statements,
+        ..
+    } = reader;
+    Ok(Reading {
+        files: files.into_paths(),
+        statements,
+        findings: words.into_findings(),
+    })
+}

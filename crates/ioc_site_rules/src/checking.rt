@@ -1,0 +1,41 @@
+//! All checks of a site.
+use crate::chains::{check_cycles, check_unprocessed};
+use crate::gathering::gather;
+use crate::links::follow_links;
+use crate::report::Report;
+use crate::scanning::check_devices;
+use ioc_site::{Finding, Place, Reading};
+use std::alloc::{AllocError, Global};
+
+/// Returns what the statements get wrong by the rules of this project, and what in them is worth a
+/// look. What is wrong with the text itself is in [`Reading::findings`].
+///
+/// # Errors
+///
+/// [`AllocError`] if allocation fails.
+pub fn check(alloc: Global, reading: &Reading) -> Result<Vec<Finding>, AllocError> {
+    let mut report = Report::new(alloc, reading)?;
+    let site = gather(reading, &mut report)?;
+    check_devices(&site, &mut report)?;
+    let leads = follow_links(&site, &mut report)?;
+    check_cycles(&site, leads.as_slice(), &mut report)?;
+    check_unprocessed(&site, leads.as_slice(), &mut report)?;
+    let Report { findings, .. } = report;
+    Ok(findings)
+}
+
+// Returns the place in the order in which findings are shown.
+fn order_of(place: Place) -> (u32, u32, u32) {
+    (place.file, place.line, place.column)
+}
+
+/// Puts findings in the order of their files, lines and columns.
+///
+/// # Errors
+///
+/// [`AllocError`] if allocation fails.
+pub fn put_in_order(alloc: Global, findings: &mut Vec<Finding>) -> Result<(), AllocError> {
+    findings
+        .as_mut_slice()
+        .sort_by_key(alloc, |finding| order_of(finding.place))
+}

@@ -1,0 +1,223 @@
+//! The texts of link fields.
+use crate::known::{LINK_WORDS, is_left_out_link_word};
+use crate::names::{NameFault, name_fault};
+use crate::report::Report;
+use crate::values::{FieldOf, Limits};
+use crate::wording::{Meant, Shown};
+use ioc_fields::{CommonField, FieldNo, LinkRole, OwnField, RecordType};
+use ioc_links::{Link, LinkKind, MAX_LINK_BYTES, parse};
+use ioc_site::{Word, nearest};
+use ioc_values::number::is_number;
+use ioc_values::trim::trim;
+use ioc_values::{Kind, MAX_FIELD_NAME_BYTES, Range, of_number};
+use std::alloc::AllocError;
+use std::fmt;
+
+/// Why a text is no link.
+#[derive(Clone, Copy, Debug, PartialEq, Eq)]
+pub enum LinkFault<'a> {
+    /// It has this many bytes.
+    Long(usize),
+    Json,
+    /// It is the address of a card, which begins with `#`.
+    Address,
+    /// It is a number with a fraction or an exponent.
+    Fraction,
+    /// It is a number of more than 64 bits.
+    LargeNumber,
+    /// It is `@` and nothing behind it.
+    NoDevice,
+    /// It names a device, and the field can't.
+    Device,
+    /// It names a record, and no record can have this name.
+    Record(&'a [u8], NameFault),
+    /// It names a field, and no field can have this name.
+    Field(&'a [u8]),
+    /// It has this word of EPICS behind the name, which is left out.
+    LeftOutWord(&'a [u8]),
+    /// It has this word behind the name.
+    Word(&'a [u8]),
+}
+
+impl fmt::Display for LinkFault<'_> {
+    fn fmt<W: fmt::Write>(&self, f: &mut fmt::Formatter<W>) -> fmt::Result {
+        match self {
+            LinkFault::Long(count) => {
+                write!(f, "has {count} bytes, and a link at most {MAX_LINK_BYTES}")
+            }
+            LinkFault::Json => f.write_str("is JSON, which is left out here"),
+            LinkFault::Address => f.write_str(
+                "is a hardware address, which is left out here; write @ and a text",
+            ),
+            LinkFault::Fraction => f.write_str("is no whole number; scale it"),
+            LinkFault::LargeNumber => f.write_str("is a number of more than 64 bits"),
+            LinkFault::NoDevice => f.write_str("names no device; write a text behind the @"),
+            LinkFault::Device => f.write_str("names a device, and only INP and OUT can"),
+            LinkFault::Record(name, fault) => {
+                write!(
+                    f,
+                    "names record '{}', which can't be: {fault}",
+                    Shown(*name)
+                )
+            }
+            LinkFault::Field(name) => write!(
+                f,
+                "names field '{}', and fields have at most 8 capital letters or digits",
+                Shown(*name)
+            ),
+            LinkFault::LeftOutWord(word) => {
+                write!(f, "has the word {}, which is left out here", Shown(*word))
+            }
+            LinkFault::Word(word) => write!(
+                f,
+                "has the word '{}', which is no word of links{}",
+                Shown(*word),
+                Meant(nearest(*word, &LINK_WORDS))
+            ),
+        }
+    }
+}
+
+// Splits the bytes before the first blank.
+fn split_word(text: &[u8]) -> (&[u8], &[u8]) {
+    for (count, b) in text.iter().enumerate() {
+        if *b == b' ' || *b == b'\t' {
+            return text.split_at(count);
+        }
+    }
+    (text, &[])
+}
+
+// Splits NAME.FIELD before its first point, which is in neither part.
+fn split_target(word: &[u8]) -> (&[u8], Option<&[u8]>) {
+    for (count, b) in word.iter().enumerate() {
+        if *b == b'.' {
+            let (name, rest) = word.split_at(count);
+            return (name, rest.get(1..));
+        }
+    }
+    (word, None)
+}
+
+// Returns whether the text looks like a number with a fraction or an exponent.
+fn is_fraction(text: &[u8]) -> bool {
+    let has_digit = text.iter().any(|b| b.is_ascii_digit());
+    let begins = matches!(text, [b'0'..=b'9' | b'+' | b'-' | b'.', ..]);
+    begins
+        && has_digit
+        && text.iter().all(|b| b.is_ascii_digit() || matches!(b, b'+' | b'-' | b'.' | b'e' | b'E'))
+}
+
+// Returns the fault of the words behind the name.
+fn words_fault(words: &[u8]) -> Option<LinkFault<'_>> {
+    for word in words.split(|b| *b == b' ' || *b == b'\t') {
+        if is_left_out_link_word(word) {
+            return Some(LinkFault::LeftOutWord(word));
+        }
+        let is_known = LINK_WORDS.iter().any(|known| known.as_bytes() == word);
+        if !word.is_empty() && !is_known {
+            return Some(LinkFault::Word(word));
+        }
+    }
+    None
+}
+
+// Returns whether a field can have this name.
+fn is_field_name(name: &[u8]) -> bool {
+    !name.is_empty()
+        && name.len() <= MAX_FIELD_NAME_BYTES
+        && name
+            .iter()
+            .all(|b| b.is_ascii_uppercase() || b.is_ascii_digit())
+}
+
+// Returns the fault of a link to a record.
+fn target_fault(text: &[u8]) -> Option<LinkFault<'_>> {
+    let (word, rest) = split_word(text);
+    let (name, field) = split_target(word);
+    if let Some(fault) = name_fault(name) {
+        return Some(LinkFault::Record(name, fault));
+    }
+    match field {
+        Some(field) if !is_field_name(field) => Some(LinkFault::Field(field)),
+        _ => words_fault(rest),
+    }
+}
+
+/// Returns why the text is no link in a field of this kind. The text is one that isn't allowed.
+pub fn link_fault(kind: LinkKind, text: &[u8]) -> Option<LinkFault<'_>> {
+    if text.len() > MAX_LINK_BYTES {
+        return Some(LinkFault::Long(text.len()));
+    }
+    let text = trim(text, true);
+    if is_number(text) {
+        return Some(LinkFault::LargeNumber);
+    }
+    if is_fraction(text) {
+        return Some(LinkFault::Fraction);
+    }
+    match text {
+        [b'{' | b'[', ..] => Some(LinkFault::Json),
+        [b'#', ..] => Some(LinkFault::Address),
+        [b'@', ..] if kind == LinkKind::NoDevice => Some(LinkFault::Device),
+        [b'@', ..] => Some(LinkFault::NoDevice),
+        _ => target_fault(text),
+    }
+}
+
+/// Returns the range of a constant in the link field, or `None` if any constant is allowed.
+pub fn constant_range(record_type: RecordType, field: FieldNo) -> Option<Range> {
+    match (record_type, field) {
+        (_, FieldNo::Common(CommonField::Sdis)) => Some(Range::Short),
+        (RecordType::Longin, FieldNo::Own(OwnField::Inp))
+        | (RecordType::Longout, FieldNo::Own(OwnField::Dol)) => Some(Range::Long),
+        (RecordType::Bi | RecordType::Mbbi, FieldNo::Own(OwnField::Inp)) => Some(Range::ULong),
+        (RecordType::Bo | RecordType::Mbbo, FieldNo::Own(OwnField::Dol))
+        | (RecordType::Fanout, FieldNo::Own(OwnField::Sell)) => Some(Range::UShort),
+        _ => None,
+    }
+}
+
+// Returns whether a constant link is in the range. Every other link is.
+fn is_within(range: Option<Range>, link: &Link) -> bool {
+    match (range, link) {
+        (Some(range), Link::Constant(constant)) => {
+            of_number(Kind::Number(range), *constant).is_some()
+        }
+        _ => true,
+    }
+}
+
+/// Checks the text of a link field, in which a constant has this range, and returns whether it is
+/// allowed. What is wrong is reported.
+///
+/// # Errors
+///
+/// [`AllocError`] if allocation fails.
+pub fn accepts_link(
+    owner: &FieldOf<'_>,
+    role: LinkRole,
+    range: Option<Range>,
+    word: &Word,
+    report: &mut Report,
+) -> Result<bool, AllocError> {
+    let value = word.text.as_slice();
+    let shown = Shown(trim(value, true));
+    let text = match parse(role.link_kind(), value) {
+        Ok(link) => {
+            let Some(range) = range.filter(|_| !is_within(range, &link)) else {
+                return Ok(true);
+            };
+            let limits = Limits(range);
+            format!(in report.alloc;
+                "{owner} takes a constant {limits}, and {shown} is out of range"
+            )?
+        }
+        Err(_) => match link_fault(role.link_kind(), value) {
+            Some(fault) => format!(in report.alloc; "{owner}: '{shown}' {fault}")?,
+            None => format!(in report.alloc; "{owner}: '{shown}' is no link")?,
+        },
+    };
+    report.error(word.place, text)?;
+    Ok(false)
+}

@@ -1,0 +1,243 @@
+//! Writes statements as the text of a database.
+ghost use Rattle.std.specs.Prelude.{IfOk};
+ghost use Rattle.ioc_site_writer.specs.Loads.{Loads};
+
+use crate::dropping::{Reason, Subject};
+use crate::lines::{Line, LineRole, joined, remove_line};
+use crate::quoting::{begins_macro, quote};
+use crate::spelling::add_value;
+use crate::types::{Standing, Types};
+use ioc_dbfile::{Macros, load};
+use ioc_fields::RecordType;
+use ioc_links::is_record_name;
+use ioc_site::{Entry, EntryKind, Finding, RecordText, Statement, Word};
+use ioc_values::{BadDbKind, DbFault, LoadError};
+use std::alloc::{AllocError, Global};
+
+/// What was written.
+#[derive(Drop)]
+pub struct Written {
+    /// The text of the database.
+    pub text: Vec<u8>,
+    /// What is left out of it, as warnings.
+    pub dropped: Vec<Finding>,
+}
+
+/// The lines of a text that is being written.
+#[derive(Drop)]
+struct Writer<'a> {
+    alloc: Global,
+    lines: Vec<Line<'a>>,
+    dropped: Vec<Finding>,
+    types: Types,
+    /// The number of the statement that is being written.
+    statement: usize,
+}
+
+// Returns why a text can't have the entry.
+fn fault_of(entry: &Entry) -> Option<Reason> {
+    let (name, value) = (entry.name.text.as_slice(), entry.value.text.as_slice());
+    if begins_macro(name) || begins_macro(value) {
+        Some(Reason::BeginsMacro)
+    } else {
+        None
+    }
+}
+
+impl<'a> Writer<'a> {
+    // Leaves something out.
+    fn leave_out(&mut self, subject: Subject<'a>, reason: Reason) -> Result<(), AllocError> {
+        let finding = subject.dropped(self.alloc, reason)?;
+        Ok(self.dropped.push(finding)?)
+    }
+
+    // Adds a line.
+    fn add(
+        &mut self,
+        role: LineRole,
+        subject: Subject<'a>,
+        text: Vec<u8>,
+    ) -> Result<(), AllocError> {
+        let statement = self.statement;
+        Ok(
+            self.lines.push(Line {
+                role,
+                statement,
+                subject,
+                text,
+            })?,
+        )
+    }
+
+    // Returns the record of a statement, or why it is left out.
+    fn opened(&mut self, record: &RecordText) -> Result<Result<RecordType, Reason>, AllocError> {
+        if !is_record_name(record.name.text.as_slice()) {
+            return Ok(Err(Reason::Refused(BadDbKind::BadName)));
+        }
+        match self.types.enter(record, false)? {
+            Some(Standing::Kept(record_type)) => Ok(Ok(record_type)),
+            _ if record.record_type.text.as_slice() == b"*".as_slice() => {
+                Ok(Err(Reason::Refused(BadDbKind::NoRecord)))
+            }
+            _ => Ok(Err(Reason::Refused(BadDbKind::BadType))),
+        }
+    }
+
+    // Adds the head of a record.
+    fn add_head(&mut self, record: &'a RecordText) -> Result<(), AllocError> {
+        let mut text = Vec::new(self.alloc);
+        text.extend_from_slice(b"record(")?;
+        let type_name = record.record_type.text.as_slice();
+        match RecordType::from_name(type_name) {
+            Some(record_type) => text.extend_from_slice(record_type.name().as_bytes())?,
+            None => quote(&mut text, type_name)?,
+        }
+        text.extend_from_slice(b", ")?;
+        quote(&mut text, record.name.text.as_slice())?;
+        text.extend_from_slice(b") {\n")?;
+        let (word, name) = ("record", &record.name);
+        self.add(LineRole::Head, Subject { word, name }, text)
+    }
+
+    // Adds a field or an info.
+    fn add_entry(&mut self, record_type: RecordType, entry: &'a Entry) -> Result<(), AllocError> {
+        let word = match entry.kind {
+            EntryKind::Field => "field",
+            EntryKind::Info => "info",
+        };
+        let name = &entry.name;
+        let subject = Subject { word, name };
+        if let Some(reason) = fault_of(entry) {
+            return self.leave_out(subject, reason);
+        }
+        let mut text = Vec::new(self.alloc);
+        text.extend_from_slice(b"  ")?;
+        text.extend_from_slice(word.as_bytes())?;
+        text.push(b'(')?;
+        let (name, value) = (name.text.as_slice(), entry.value.text.as_slice());
+        quote(&mut text, name)?;
+        text.extend_from_slice(b", ")?;
+        match entry.kind {
+            EntryKind::Field => add_value(self.alloc, &mut text, record_type, name, value)?,
+            EntryKind::Info => quote(&mut text, value)?,
+        }
+        text.extend_from_slice(b")\n")?;
+        self.add(LineRole::Entry, subject, text)
+    }
+
+    // Adds a second name, in the body of a record or as a statement of its own.
+    fn add_alias(&mut self, record: Option<&Word>, name: &'a Word) -> Result<(), AllocError> {
+        let word = "alias";
+        let subject = Subject { word, name };
+        if !is_record_name(name.text.as_slice()) {
+            return self.leave_out(subject, Reason::Refused(BadDbKind::BadName));
+        }
+        let mut text = Vec::new(self.alloc);
+        let role = match record {
+            Some(record) => {
+                text.extend_from_slice(b"alias(")?;
+                quote(&mut text, record.text.as_slice())?;
+                text.extend_from_slice(b", ")?;
+                LineRole::Head
+            }
+            None => {
+                text.extend_from_slice(b"  alias(")?;
+                LineRole::Entry
+            }
+        };
+        quote(&mut text, name.text.as_slice())?;
+        text.extend_from_slice(b")\n")?;
+        self.add(role, subject, text)
+    }
+
+    // Adds a record.
+    fn add_record(&mut self, record: &'a RecordText) -> Result<(), AllocError> {
+        let (word, name) = ("record", &record.name);
+        let subject = Subject { word, name };
+        let record_type = match self.opened(record)? {
+            Ok(record_type) => record_type,
+            Err(reason) => return self.leave_out(subject, reason),
+        };
+        self.add_head(record)?;
+        for entry in &record.entries {
+            self.add_entry(record_type, entry)?;
+        }
+        for alias in &record.aliases {
+            self.add_alias(None, alias)?;
+        }
+        let mut text = Vec::new(self.alloc);
+        text.extend_from_slice(b"}\n")?;
+        self.add(LineRole::End, subject, text)
+    }
+
+    // Adds a second name by a statement of its own.
+    fn add_alias_of(&mut self, record: &Word, alias: &'a Word) -> Result<(), AllocError> {
+        if let Some(standing) = self.types.standing(record.text.as_slice()) {
+            self.types.note(alias.text.as_slice(), standing)?;
+        }
+        if begins_macro(record.text.as_slice()) {
+            let (word, name) = ("alias", alias);
+            return self.leave_out(Subject { word, name }, Reason::BeginsMacro);
+        }
+        self.add_alias(Some(record), alias)
+    }
+}
+
+// Returns the lines of the statements.
+fn lines_of<'a>(alloc: Global, statements: &'a [Statement]) -> Result<Writer<'a>, AllocError> {
+    let mut writer = Writer {
+        alloc,
+        lines: Vec::new(alloc),
+        dropped: Vec::new(alloc),
+        types: Types::new(alloc),
+        statement: 0,
+    };
+    for (number, statement) in statements.iter().enumerate() {
+        writer.statement = number;
+        match statement {
+            Statement::Record(record) => writer.add_record(record)?,
+            Statement::Alias { record, alias } => writer.add_alias_of(record, alias)?,
+            Statement::Skipped(_) => {}
+        }
+    }
+    Ok(writer)
+}
+
+/// Writes the records and aliases of some statements as one text, each entry on a line of its own,
+/// values between quotes and numbers in decimal. What `load` refuses is left out. What is returned
+/// loads without macros.
+///
+/// # Errors
+///
+/// [`LoadError::BadDb`] if the text is too long or has too many records. [`LoadError::NoMemory`] if
+/// allocation fails.
+pub fn write_database(alloc: Global, statements: &[Statement]) -> Result<Written, LoadError>
+    ensures { IfOk result (λ w. Loads w.text.items) }
+{
+    let Writer {
+        mut lines,
+        mut dropped,
+        ..
+    } = lines_of(alloc, statements)?;
+    let mut last = DbFault {
+        line: 1,
+        kind: BadDbKind::Syntax,
+    };
+    for _ in 0..=lines.len() {
+        let text = joined(alloc, lines.as_slice())?;
+        let fault = match load(alloc, text.as_slice(), &Macros::new(alloc)) {
+            Ok(_) => return Ok(Written { text, dropped }),
+            Err(LoadError::BadDb(fault)) => fault,
+            Err(LoadError::NoMemory) => return Err(LoadError::NoMemory),
+        };
+        if fault.kind == BadDbKind::TooMany {
+            return Err(LoadError::BadDb(fault));
+        }
+        last = fault;
+        let Some(subject) = remove_line(&mut lines, fault.line) else {
+            return Err(LoadError::BadDb(fault));
+        };
+        dropped.push(subject.dropped(alloc, Reason::Refused(fault.kind))?)?;
+    }
+    Err(LoadError::BadDb(last))
+}

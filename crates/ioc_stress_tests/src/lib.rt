@@ -1,0 +1,5 @@
+//! Tests of the engine under every kind of call at once.
+#![tactic(auto)]
+
+#[cfg(test)]
+mod tests;

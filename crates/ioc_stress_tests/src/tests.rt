@@ -1,0 +1,7 @@
+//! The tests, and what they share.
+mod calling;
+mod every;
+mod kept;
+mod meter;
+mod running;
+mod text;
