@@ -24,7 +24,7 @@ returns-then-common-clause-after g c = λ answers begins.
     let w = g.S.Store.world c.args.store.now in
     let s = c.args.number in
     rw c.mark_reprocess.ensures.world (makes-active k answers w s c.args.field c.args.tally.now _ (ap (λ r. processes k r c.args.field) (sym c.record.ensures) ∙ sym c.processes.ensures ∙ c.if-not-processes.false)
-    (ap (λ (it : Common). it.active) (ap k.common (sym c.record-2.ensures) ∙ sym c.common.ensures) ∙ c.if-common.true) c.count.ensures)
+    (ap (λ (it : Common). it.active) (ap k.common (sym c.record.ensures) ∙ sym c.common.ensures) ∙ c.if-common.true) c.count.ensures)
 
 pub returns-then-common-clause-run : goal.returns-then-common-clause-run
 returns-then-common-clause-run g c =
@@ -46,7 +46,7 @@ returns-clause-after g c = λ answers begins.
     let w = g.S.Store.world c.args.store.now in
     let s = c.args.number in
     rw (after_put-idle k answers w s c.args.field (ap (λ r. processes k r c.args.field) (sym c.record.ensures) ∙ sym c.processes.ensures ∙ c.if-not-processes.false)
-    (ap (λ (it : Common). it.active) (ap k.common (sym c.record-2.ensures) ∙ sym c.common.ensures) ∙ c.if-common.false)) (rw c.mark_put.ensures.world at (c.request_present.ensures.told answers begins))
+    (ap (λ (it : Common). it.active) (ap k.common (sym c.record.ensures) ∙ sym c.common.ensures) ∙ c.if-common.false)) (rw c.mark_put.ensures.world at (c.request_present.ensures.told answers begins))
 
 pub returns-clause-run : goal.returns-clause-run
 returns-clause-run g c =
