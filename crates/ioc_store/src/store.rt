@@ -76,7 +76,7 @@ pub trait Store {
     /// Is told of a step of processing. Most stores do nothing then; no record and no device
     /// changes.
     #[inline(always)]
-    fn trace(&self, _step: &TraceStep) {}
+    fn trace(&self, _step: &TraceStep<'_>) {}
 
     ghost with_record_world: { (s : Self) (n : ℕ) (r : Self.Record)
         → Has (world s) n → world (with_record s n r) ≡ put (world s) n r };
