@@ -14,7 +14,6 @@ import os
 import pathlib
 import random
 import re
-import resource
 import select
 import shutil
 import signal
@@ -26,9 +25,9 @@ from dataclasses import dataclass
 
 sys.dont_write_bytecode = True
 import failing
-from check_agrees import ERROR, are_on_one_line, is_drawn
-from drawn import DEVICES, EVERY_FIELD, LINKS, SCANS, TYPES, mutated, pieces
-from hostile import FORMS, REFUSAL, TALLY, asking_lines, contradiction, drawn_run, parts_line
+from check_agrees import are_on_one_line, is_drawn
+from drawn import EVERY_FIELD, LINKS, mutated
+from hostile import FORMS, REFUSAL, TALLY, asking_lines, contradiction, drawn_run
 
 TOP = pathlib.Path(__file__).resolve().parent.parent
 SECONDS = 10
@@ -43,19 +42,31 @@ REFUSED = re.compile(r"bad|E(?:[1-9]|1[0-3]) [A-Za-z]+")
 # The replies of a console that a script doesn't have, beside those of hostile.FORMS.
 SESSION_FORMS = {**FORMS, "dbgf": FORMS["get"], "dbpf": FORMS["put"], "checkpoint": "ok", "tick": r"ok \d+"}
 SESSION_FORM = {verb: re.compile(f"({form}|bad)", re.S) for verb, form in SESSION_FORMS.items()}
+# The fields that ioc prints at its end.
+SHOWN = ("VAL", "STAT", "SEVR")
 NOT_OF_A_CONSOLE = ("at", "next", "done", "fault", "tally")
 # Lines of journals, of which some are no entries.
-JOURNAL_WORDS = ["0", "1", "2", "7", "00", "-1", "18446744073709551615", "18446744073709551616", "process", "put", "get", "notify", "cancel", "complete",
-                 "live", "link", "post", "interrupt", "VAL", "INP", "FLNK", "SCAN", "NOPE", "long", "int64", "text", "longtext", "enum", "fault", "later", "done",
-                 "processed", "disabled", "active", "reprocess", "E5 BadValue", "E8 Stale", "E99 None", '""', '"1"', '"\\0a"', '"\\', '"\\41"', "yes", "no",
-                 "empty", "constant", "device", "database", "PP", "NPP", "MS", "MSS", "nowhere", "own", "to", "", " "]
+JOURNAL_WORDS = [
+    *"0 1 2 7 00 -1 18446744073709551615 18446744073709551616 process put get notify cancel complete live link post interrupt".split(),
+    *"VAL INP FLNK SCAN NOPE long int64 text longtext enum fault later done processed disabled active reprocess yes no".split(),
+    *"empty constant device database PP NPP MS MSS nowhere own to".split(),
+    "E5 BadValue", "E8 Stale", "E99 None", '""', '"1"', '"\\0a"', '"\\', '"\\41"', "", " ",
+]
 SUBSTITUTIONS = [
     'file "x.db" {{ {{ P="dev:", V="1", A="b" }} }}\n',
     'file x.db {{\npattern {{ P, V }}\n{{ "dev:", 1 }}\n{{ {other}, "$(V=2)" }}\n}}\n',
     'global {{ P=dev: }}\nfile "x.db" {{ {{}} {{ P={other} }} }}\n',
     'file "$(FILE=x.db)" {{ pattern {{ P }} {{ dev: }} }} file "y.db" {{ {{ P={other} }} }}\n',
 ]
-INCLUDES = ['include "x.db"\n', "include x.db\n", '# all\ninclude "x.db"\ninclude "y.db"\n', 'include "none.db"\n', 'include "y.db"\n', "addpath(.)\ninclude x.db\n"]
+INCLUDES = [
+    'include "x.db"\n', "include x.db\n", '# all\ninclude "x.db"\ninclude "y.db"\n', 'include "none.db"\n', 'include "y.db"\n',
+    "addpath(.)\ninclude x.db\n",
+]
+# What stands in command lines that are drawn.
+ODD_WORDS = [
+    *"- -- = A= =A A=B=C -m -mA=1 --at --ticks --ticks=0 --workers=65 --workers 0 -1 --journal --console --show --trace --sets --dot".split(),
+    *"--test -h --help -V --version --nope -x none ' P=dev:,".split(), "", "x" * 3000, "\udcff", "a\nb",
+]
 
 
 @dataclass
@@ -103,7 +114,8 @@ class Runner:
             log = self.write("failed", "")
             environment = environment | {"LD_PRELOAD": str(self.library), "FAIL_WHAT": "memory", "FAIL_AT": str(failing), "FAIL_LOG": log}
         to = os.O_WRONLY | os.O_CREAT | os.O_TRUNC
-        actions = [(os.POSIX_SPAWN_OPEN, 0, given, os.O_RDONLY, 0), (os.POSIX_SPAWN_OPEN, 1, whole, to, 0o600), (os.POSIX_SPAWN_OPEN, 2, said, to, 0o600)]
+        files = [(0, given, os.O_RDONLY, 0), (1, whole, to, 0o600), (2, said, to, 0o600)]
+        actions = [(os.POSIX_SPAWN_OPEN, *file) for file in files]
         begin = time.monotonic()
         child = os.posix_spawn(f"{self.programs}/{program}", [program, *words], environment, file_actions=actions)
         status = self.wait(child)
@@ -279,7 +291,8 @@ class Case:
         text = text.replace("{{", "{").replace("}}", "}").encode("latin-1")
         if self.chance(0.4):
             text = mutated(self.generator, text)
-        self.runner.write("y.db", self.generator.choice([b'record(longin,"$(P=)y"){}\n', b'include "x.db"\n', b'include "site.db"\n', mutated(self.generator, self.of.text)]))
+        others = [b'record(longin,"$(P=)y"){}\n', b'include "x.db"\n', b'include "site.db"\n', mutated(self.generator, self.of.text)]
+        self.runner.write("y.db", self.generator.choice(others))
         site = self.runner.write(name, text)
         words = self.check_words()
         pathlib.Path(self.runner.path("all.db")).unlink(missing_ok=True)
@@ -333,9 +346,11 @@ class Case:
             verb = line.partition(" ")[0]
             if verb in NOT_OF_A_CONSOLE and self.chance(0.9):
                 line = self.generator.choice([
-                    f"tick {self.generator.choice([1, 2, 5, 20, 0, 'x', 10**7])}", "tick", "checkpoint", "dbl", f"dbl {name[:3]}*", f"dbl *{name[-1:]}", "dbl ?", f"dbpr {name}",
-                    f"dbgf {name}", f"dbpf {name} 1", f"get {name}", f"put {name} 2", f"notify {name} 1", "help", f"get {name}.{self.generator.choice(EVERY_FIELD)}",
-                    f"dbpf {name}.{self.generator.choice(sorted(LINKS))} 1"])
+                    f"tick {self.generator.choice([1, 2, 5, 20, 0, 'x', 10**7])}", "tick", "checkpoint", "help", f"dbpr {name}",
+                    "dbl", f"dbl {name[:3]}*", f"dbl *{name[-1:]}", "dbl ?", f"dbgf {name}", f"dbpf {name} 1", f"get {name}",
+                    f"put {name} 2", f"notify {name} 1", f"get {name}.{self.generator.choice(EVERY_FIELD)}",
+                    f"dbpf {name}.{self.generator.choice(sorted(LINKS))} 1",
+                ])
             drawn.append(line)
         if self.chance(0.1):
             drawn.insert(self.generator.randint(0, len(drawn)), "exit")
@@ -404,7 +419,7 @@ class Case:
         """The journal of a run agrees, and leads to the fields that the run has shown, and to its sets."""
         entries = self.runner.read(os.path.basename(journal))
         lines = lines_of(entries, made)
-        asked = [f"{name}.{at}" for name in (self.names if self.is_small else []) for at in ("VAL", "STAT", "SEVR") if self.is_lined]
+        asked = [f"{name}.{at}" for name in (self.names if self.is_small else []) for at in SHOWN if self.is_lined]
         words = [word for it in asked for word in ("--show", it)] + ["--sets"] * (sets is not None)
         ran = self.runner.run("ioc-audit", self.database, journal, *words, *self.macros)
         want((ran.status, ran.said) == (0, ""), "the journal of a run", (ran, made))
@@ -413,8 +428,8 @@ class Case:
         if sets is not None:
             want(told.pop() == sets, f"other sets than {sets!r}", ran)
         if self.is_lined:
-            want(told == [f"{name}.{at} {shown[name][place]}" for name in self.names if self.is_small for place, at in enumerate(("VAL", "STAT", "SEVR"))],
-                 "other fields", (ran, made))
+            fields = [f"{it} {shown[it.rpartition('.')[0]][SHOWN.index(it.rpartition('.')[2])]}" for it in asked]
+            want(told == fields, "other fields", (ran, made))
 
     def changed_journal(self, lines):
         """Lines with a change, and how many of them are as they were."""
@@ -431,7 +446,8 @@ class Case:
             case 3 | 4 | 5:
                 words = changed[at].split("\t")
                 place = self.generator.randrange(len(words))
-                words[place:place + self.generator.randint(0, 1)] = [self.generator.choice(JOURNAL_WORDS + [self.generator.choice(self.generator.choice(lines).split("\t"))])]
+                other = self.generator.choice(self.generator.choice(lines).split("\t"))
+                words[place:place + self.generator.randint(0, 1)] = [self.generator.choice([*JOURNAL_WORDS, other])]
                 changed[at] = "\t".join(words)
             case 6:
                 changed[at] = mutated(self.generator, changed[at].encode("latin-1")).decode("latin-1")
@@ -440,7 +456,8 @@ class Case:
                 changed = changed[: at + 1]
             case _:
                 changed.append("\t".join(self.generator.choices(JOURNAL_WORDS, k=self.generator.randint(0, 12))))
-        return changed, next((it for it, (old, new) in enumerate(zip(lines, changed)) if old != new), min(len(lines), len(changed)))
+        differing = (at for at, (old, new) in enumerate(zip(lines, changed)) if old != new)
+        return changed, next(differing, min(len(lines), len(changed)))
 
     def audit_changed(self, journal):
         """A changed journal differs at the change, or behind it, or agrees."""
@@ -511,28 +528,28 @@ class Case:
         at = self.generator.choice([self.generator.randint(1, 60), self.generator.randint(1, 600), self.generator.randint(1, 6000)])
         ran = self.runner.run(*words, given=given, failing=at, kind="without memory")
         out, whole = (STAMP.sub("TIME", it) for it in (ran.out, good.out))
-        is_console = "--console" in words
+        # Workers decide the order of calls, and so what is printed.
+        is_same = words[0] != "ioc"
         if self.runner.read("failed") == "":
-            want(ran.status == good.status and (is_console or self.is_small is False or out == whole or self.is_threaded(words)), "other output without a failure", (ran, good))
+            want(ran.status == good.status and (out == whole or not is_same), "other output without a failure", (ran, good))
             return
         self.seen[f"{words[0]} without memory: status {ran.status}"] += 1
-        want(ran.status in (4, good.status, 0 if good.status == 5 else 4), "status without memory", (ran, good))
-        if ran.status == 4 and not is_console and words[0] != "ioc-check":
+        want(ran.status in (4, good.status), "status without memory", (ran, good))
+        if ran.status == 4 and "--console" not in words and words[0] != "ioc-check":
             want(whole.startswith(out), "no beginning of the output", (ran, good))
-        if ran.status == 1:
-            want(words[0] == "ioc-check" or (ran.out, ran.said) == (good.out, good.said), "another refusal without memory", (ran, good))
-        if ran.status == good.status == 0 and not is_console and words[0] != "ioc":
+        if ran.status == 1 and words[0] != "ioc-check":
+            want((ran.out, ran.said) == (good.out, good.said), "another refusal without memory", (ran, good))
+        if ran.status == good.status == 0 and is_same:
             want(out == whole, "another output without memory", (ran, good))
-        if words[0] == "ioc" and os.path.exists(words[words.index("--journal") + 1]) and good.status == 0:
-            entries = self.runner.read("other.journal")
-            part = self.runner.write("part.journal", entries[: entries.rfind("\n") + 1])
-            told = self.runner.run("ioc-audit", self.database, part, *self.macros, kind="of a failed run")
-            want(told.status == 0, "the journal of a failed run", (told, ran))
+        if words[0] == "ioc" and good.status == 0:
+            self.audit_failed(ran)
 
-    @staticmethod
-    def is_threaded(words):
-        """Do workers decide the order of requests?"""
-        return words[0] == "ioc"
+    def audit_failed(self, ran):
+        """The whole lines of the journal of a run that failed agree."""
+        entries = self.runner.read("other.journal")
+        part = self.runner.write("part.journal", entries[: entries.rfind("\n") + 1])
+        told = self.runner.run("ioc-audit", self.database, part, *self.macros, kind="of a failed run")
+        want(told.status == 0, "the journal of a failed run", (told, ran))
 
     def unwritten(self):
         """Nobody takes the output, or the journal, or the written text: status 3 if there was some."""
@@ -552,14 +569,9 @@ class Case:
     def misused(self):
         """A drawn command line: status 2 and nothing on standard output, unless it is right or asks for help."""
         words = self.any_run()
-        odd = ["", "-", "--", "=", "A=", "=A", "A=B=C", "-m", "-mA=1", "--at", "--ticks", "--ticks=0", "--ticks=9999999", "--workers=65", "--workers", "0", "-1", "--journal", "--console",
-               "--show", "--trace", "--sets", "--dot", "--test", "-h", "--help", "-V", "--version", "--nope", "-x", "none", self.runner.folder, "x" * 3000, "\udcff", "a\nb", "'", "P=dev:,"]
         for _ in range(self.generator.randint(1, 3)):
             at = self.generator.randint(1, len(words))
-            words[at:at + self.generator.randint(0, 1)] = [self.generator.choice(odd)]
-        # Nothing is written but in the folder, and a run isn't long.
-        if any("99999" in it for it in words):
-            return
+            words[at:at + self.generator.randint(0, 1)] = [self.generator.choice([*ODD_WORDS, self.runner.folder])]
         ran = self.runner.run(words[0], *words[1:], given=self.runner.path("script"), kind="misused")
         if ran.status == 2:
             want(ran.out == "" and ran.said != "", "status 2", ran)
