@@ -1,7 +1,7 @@
 #!/usr/bin/env python3
 """Runs all programs of bin/ on databases, scripts, sessions, journals, substitution files and command lines that are drawn at random.
 
-A case is one database of drawn.py, and some ten runs on it: ioc-replay with a script, with the flags that tell more and on what ioc-check has
+A case is one database of drawn.py, and some fifteen runs on it: ioc-replay with a script, with the flags that tell more and on what ioc-check has
 written; ioc-check with its options and on files that include the database; ioc with ticks and as a console; ioc-audit on the journals of
 both, and on journals that were changed; and runs in which an allocation fails, nobody takes the output, or the command line is drawn.
 Each run must end by itself within ten seconds with a status of its manual, and print what the manual says; the runs of a case must agree
@@ -585,17 +585,16 @@ class Case:
         if self.chance(0.5):
             self.replay_telling(plain)
         self.check(plain)
-        if self.chance(0.4):
-            self.check_site()
+        self.check_site()
         for journal in (self.ticks(plain) if self.chance(0.7) else None, self.console(plain)):
-            for _ in range(self.generator.choice([0, 1, 2, 3]) if journal else 0):
+            for _ in range(self.generator.choice([1, 2, 4, 6]) if journal else 0):
                 self.audit_changed(journal)
         if self.is_small or self.chance(0.1):
-            if self.chance(0.3):
+            if self.chance(0.5):
                 self.failed()
             if self.chance(0.1):
                 self.unwritten()
-        if self.chance(0.3):
+        for _ in range(self.generator.choice([0, 1, 3])):
             self.misused()
 
 
