@@ -1,6 +1,7 @@
 //! What the program prints of its findings.
-ghost use Rattle.std.specs.Prelude.{◌≡◌, ◌+◌, ◌<◌, ◌↔◌, count_by, length};
+ghost use Rattle.std.specs.Prelude.{◌≡◌, ◌+◌, ◌<◌, ◌↔◌, count_by, length, OnOk};
 ghost use Rattle.ioc_check.specs.Counting.{is_error};
+ghost use Rattle.ioc_check.specs.Printing.{is_line_feed};
 
 use ioc_site::{Finding, Severity};
 use std::alloc::{AllocError, Global};
@@ -57,6 +58,23 @@ impl Counts {
     }
 }
 
+// Appends a text of which nothing ends the line or steers a terminal: a line feed as `\n`, a carriage
+// return as `\r`, and each other control character but a tab as `?`.
+fn add_on_one_line(text: &[u8], out: &mut Vec<u8>) -> Result<(), AllocError>
+    ensures { OnOk result (count_by is_line_feed out.new.items ≡ count_by is_line_feed out.old.items) }
+{
+    for byte in text {
+        match *byte {
+            b'\n' => out.extend_from_slice(b"\\n")?,
+            b'\r' => out.extend_from_slice(b"\\r")?,
+            b'\t' => out.push(b'\t')?,
+            0..=31 | 127 => out.push(b'?')?,
+            other => out.push(other)?,
+        }
+    }
+    Ok(())
+}
+
 // Appends the place of a finding and how bad it is.
 fn add_head(
     alloc: Global,
@@ -65,7 +83,7 @@ fn add_head(
     out: &mut Vec<u8>,
 ) -> Result<(), AllocError> {
     if let Some(file) = files.get(finding.place.file as usize) {
-        out.extend_from_slice(file.as_slice())?;
+        add_on_one_line(file.as_slice(), out)?;
     }
     let (line, column) = (finding.place.line, finding.place.column);
     let severity = match finding.severity {
@@ -90,7 +108,7 @@ pub fn add_findings(
 ) -> Result<(), AllocError> {
     for finding in findings {
         add_head(alloc, files, finding, out)?;
-        out.extend_from_slice(finding.text.as_slice())?;
+        add_on_one_line(finding.text.as_slice(), out)?;
         out.push(b'\n')?;
     }
     Ok(())
