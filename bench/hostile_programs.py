@@ -431,6 +431,12 @@ class Case:
             fields = [f"{it} {shown[it.rpartition('.')[0]][SHOWN.index(it.rpartition('.')[2])]}" for it in asked]
             want(told == fields, "other fields", (ran, made))
 
+    def audit_refused(self, plain):
+        """A database that the load refuses is refused by an audit too, whatever the journal is."""
+        journal = self.runner.write("any.journal", self.generator.choice(["", "none\n", '0\t0\t0\t1\tget\t0\tVAL\t"0"\t0\n']))
+        ran = self.runner.run("ioc-audit", self.database, journal, *self.macros)
+        want((ran.status, ran.out, ran.said) == (1, "", plain.said), "a refused database", ran)
+
     def changed_journal(self, lines):
         """Lines with a change, and how many of them are as they were."""
         changed = list(lines)
@@ -586,6 +592,8 @@ class Case:
             self.replay_telling(plain)
         self.check(plain)
         self.check_site()
+        if plain.status == 1:
+            self.audit_refused(plain)
         for journal in (self.ticks(plain) if self.chance(0.7) else None, self.console(plain)):
             for _ in range(self.generator.choice([1, 2, 4, 6]) if journal else 0):
                 self.audit_changed(journal)

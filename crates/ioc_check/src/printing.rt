@@ -1,7 +1,7 @@
 //! What the program prints of its findings.
-ghost use Rattle.std.specs.Prelude.{◌≡◌, ◌+◌, ◌<◌, ◌↔◌, count_by, length, OnOk};
+ghost use Rattle.std.specs.Prelude.{◌≡◌, ◌+◌, ◌<◌, ◌↔◌, ◌++◌, count_by, length, OnOk};
 ghost use Rattle.ioc_check.specs.Counting.{is_error};
-ghost use Rattle.ioc_check.specs.Printing.{is_line_feed};
+ghost use Rattle.ioc_check.specs.Printing.{hex_digit, is_control, one_line_byte, on_one_line};
 
 use ioc_site::{Finding, Severity};
 use std::alloc::{AllocError, Global};
@@ -58,19 +58,46 @@ impl Counts {
     }
 }
 
-// Appends a text of which nothing ends the line or steers a terminal: a line feed as `\n`, a carriage
-// return as `\r`, and each other control character but a tab as `?`.
+// Returns whether the byte is a control character.
+fn is_control(byte: u8) -> bool
+    ensures { result ≡ is_control byte }
+{
+    byte < 32 || byte == 127
+}
+
+// Returns the digit for a number below 16.
+fn hex_digit(number: u8) -> u8
+    requires { number < 16 }
+    ensures { result ≡ hex_digit number }
+{
+    if number < 10 {
+        b'0' + number
+    } else {
+        b'W' + number
+    }
+}
+
+// Appends a byte as it stands on one line.
+fn add_byte(byte: u8, out: &mut Vec<u8>) -> Result<(), AllocError>
+    ensures { OnOk result (out.new.items ≡ out.old.items ++ one_line_byte byte) }
+{
+    if is_control(byte) {
+        out.extend_from_slice(b"\\x")?;
+        out.push(hex_digit(byte / 16))?;
+        out.push(hex_digit(byte % 16))?;
+        return Ok(());
+    }
+    out.push(byte)?;
+    Ok(())
+}
+
+// Appends a text so that nothing in it ends the line or steers a terminal: each control character
+// stands as `\x` and two hexadecimal digits.
 fn add_on_one_line(text: &[u8], out: &mut Vec<u8>) -> Result<(), AllocError>
-    ensures { OnOk result (count_by is_line_feed out.new.items ≡ count_by is_line_feed out.old.items) }
+    ensures { OnOk result (out.new.items ≡ out.old.items ++ on_one_line text.now) }
 {
     for byte in text {
-        match *byte {
-            b'\n' => out.extend_from_slice(b"\\n")?,
-            b'\r' => out.extend_from_slice(b"\\r")?,
-            b'\t' => out.push(b'\t')?,
-            0..=31 | 127 => out.push(b'?')?,
-            other => out.push(other)?,
-        }
+        add_byte(*byte, out)?;
     }
     Ok(())
 }
