@@ -32,6 +32,7 @@ from hostile import FORMS, REFUSAL, TALLY, asking_lines, contradiction, drawn_ru
 TOP = pathlib.Path(__file__).resolve().parent.parent
 SECONDS = 10
 MOST_FAULTS = 20
+CLOSED = "a pipe that nobody reads"
 STAMP = re.compile(r"\d{4}-\d\d-\d\dT\d\d:\d\d:\d\d\.\d{9}Z")
 COUNTS = re.compile(r"(\d+) errors?, (\d+) warnings?\n")
 FINDING = re.compile(r"[^\n]+?:[1-9]\d*:[1-9]\d*: (error|warning): .+")
@@ -90,6 +91,9 @@ class Runner:
         self.programs, self.folder, self.library = programs, folder, library
         self.statuses, self.slowest, self.dearest, self.largest = Counter(), Counter(), Counter(), Counter()
         self.environment = {"PATH": os.environ["PATH"]}
+        # A pipe that nobody reads.
+        reading, self.closed = os.pipe()
+        os.close(reading)
 
     def path(self, name):
         return f"{self.folder}/{name}"
@@ -107,7 +111,8 @@ class Runner:
             return ""
 
     def run(self, program, *words, given="/dev/null", out=None, failing=None, kind=""):
-        """A run that has ended. Its standard output goes to the file `out` if one is named; its allocation number `failing` fails."""
+        """A run that has ended. Its standard output goes to the file `out` if one is named, or to nobody; its allocation number `failing`
+        fails."""
         whole, said = out or self.path("out"), self.path("said")
         environment = self.environment
         if failing is not None:
@@ -116,8 +121,10 @@ class Runner:
         to = os.O_WRONLY | os.O_CREAT | os.O_TRUNC
         files = [(0, given, os.O_RDONLY, 0), (1, whole, to, 0o600), (2, said, to, 0o600)]
         actions = [(os.POSIX_SPAWN_OPEN, *file) for file in files]
+        if out is CLOSED:
+            actions[1] = (os.POSIX_SPAWN_DUP2, self.closed, 1)
         begin = time.monotonic()
-        child = os.posix_spawn(f"{self.programs}/{program}", [program, *words], environment, file_actions=actions)
+        child = os.posix_spawn(f"{self.programs}/{program}", [program, *words], environment, file_actions=actions, setsigdef=[signal.SIGPIPE])
         status = self.wait(child)
         name = f"{program} {kind}".strip()
         took = time.monotonic() - begin
@@ -571,6 +578,8 @@ class Case:
                 want(ran.status == (3 if was else 0), f"status of {option} /dev/full", (ran, good))
         ran = self.runner.run(*words, given=given, out="/dev/full", kind="into /dev/full")
         want(ran.status == (3 if good.out else good.status), "status into /dev/full", (ran, good))
+        ran = self.runner.run(*words, given=given, out=CLOSED, kind="into a closed pipe")
+        want(ran.status == (3 if good.out else good.status), "status into a closed pipe", (ran, good))
 
     def misused(self):
         """A drawn command line: status 2 and nothing on standard output, unless it is right or asks for help."""
