@@ -11,9 +11,9 @@ use std::sync::Wait;
 const BYTES_AT_ONCE: usize = 65_536;
 
 // How many entries are copied at once, while calls wait, and how often after each tick.
-const ENTRIES_AT_ONCE: usize = 256;
+const ENTRIES_AT_ONCE: usize = 64;
 
-const COPIES: usize = 256;
+const COPIES: usize = 1_024;
 
 /// Writes the entries of a journal as lines, in the order of their places.
 #[derive(Drop)]

@@ -23,6 +23,7 @@ use ioc_process::steps::{mark_put, mark_reprocess};
 use ioc_record::{Given, Putter, RecordKind};
 use ioc_store::frames::Frame;
 use ioc_store::store::Store;
+use ioc_store::trace_step::TraceStep;
 use ioc_values::{Finished, IocError};
 
 // VAL is process-passive in each record type.
@@ -117,12 +118,15 @@ fn process_after_put<S: Store>(
     ensures run { HasRun S.Record.rules S.Device.gives (S.world store.old) (S.world store.new) (S.given store.old) (S.given store.new)
         frames.old frames.new }
 {
-    if !processes(store.record(number), field) {
+    let present = store.record(number);
+    if !processes(present, field) {
         return None;
     }
-    if store.record(number).common().active {
+    if present.common().active {
+        store.trace(&TraceStep::Requested(number));
         mark_reprocess(store, number);
         tally.count(Outcome::Reprocess);
+        store.trace(&TraceStep::Ended(number, Outcome::Reprocess));
         return Some(Outcome::Reprocess);
     }
     mark_put(store, number);

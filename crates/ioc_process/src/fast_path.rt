@@ -9,7 +9,7 @@ use crate::steps::{clear_marks, finish_request, is_off};
 use ioc_dbcommon::{Got, Need, Output};
 use ioc_names::RecordNo;
 use ioc_record::RecordKind;
-use ioc_store::Store;
+use ioc_store::{Store, TraceStep};
 
 /// The state of a record that a request found idle.
 #[derive(Clone, Copy)]
@@ -114,6 +114,7 @@ pub fn finish_fast<S: Store>(store: &mut S, number: RecordNo) -> Option<RecordNo
     ensures given { S.given store.new ≡ S.given store.old }
 {
     let moment = store.moment();
+    store.trace(&TraceStep::ShowsAlarm(number));
     match show_record(store.record_mut(number), moment) {
         Shown::Named(target) => Some(target),
         Shown::Done => None,

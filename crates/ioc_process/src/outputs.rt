@@ -20,6 +20,7 @@ use ioc_menus::{Severity, Status};
 use ioc_names::RecordNo;
 use ioc_record::{Given, Putter, RecordKind, put_by};
 use ioc_store::store::Store;
+use ioc_store::trace_step::TraceStep;
 use ioc_values::{Input, IocError, Value};
 
 /// Returns whether the field is PROC. A put to it processes the record.
@@ -170,7 +171,14 @@ pub fn write_value<S: Store>(
     let written = target.number;
     let field = target.field;
     let process_passive = target.process_passive;
-    if !store_value(store, number, target, value) {
+    let is_stored = store_value(store, number, target, value);
+    store.trace(&TraceStep::Written {
+        writer: number,
+        link: &target,
+        value: &value,
+        is_stored,
+    });
+    if !is_stored {
         return Written::InVain;
     }
     if is_proc(field) || passes_on(store, process_passive, written) {

@@ -10,6 +10,7 @@ pub mod one_map;
 pub mod outbox;
 pub mod scan_change;
 pub mod store;
+pub mod trace_step;
 
 pub use call::Call;
 pub use event_store::{EventStore, FollowUps};
@@ -18,3 +19,4 @@ pub use one_map::OneMap;
 pub use outbox::OutboxItem;
 pub use scan_change::ScanChange;
 pub use store::Store;
+pub use trace_step::TraceStep;

@@ -11,6 +11,7 @@ ghost use Rattle.ioc_store.specs.contracts.event_store.FollowUps.{the_row as fol
 
 use crate::event_store::{EventStore, FollowUps};
 use crate::outbox::OutboxItem;
+use crate::trace_step::TraceStep;
 use ioc_device::{Answer, Ask, Device};
 use ioc_names::RecordNo;
 use ioc_notify::{NotifyId, Waiting};
@@ -71,6 +72,11 @@ pub trait Store {
     fn cancel(&mut self, notification: NotifyId)
         ensures world { world self.new ≡ cancelled Self.Record.rules notification (world self.old) }
         ensures given { given self.new ≡ given self.old };
+
+    /// Is told of a step of processing. Most stores do nothing then; no record and no device
+    /// changes.
+    #[inline(always)]
+    fn trace(&self, _step: &TraceStep<'_>) {}
 
     ghost with_record_world: { (s : Self) (n : ℕ) (r : Self.Record)
         → Has (world s) n → world (with_record s n r) ≡ put (world s) n r };
