@@ -625,10 +625,13 @@ def main():
     words = parser.parse_args()
     seen, faults, case = Counter(), 0, words.case or 0
     room = "/dev/shm" if os.path.isdir("/dev/shm") else None
+    programs, keep = os.path.abspath(words.bin), os.path.abspath(words.keep)
     with tempfile.TemporaryDirectory(dir=room) as folder:
+        # A drawn command line may name a file to be written.
+        os.chdir(folder)
         library = failing.build(pathlib.Path(folder))
         work = os.path.join(folder, "work")
-        runner = Runner(words.bin, work, library)
+        runner = Runner(programs, work, library)
         while True:
             shutil.rmtree(work, ignore_errors=True)
             os.mkdir(work)
@@ -636,7 +639,7 @@ def main():
                 Case(runner, random.Random(f"{words.seed} {case}"), case, seen).do()
             except Fault as fault:
                 faults += 1
-                kept = os.path.join(words.keep, f"hostile-{words.seed}-{case}")
+                kept = os.path.join(keep, f"hostile-{words.seed}-{case}")
                 shutil.rmtree(kept, ignore_errors=True)
                 shutil.copytree(work, kept)
                 print(f"seed {words.seed} case {case}, files in {kept}: {fault}", flush=True)
