@@ -23,6 +23,7 @@ use ioc_process::steps::{mark_put, mark_reprocess};
 use ioc_record::{Given, Putter, RecordKind};
 use ioc_store::frames::Frame;
 use ioc_store::store::Store;
+use ioc_store::trace_step::TraceStep;
 use ioc_values::{Finished, IocError};
 
 // VAL is process-passive in each record type.
@@ -121,8 +122,10 @@ fn process_after_put<S: Store>(
         return None;
     }
     if store.record(number).common().active {
+        store.trace(&TraceStep::Requested(number));
         mark_reprocess(store, number);
         tally.count(Outcome::Reprocess);
+        store.trace(&TraceStep::Ended(number, Outcome::Reprocess));
         return Some(Outcome::Reprocess);
     }
     mark_put(store, number);
