@@ -2,6 +2,7 @@
 # Builds a program without proof, as the kit builds a proved one. The kit builds what is proved alone, but `rt try` compiles unproved
 # programs: a folder that stands for the kit here keeps the module that `rt try` hands to clang, and ends there. unproved.py makes it one
 # without the checks of a trial, and the kit's clang and linker build it.
+# With UNPROVED_INLINE=no in the environment no function is inlined, so that calls can be counted.
 # Usage: unproved.sh FOLDER CRATE, where FOLDER holds crates, crates.txt and HANDLES; the program is FOLDER/program.
 set -eu
 tools=$(cd "$(dirname "$0")" && pwd)
@@ -41,8 +42,10 @@ clang="$kit/toolchain/bin/clang --target=x86_64-unknown-linux-gnu --sysroot=$kit
 $clang -S -emit-llvm -O0 -Xclang -disable-llvm-passes "$folder/module.bc" -o "$folder/module.ll"
 rm "$folder/module.bc"
 python3 "$tools/unproved.py" "$kit" "$folder/crates" "$folder/module.ll" "$folder/plain.ll"
-# The flags with which the kit compiles a proved program.
-$clang -c -O3 -fPIE -march=x86-64 -ffunction-sections -fdata-sections -Xclang -fmerge-functions -mllvm -mergefunc-use-aliases \
+# The flags with which the kit compiles a proved program. Where nothing is inlined, functions of one text stay apart.
+level="-O3 -Xclang -fmerge-functions -mllvm -mergefunc-use-aliases"
+if [ "${UNPROVED_INLINE:-}" = no ]; then level=-O1; fi
+$clang -c $level -fPIE -march=x86-64 -ffunction-sections -fdata-sections \
   -mllvm -no-trap-after-noreturn -mllvm -trap-unreachable -mllvm -no-x86-call-frame-opt -mllvm -disable-machine-licm \
   -mllvm -disable-postra-machine-licm -mllvm -sink-common-insts=false "$folder/plain.ll" -o "$folder/program.o"
 "$kit/bin/rattle-link" --target x86_64-unknown-linux-gnu --toolchain "$kit/toolchain" -o "$folder/program" "$folder/program.o" \

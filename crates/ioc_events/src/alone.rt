@@ -118,10 +118,11 @@ fn process_after_put<S: Store>(
     ensures run { HasRun S.Record.rules S.Device.gives (S.world store.old) (S.world store.new) (S.given store.old) (S.given store.new)
         frames.old frames.new }
 {
-    if !processes(store.record(number), field) {
+    let present = store.record(number);
+    if !processes(present, field) {
         return None;
     }
-    if store.record(number).common().active {
+    if present.common().active {
         store.trace(&TraceStep::Requested(number));
         mark_reprocess(store, number);
         tally.count(Outcome::Reprocess);

@@ -48,6 +48,9 @@ pub fn run_get<S: Store>(store: &S, number: RecordNo, field: FieldNo) -> Result<
 fn count_started<S: Store>(store: &S, start: usize, tally: &mut Tally)
     ensures { tally.new ≡ counted_started tally.old (later_among (drop start (S.world store.now).calls)) }
 {
+    if store.asked() <= start {
+        return;
+    }
     tally.count_started(store.later_from(start) as u64);
 }
 

@@ -13,7 +13,7 @@ ghost use Rattle.ioc_journal_file.specs.Lines.{Reads, IsLineOf, IsReadAs};
 
 use crate::calls::{add_call, call_at};
 use crate::line_error::LineError;
-use crate::numbers::{add_number, number_at};
+use crate::numbers::{MOST_DIGITS, add_number, number_at, write_before};
 use crate::values::{add_answer, answer_at};
 use ioc_device::Answer;
 use ioc_events::Call;
@@ -41,18 +41,20 @@ pub struct Line {
     pub answers: Vec<Answer>,
 }
 
-/// Appends which entry it is.
+// Room for four numbers with a tab behind each.
+const MARK_ROOM: usize = 4 * (MOST_DIGITS + 1);
+
+/// Appends which entry it is, and a tab.
 #[tactic(auto, unfolding(crate::specs::Form::mark_text))]
 fn add_mark(out: &mut Vec<u8>, mark: &Mark) -> Result<(), AllocError>
-    ensures { OnOk result (out.new.items ≡ out.old.items ++ mark_text mark.now) }
+    ensures { OnOk result (out.new.items ≡ out.old.items ++ mark_text mark.now ++ 9 ∷ []) }
 {
-    add_number(out, mark.place)?;
-    out.push(b'\t')?;
-    add_number(out, mark.desk)?;
-    out.push(b'\t')?;
-    add_number(out, mark.call)?;
-    out.push(b'\t')?;
-    add_number(out, mark.moment)
+    let mut text = [0; MARK_ROOM];
+    let start = write_before(mark.moment, &mut text, MARK_ROOM);
+    let start = write_before(mark.call, &mut text, start);
+    let start = write_before(mark.desk, &mut text, start);
+    let start = write_before(mark.place, &mut text, start);
+    out.extend_from_slice(&text[start..])
 }
 
 /// Appends how many answers there are, and the answers.
@@ -83,7 +85,6 @@ pub fn print_entry(
     ensures { OnOk result (out.new.items ≡ out.old.items ++ line_of mark.now call.now answers.now) }
 {
     add_mark(out, mark)?;
-    out.push(b'\t')?;
     add_call(out, call)?;
     out.push(b'\t')?;
     add_answers(out, answers)?;

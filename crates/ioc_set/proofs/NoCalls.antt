@@ -2,6 +2,7 @@
 use Rattle.std.proofs.Common.{◌≡◌, ◌⊎◌, inl, inr, subst, ℕ, zero, true, false, List, [], ◌∷◌, Option, Some, None, Result, Ok, Err, refl, sym, ap, arith}
 use Rattle.std.specs.Prelude.{Contains, is_some, unwrap_or}
 use Rattle.std.specs.Option.{IfSome}
+use Rattle.std.specs.Result.{result_err}
 use Rattle.ioc_values.specs.declared.error.IocError.{IocError}
 use Rattle.ioc_values.specs.declared.error.IocError.TheVariants.{NoField}
 use Rattle.ioc_values.specs.declared.input.Input.{Input}
@@ -15,7 +16,7 @@ use Rattle.ioc_events.specs.declared.event.Event.{Event}
 use Rattle.ioc_events.specs.declared.event.Event.TheVariants.{Put, Process, Complete, Notify, Cancel}
 use Rattle.ioc_events.specs.Starting.{value_if, value_to_put}
 use Rattle.ioc_events.specs.Step.{stepped, done_alone, done_there, names, refused}
-use Rattle.ioc_set.specs.NoCalls.{no_call, why_not_put}
+use Rattle.ioc_set.specs.NoCalls.{no_call}
 
 none_is : {A : Type 0} (x : A) → None ≡ Some x → ⊥
 none_is {A = A} x e = let h : false ≡ true = ap (λ (o : Option A). is_some o) e in cc
@@ -30,19 +31,19 @@ put_there w event s field there (inl is) = there s (subst (λ (e : Event). Conta
 put_there w event s field there (inr is) = there s (subst (λ (e : Event). Contains (names e) s) (sym is.2) (first_in s []))
 
 module _ {R : Type 0} (k : RecordRules R) (answers : Answers) (w : World R) where
-  by_kind : (r : R) (field : FieldNo) (given : Input) (kind : Result FieldKind IocError) (e : IocError) → why_not_put kind ≡ Some e → put_once_tested k r field given (tested_by k r field kind) ≡ Err e
+  by_kind : (r : R) (field : FieldNo) (given : Input) (kind : Result FieldKind IocError) (e : IocError) → result_err kind ≡ Some e → put_once_tested k r field given (tested_by k r field kind) ≡ Err e
   by_kind r field given (Ok x) e why = absurd (none_is e why)
   by_kind r field given (Err x) e why = ap (λ (o : Option IocError). Err (unwrap_or o NoField)) why
 
-  by_value : (r : R) (field : FieldNo) (given : Input) (kind : Result FieldKind IocError) (e : IocError) → why_not_put kind ≡ Some e → value_if k r field given (tested_by k r field kind) ≡ Err e
+  by_value : (r : R) (field : FieldNo) (given : Input) (kind : Result FieldKind IocError) (e : IocError) → result_err kind ≡ Some e → value_if k r field given (tested_by k r field kind) ≡ Err e
   by_value r field given (Ok x) e why = absurd (none_is e why)
   by_value r field given (Err x) e why = ap (λ (o : Option IocError). Err (unwrap_or o NoField)) why
 
-  put_refused : (s : ℕ) (field : FieldNo) (given : Input) (e : IocError) → Has w s → why_not_put (kind_to_put (k.record_type (at k w s)) field) ≡ Some e → stepped k answers w (Put s field given) ≡ refused w e
+  put_refused : (s : ℕ) (field : FieldNo) (given : Input) (e : IocError) → Has w s → result_err (kind_to_put (k.record_type (at k w s)) field) ≡ Some e → stepped k answers w (Put s field given) ≡ refused w e
   unfolding stepped done_alone done_there put_field put_tested
   put_refused s field given e has why = rw (has, by_kind (at k w s) field given (kind_to_put (k.record_type (at k w s)) field) e why) refl
 
-  notify_refused : (s n : ℕ) (field : FieldNo) (given : Input) (e : IocError) → Has w s → why_not_put (kind_to_put (k.record_type (at k w s)) field) ≡ Some e → stepped k answers w (Notify s n field given) ≡ refused w e
+  notify_refused : (s n : ℕ) (field : FieldNo) (given : Input) (e : IocError) → Has w s → result_err (kind_to_put (k.record_type (at k w s)) field) ≡ Some e → stepped k answers w (Notify s n field given) ≡ refused w e
   unfolding stepped done_alone done_there value_to_put put_tested
   notify_refused s n field given e has why = rw (has, by_value (at k w s) field given (kind_to_put (k.record_type (at k w s)) field) e why) refl
 

@@ -51,6 +51,9 @@ pub fn kept_answers(calls: &Calls, spare: &mut Vec<Answer>, alloc: Global) -> Ke
     ensures answers { result ≡ answers_of (calls_of calls.now) }
     ensures empty { spare.new.items ≡ [] }
 {
+    if calls.len() == 0 {
+        return KeptAnswers::new(Vec::new(alloc));
+    }
     let mut kept = match Vec::with_capacity(alloc, calls.len()) {
         Ok(fitting) => fitting,
         Err(_refused) => mem::replace(spare, Vec::new(alloc)),

@@ -13,7 +13,6 @@ mod link_changes;
 pub mod linking;
 pub mod live_puts;
 pub mod lock_set;
-mod no_calls;
 mod recount;
 pub mod running;
 pub mod set_store;

@@ -24,7 +24,6 @@ ghost use Rattle.ioc_set.specs.Doing.{held_by};
 use crate::laws::{calm_records_are_sound, held_records_are_sound};
 use crate::linking::clear_history;
 use crate::live_puts::{LivePuts, PutsRoom};
-use crate::no_calls::why_not_put;
 use ioc_dbcommon::LinkBox;
 use ioc_events::{Event, EventEntry};
 use ioc_fields::{FieldNo, row_of};
@@ -33,7 +32,7 @@ use ioc_links::MAX_DEVICE_BYTES;
 use ioc_names::RecordNo;
 use ioc_notify::{Live, NotifyId, Waiting};
 use ioc_process::scanning::device_of;
-use ioc_record::{FieldText, RecordKind, stops_put, text_of};
+use ioc_record::{FieldText, RecordKind, kind_to_put, stops_put, text_of};
 use ioc_set_records::Members;
 use ioc_values::{IocError, Short};
 use std::alloc::{AllocError, Global};
@@ -195,7 +194,8 @@ impl<K: RecordKind, D> LockSet<K, D> {
     {
         match event {
             Event::Put { record, field, .. } | Event::Notify { record, field, .. } => {
-                why_not_put(self.members.record(*record).record_type(), *field)
+                let record_type = self.members.record(*record).record_type();
+                kind_to_put(record_type, *field).err()
             }
             _ => None,
         }

@@ -13,7 +13,7 @@ ghost use Rattle.ioc_set_records.specs.Slots.{AreAscending, contents_of};
 use crate::changing::{Change, change_slots};
 use crate::connected::are_one_part;
 use crate::marks::{fold_slots, list_all, mark};
-use crate::slots::{Slot, are_apart, place_of, seek};
+use crate::slots::{Slot, are_apart, place_of};
 use ioc_dbcommon::LinkBox;
 use ioc_device::{Answer, Ask, Device, answer_of};
 use ioc_fields::FieldNo;
@@ -296,8 +296,10 @@ impl<K: RecordKind, D> Members<K, D> {
             (λ r. record self.old { records = map.insert self.old.records number r })) }
         ensures value { result.now ≡ record_at K.rules self.old.records number }
     {
-        seek(&self.slots, &mut self.latest, number);
-        let place = self.latest;
+        let Some(place) = place_of(&self.slots, self.latest, number) else {
+            unreachable!()
+        };
+        self.latest = place;
         mark(&mut self.slots, &mut self.changed, place);
         &mut self.slots[place].fields
     }

@@ -93,6 +93,24 @@ fn looked_for<K, D>(slots: &[Slot<K, D>], number: RecordNo) -> Option<usize>
     searched(slots, number)
 }
 
+// Returns the place of a record that isn't at the guess: it tries the place next to it, then looks for
+// the record.
+fn beside_or_looked_for<K, D>(
+    slots: &[Slot<K, D>],
+    guess: usize,
+    number: RecordNo,
+) -> Option<usize>
+    requires { AreAscending slots.now }
+    ensures found { IfSome result (λ i. (i < length slots.now) × (slice_index (numbers_of slots.now) i ≡ number)) }
+    ensures absent { IfNone result ((i : ℕ) → i < length slots.now → slice_index (numbers_of slots.now) i ≢ number) }
+{
+    let next = beside(slots, guess, number);
+    if stands_at(slots, next, number) {
+        return Some(next);
+    }
+    looked_for(slots, number)
+}
+
 /// Returns the place of a record. It tries the guess and the place next to it, which is mostly
 /// right for a record that a link leads to, then the place for evenly spaced numbers, and then a
 /// binary search.
@@ -102,39 +120,9 @@ pub fn place_of<K, D>(slots: &[Slot<K, D>], guess: usize, number: RecordNo) -> O
     ensures found { IfSome result (λ i. (i < length slots.now) × (slice_index (numbers_of slots.now) i ≡ number)) }
     ensures absent { IfNone result ((i : ℕ) → i < length slots.now → slice_index (numbers_of slots.now) i ≢ number) }
 {
-    if stands_at(slots, guess, number) {
-        return Some(guess);
-    }
-    let next = beside(slots, guess, number);
-    if stands_at(slots, next, number) {
-        return Some(next);
-    }
-    looked_for(slots, number)
-}
-
-// Returns the place of a record of the set, guessed as [`place_of`] does.
-#[inline(always)]
-fn sought<K, D>(slots: &[Slot<K, D>], guess: usize, number: RecordNo) -> usize
-    requires ascending { AreAscending slots.now }
-    requires there { IsTrue (contains_key (records_of slots.now) number) }
-    ensures { (result < length slots.now) × (slice_index (numbers_of slots.now) result ≡ number) }
-{
-    let Some(place) = place_of(slots, guess, number) else {
-        unreachable!()
-    };
-    place
-}
-
-/// Sets the guess to the place of a record of the set. If the guess is right already, which is
-/// mostly so, nothing is stored.
-#[inline(always)]
-pub fn seek<K, D>(slots: &[Slot<K, D>], guess: &mut usize, number: RecordNo)
-    requires ascending { AreAscending slots.now }
-    requires there { IsTrue (contains_key (records_of slots.now) number) }
-    ensures { (guess.new < length slots.now) × (slice_index (numbers_of slots.now) guess.new ≡ number) }
-{
-    if !stands_at(slots, *guess, number) {
-        *guess = sought(slots, *guess, number);
+    match slots.get(guess) {
+        Some(slot) if slot.number.index() == number.index() => Some(guess),
+        _ => beside_or_looked_for(slots, guess, number),
     }
 }
 

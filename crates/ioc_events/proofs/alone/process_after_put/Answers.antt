@@ -12,7 +12,7 @@ returns-then-not-processes-clause-after g c = λ answers begins.
     let lawful = g.met.S.Record.RecordKind.lawful in
     let w = g.S.Store.world c.args.store.now in
     let s = c.args.number in
-    makes-plain k answers w s c.args.field c.args.tally.now (ap (λ r. processes k r c.args.field) (sym c.record.ensures) ∙ sym c.processes.ensures ∙ c.if-not-processes.true)
+    makes-plain k answers w s c.args.field c.args.tally.now (ap (λ r. processes k r c.args.field) (sym c.record-present.ensures) ∙ sym c.processes.ensures ∙ c.if-not-processes.true)
 
 pub returns-then-not-processes-clause-run : goal.returns-then-not-processes-clause-run
 returns-then-not-processes-clause-run g c = has_run_same g.S.Record.RecordKind.rules _ c.requires.run.empty
@@ -23,8 +23,8 @@ returns-then-common-clause-after g c = λ answers begins.
     let lawful = g.met.S.Record.RecordKind.lawful in
     let w = g.S.Store.world c.args.store.now in
     let s = c.args.number in
-    rw c.mark_reprocess.ensures.world (makes-active k answers w s c.args.field c.args.tally.now _ (ap (λ r. processes k r c.args.field) (sym c.record.ensures) ∙ sym c.processes.ensures ∙ c.if-not-processes.false)
-    (ap (λ (it : Common). it.active) (ap k.common (sym c.record-2.ensures) ∙ sym c.common.ensures) ∙ c.if-common.true) c.count.ensures)
+    rw c.mark_reprocess.ensures.world (makes-active k answers w s c.args.field c.args.tally.now _ (ap (λ r. processes k r c.args.field) (sym c.record-present.ensures) ∙ sym c.processes.ensures ∙ c.if-not-processes.false)
+    (ap (λ (it : Common). it.active) (ap k.common (sym c.record-present.ensures) ∙ sym c.common.ensures) ∙ c.if-common.true) c.count.ensures)
 
 pub returns-then-common-clause-run : goal.returns-then-common-clause-run
 returns-then-common-clause-run g c =
@@ -45,8 +45,8 @@ returns-clause-after g c = λ answers begins.
     let lawful = g.met.S.Record.RecordKind.lawful in
     let w = g.S.Store.world c.args.store.now in
     let s = c.args.number in
-    rw (after_put-idle k answers w s c.args.field (ap (λ r. processes k r c.args.field) (sym c.record.ensures) ∙ sym c.processes.ensures ∙ c.if-not-processes.false)
-    (ap (λ (it : Common). it.active) (ap k.common (sym c.record-2.ensures) ∙ sym c.common.ensures) ∙ c.if-common.false)) (rw c.mark_put.ensures.world at (c.request_present.ensures.told answers begins))
+    rw (after_put-idle k answers w s c.args.field (ap (λ r. processes k r c.args.field) (sym c.record-present.ensures) ∙ sym c.processes.ensures ∙ c.if-not-processes.false)
+    (ap (λ (it : Common). it.active) (ap k.common (sym c.record-present.ensures) ∙ sym c.common.ensures) ∙ c.if-common.false)) (rw c.mark_put.ensures.world at (c.request_present.ensures.told answers begins))
 
 pub returns-clause-run : goal.returns-clause-run
 returns-clause-run g c =
