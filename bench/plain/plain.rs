@@ -7,18 +7,25 @@
 //! records, which forward to each other. With `post`, each thread posts an event for which the first record of its chain waits, and
 //! serves the request from the callback queues. Prints the calls of all threads in a millisecond.
 //!
+//! `plain TICKS THREADS RECORDS scan` does what `ioc` does on the database of bench/ioc.py: one thread walks the list of all records
+//! TICKS times and requests each, while the others wait at the callback queues. There are 1,000 sets of RECORDS records; the first of a
+//! set reads a device, and each other one the record before it.
+//!
 //! `rustc -O plain.rs` builds it.
 use std::collections::{BTreeMap, VecDeque};
 use std::hint::black_box;
 use std::sync::atomic::{AtomicBool, AtomicUsize, Ordering};
 use std::sync::{Arc, Condvar, Mutex, RwLock};
-use std::time::Instant;
+use std::time::{Instant, SystemTime, UNIX_EPOCH};
 
 /// The number of places in the journal.
 const PLACES: usize = 4_194_304;
 
 /// The number of calls in the history of a set.
 const HISTORY: usize = 64;
+
+/// The number of sets that are scanned.
+const SCANNED: usize = 1000;
 
 /// The number of requests of an active record in a row after which it gets an alarm.
 const MAX_LOCK: u8 = 10;
@@ -73,6 +80,7 @@ struct Record {
     disable: Option<Box<Link>>,
     forward: Option<Box<Link>>,
     input: Option<Box<Link>>,
+    reads_device: bool,
     disable_value: i16,
     disable_input: i16,
     disable_severity: Severity,
@@ -165,6 +173,7 @@ impl Record {
             disable: None,
             forward: next.map(link),
             input: None,
+            reads_device: false,
             disable_value: 1,
             disable_input: 0,
             disable_severity: Severity::None,
@@ -309,7 +318,7 @@ impl Record {
     }
 }
 
-/// Records that links join, and their history.
+/// Records that links join, their device, and their history.
 struct Set {
     /// The numbers of the records, in order.
     numbers: Vec<usize>,
@@ -321,6 +330,10 @@ struct Set {
     base_tally: Tally,
     /// The places of the records that wait for a record that they forward to.
     waiting: Vec<usize>,
+    /// How often the device was read.
+    reads: i32,
+    /// What the device returned in the call, if it was read; no call of these programs reads it twice.
+    answer: Option<i32>,
 }
 
 impl Set {
@@ -337,7 +350,23 @@ impl Set {
             tally: Tally::default(),
             base_tally: Tally::default(),
             waiting: Vec::with_capacity(length),
+            reads: 0,
+            answer: None,
         }
+    }
+
+    /// Returns a set of scanned records: the first reads the device, and each other one the record before it.
+    fn scanned(first: usize, length: usize) -> Self {
+        let mut set = Set::new(first, length);
+        for (place, record) in set.records.iter_mut().enumerate() {
+            record.scan = Scan::Periodic;
+            record.forward = None;
+            record.reads_device = place == 0;
+            let source = |number| Box::new(Link { text: [0; 120], lead: Some((number, 0)) });
+            record.input = (first + place).checked_sub(1).filter(|_| place > 0).map(source);
+        }
+        set.base = set.records.clone();
+        set
     }
 
     /// Returns the place of a record: that of evenly spread numbers, or else by binary search.
@@ -374,6 +403,13 @@ impl Set {
             if !self.records[place].is_disabled() {
                 if let Some(value) = self.read(&self.records[place].input) {
                     self.records[place].value = value;
+                    self.records[place].is_undefined = false;
+                }
+                if self.records[place].reads_device {
+                    self.reads = self.reads.wrapping_add(1);
+                    self.answer = Some(self.reads);
+                    self.records[place].value = self.reads;
+                    self.records[place].is_undefined = false;
                 }
             }
         }
@@ -497,6 +533,8 @@ struct Apart<T>(T);
 
 struct Engine {
     is_closed: AtomicBool,
+    /// The records that are scanned.
+    scanned: Mutex<Vec<usize>>,
     /// The number of the set of each record.
     homes: Vec<AtomicUsize>,
     sets: RwLock<Vec<Arc<Mutex<Set>>>>,
@@ -511,12 +549,13 @@ struct Desk {
 }
 
 impl Engine {
-    /// Returns an engine with this many chains of this length, each in a set of its own.
-    fn new(chains: usize, length: usize) -> Self {
+    /// Returns an engine with this many sets of this length, each made of the number of its first record and its length.
+    fn new(chains: usize, length: usize, make: impl Fn(usize, usize) -> Set) -> Self {
         let home = |number| AtomicUsize::new(number / length);
-        let set = |chain| Arc::new(Mutex::new(Set::new(chain * length, length)));
+        let set = |chain| Arc::new(Mutex::new(make(chain * length, length)));
         Engine {
             is_closed: AtomicBool::new(false),
+            scanned: Mutex::new((0..chains * length).collect()),
             homes: (0..chains * length).map(home).collect(),
             sets: RwLock::new((0..chains).map(set).collect()),
             journal: Apart(Mutex::new(Journal { entries: Vec::new(), held: 0 })),
@@ -548,6 +587,7 @@ impl Engine {
     fn process(&self, desk: &mut Desk, number: usize, moment: u64) -> Option<(Reply, usize)> {
         self.with_set(number, |set, place| {
             self.journal.0.lock().unwrap().hold()?;
+            set.answer = None;
             let reply = Reply::Outcome(set.request(place, moment));
             let entry = Entry {
                 moment,
@@ -555,7 +595,7 @@ impl Engine {
                 call: desk.calls,
                 event: Event::Process(number),
                 reply,
-                answers: [0; 3],
+                answers: set.answer.map_or([0; 3], |value| [1, value as u64, 0]),
             };
             set.keep(entry);
             let filled = self.journal.0.lock().unwrap().fill(entry);
@@ -603,6 +643,62 @@ impl Engine {
     }
 }
 
+impl Engine {
+    /// Requests all scanned records.
+    fn scan(&self, desk: &mut Desk, walked: &mut Vec<usize>) {
+        walked.clear();
+        walked.extend(self.scanned.lock().unwrap().iter());
+        for number in walked.iter() {
+            let moment = SystemTime::now().duration_since(UNIX_EPOCH).map_or(0, |time| time.as_nanos() as u64);
+            assert!(self.process(desk, *number, moment).is_some(), "a request was refused");
+        }
+    }
+
+    /// Forgets the entries of the journal if there is room for a quarter of them only.
+    fn forget_entries(&self) {
+        let mut journal = self.journal.0.lock().unwrap();
+        if journal.entries.len() > PLACES / 4 * 3 {
+            journal.entries.clear();
+        }
+    }
+
+    /// Serves what waits, by one of several threads, until the engine is closed.
+    fn serve(&self, desk: &mut Desk) {
+        while !self.is_closed.load(Ordering::Acquire) {
+            if !self.serve_one(desk, 0) {
+                let mut waiting = self.scanning.waiting.lock().unwrap();
+                *waiting += 1;
+                let mut waiting = self.scanning.wake.wait_while(waiting, |_| !self.is_closed.load(Ordering::Acquire)).unwrap();
+                *waiting -= 1;
+            }
+        }
+    }
+
+    /// Ends the threads that serve.
+    fn close(&self) {
+        let _waiting = self.scanning.waiting.lock().unwrap();
+        self.is_closed.store(true, Ordering::Release);
+        self.scanning.wake.notify_all();
+    }
+}
+
+/// Scans all records so many times by one thread, while others wait at the queues.
+fn scans(ticks: usize, workers: usize, length: usize) {
+    let engine = Engine::new(SCANNED, length, Set::scanned);
+    std::thread::scope(|scope| {
+        for worker in 0..workers {
+            let engine = &engine;
+            scope.spawn(move || engine.serve(&mut Desk { number: worker as u64 + 1, calls: 0 }));
+        }
+        let (mut desk, mut walked) = (Desk { number: 0, calls: 0 }, Vec::new());
+        for _ in 0..ticks {
+            engine.scan(&mut desk, &mut walked);
+            engine.forget_entries();
+        }
+        engine.close();
+    });
+}
+
 /// Posts the events of one thread, and serves their requests.
 fn posts(engine: &Engine, thread: usize, count: u64) {
     let mut desk = Desk { number: thread as u64, calls: 0 };
@@ -627,11 +723,15 @@ fn calls(engine: &Engine, thread: usize, count: u64, number: usize) {
 fn main() {
     let words: Vec<String> = std::env::args().skip(1).collect();
     let is_post = words.get(3).is_some_and(|word| word == "post");
+    let is_scan = words.get(3).is_some_and(|word| word == "scan");
     let words: Vec<usize> = words.iter().take(3).map(|word| word.parse().expect("a number")).collect();
     let [count, threads, length] = words[..] else {
-        panic!("usage: plain CALLS THREADS RECORDS [post]");
+        panic!("usage: plain CALLS THREADS RECORDS [post | scan]");
     };
-    let engine = Engine::new(threads, length);
+    if is_scan {
+        return scans(count, threads, length);
+    }
+    let engine = Engine::new(threads, length, Set::new);
     let begun = Instant::now();
     std::thread::scope(|scope| {
         for thread in 0..threads {

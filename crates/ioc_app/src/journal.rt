@@ -1,7 +1,7 @@
 //! The journal's file.
 use crate::fault::RunFault;
 use ioc_app_rules::{add_entries, add_entry};
-use ioc_engine::{Desk, Device, Engine, EngineName, Excerpt, Report};
+use ioc_engine::{Desk, Device, Engine, EngineName, Excerpt, JournalEntry, Report};
 use ioc_program::Reason;
 use std::alloc::Global;
 use std::io::Write;
@@ -11,9 +11,9 @@ use std::sync::Wait;
 const BYTES_AT_ONCE: usize = 65_536;
 
 // How many entries are copied at once, while calls wait, and how often after each tick.
-const ENTRIES_AT_ONCE: usize = 256;
+const ENTRIES_AT_ONCE: usize = 64;
 
-const COPIES: usize = 256;
+const COPIES: usize = 1_024;
 
 /// Writes the entries of a journal as lines, in the order of their places.
 #[derive(Drop)]
@@ -42,13 +42,14 @@ impl<J: Write + Drop> JournalWriter<J> {
         }
     }
 
-    // Writes the lines that aren't written yet.
+    // Writes the lines that aren't written yet. If that fails, they are left out.
     fn flush(&mut self) -> Result<(), RunFault> {
-        if let Err(error) = self.out.write_all(&self.text) {
-            return Err(RunFault::Journal(Reason::of(&error)));
-        }
+        let written = self.out.write_all(&self.text);
         self.text.clear();
-        Ok(())
+        match written {
+            Ok(()) => Ok(()),
+            Err(error) => Err(RunFault::Journal(Reason::of(&error))),
+        }
     }
 
     // Writes the lines that aren't written yet if there are many.
@@ -59,10 +60,41 @@ impl<J: Write + Drop> JournalWriter<J> {
         self.flush()
     }
 
-    // Adds the lines of these entries, which follow those before.
+    // Adds the lines of these entries, which follow those before, or none of them.
     fn add(&mut self, excerpt: &Excerpt) -> Result<(), RunFault> {
-        self.place = add_entries(&mut self.text, excerpt.first, &excerpt.entries)?;
+        let before = self.text.len();
+        match add_entries(&mut self.text, excerpt.first, &excerpt.entries) {
+            Ok(place) => self.place = place,
+            Err(error) => {
+                self.text.truncate(before);
+                return Err(RunFault::from(error));
+            }
+        }
         self.flush_many()
+    }
+
+    // Adds the line of the entry at a place, or nothing.
+    fn add_one(&mut self, place: u64, kept: &JournalEntry) -> Result<(), RunFault> {
+        let before = self.text.len();
+        if let Err(error) = add_entry(&mut self.text, place, kept) {
+            self.text.truncate(before);
+            return Err(RunFault::from(error));
+        }
+        self.flush_many()
+    }
+
+    // Adds the lines of the entries of a report beyond those before.
+    fn add_rest<B: EngineName<D>, D: Device>(
+        &mut self,
+        report: &Report<B, D>,
+    ) -> Result<(), RunFault> {
+        for place in self.place..u64::MAX {
+            let Some(kept) = report.entry_at(place) else {
+                break;
+            };
+            self.add_one(place, kept)?;
+        }
+        Ok(())
     }
 
     // Adds the lines of the entries that an engine has beyond those before, and returns whether
@@ -120,7 +152,7 @@ impl<J: Write + Drop> JournalWriter<J> {
         Ok(())
     }
 
-    /// Writes the entries of a report beyond those before.
+    /// Writes the entries of a report beyond those before, as many as there is memory for.
     ///
     /// # Errors
     ///
@@ -129,13 +161,9 @@ impl<J: Write + Drop> JournalWriter<J> {
         &mut self,
         report: &Report<B, D>,
     ) -> Result<(), RunFault> {
-        for place in self.place..u64::MAX {
-            let Some(kept) = report.entry_at(place) else {
-                break;
-            };
-            add_entry(&mut self.text, place, kept)?;
-            self.flush_many()?;
-        }
-        self.flush()
+        let added = self.add_rest(report);
+        let flushed = self.flush();
+        added?;
+        flushed
     }
 }

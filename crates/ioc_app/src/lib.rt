@@ -13,8 +13,6 @@ mod task;
 
 pub use console::Console;
 pub use fault::RunFault;
-pub use ioc_app_rules::{
-    Args, CountingDevice, Mode, PROGRAM, add_entry, counting_devices, ioc_args,
-};
+pub use ioc_app_rules::{Args, CountingDevice, Mode, PROGRAM, counting_devices, ioc_args};
 pub use running::{Outputs, Plant, ioc_run};
 pub use task::{Task, Ticks};

@@ -35,19 +35,28 @@ fn lines_of<B: EngineName<D>, D: Device>(
     Ok(lines)
 }
 
-// Writes the entries of a report's journal that aren't written yet, if the journal is kept.
+// Writes the entries of a report's journal that aren't written yet, if the journal is kept. If the
+// run has ended early since they couldn't be, no more are written. Returns why the run has ended
+// early, if it has.
 fn write_journal<B: EngineName<D>, D: Device, J: Write + Drop>(
     report: &Report<B, D>,
+    ran: Result<(), RunFault>,
     journal: &mut Option<JournalWriter<J>>,
 ) -> Result<(), RunFault> {
-    match journal {
-        Some(writer) => writer.write_rest(report),
-        None => Ok(()),
+    match (ran, journal) {
+        (Err(RunFault::Journal(reason)), _) => Err(RunFault::Journal(reason)),
+        (ran, Some(writer)) => {
+            let written = writer.write_rest(report);
+            ran?;
+            written
+        }
+        (ran, None) => ran,
     }
 }
 
-/// Writes what a run leaves, unless it has ended early: the rest of the journal if it is kept, a line
-/// for each record, in the order of the database text, and the line of the counts of requests.
+/// Writes what a run leaves: the rest of the journal if it is kept, and, unless the run has ended
+/// early, a line for each record, in the order of the database text, and the line of the counts of
+/// requests.
 ///
 /// # Errors
 ///
@@ -60,10 +69,7 @@ pub fn end<B: EngineName<D>, D: Device, W: Write + Drop, J: Write + Drop>(
     ran: Result<(), RunFault>,
     streams: &mut Streams<W, J>,
 ) -> Result<(), RunFault> {
-    let kept = match ran {
-        Ok(()) => write_journal(&report, &mut streams.journal),
-        Err(fault) => Err(fault),
-    };
+    let kept = write_journal(&report, ran, &mut streams.journal);
     let is_complete = report.refused() == 0;
     let lines = lines_of(alloc, report);
     kept?;

@@ -1,6 +1,7 @@
 //! What the program prints of its findings.
-ghost use Rattle.std.specs.Prelude.{◌≡◌, ◌+◌, ◌<◌, ◌↔◌, count_by, length};
+ghost use Rattle.std.specs.Prelude.{◌≡◌, ◌+◌, ◌<◌, ◌↔◌, ◌++◌, count_by, length, OnOk};
 ghost use Rattle.ioc_check.specs.Counting.{is_error};
+ghost use Rattle.ioc_check.specs.Printing.{hex_digit, is_control, one_line_byte, on_one_line};
 
 use ioc_site::{Finding, Severity};
 use std::alloc::{AllocError, Global};
@@ -57,6 +58,50 @@ impl Counts {
     }
 }
 
+// Returns whether the byte is a control character.
+fn is_control(byte: u8) -> bool
+    ensures { result ≡ is_control byte }
+{
+    byte < 32 || byte == 127
+}
+
+// Returns the digit for a number below 16.
+fn hex_digit(number: u8) -> u8
+    requires { number < 16 }
+    ensures { result ≡ hex_digit number }
+{
+    if number < 10 {
+        b'0' + number
+    } else {
+        b'W' + number
+    }
+}
+
+// Appends a byte as it stands on one line.
+fn add_byte(byte: u8, out: &mut Vec<u8>) -> Result<(), AllocError>
+    ensures { OnOk result (out.new.items ≡ out.old.items ++ one_line_byte byte) }
+{
+    if is_control(byte) {
+        out.extend_from_slice(b"\\x")?;
+        out.push(hex_digit(byte / 16))?;
+        out.push(hex_digit(byte % 16))?;
+        return Ok(());
+    }
+    out.push(byte)?;
+    Ok(())
+}
+
+// Appends a text so that nothing in it ends the line or steers a terminal: each control character
+// stands as `\x` and two hexadecimal digits.
+fn add_on_one_line(text: &[u8], out: &mut Vec<u8>) -> Result<(), AllocError>
+    ensures { OnOk result (out.new.items ≡ out.old.items ++ on_one_line text.now) }
+{
+    for byte in text {
+        add_byte(*byte, out)?;
+    }
+    Ok(())
+}
+
 // Appends the place of a finding and how bad it is.
 fn add_head(
     alloc: Global,
@@ -65,7 +110,7 @@ fn add_head(
     out: &mut Vec<u8>,
 ) -> Result<(), AllocError> {
     if let Some(file) = files.get(finding.place.file as usize) {
-        out.extend_from_slice(file.as_slice())?;
+        add_on_one_line(file.as_slice(), out)?;
     }
     let (line, column) = (finding.place.line, finding.place.column);
     let severity = match finding.severity {
@@ -90,7 +135,7 @@ pub fn add_findings(
 ) -> Result<(), AllocError> {
     for finding in findings {
         add_head(alloc, files, finding, out)?;
-        out.extend_from_slice(finding.text.as_slice())?;
+        add_on_one_line(finding.text.as_slice(), out)?;
         out.push(b'\n')?;
     }
     Ok(())

@@ -172,9 +172,10 @@ impl<K, B: JournalName<K>> Entries<K, B> {
     ) -> Result<Vec<JournalEntry>, AllocError>
         ensures { IfOk result (λ copies. copies.items ≡ take most (drop from self.now.filled)) }
     {
-        let mut copies = Vec::new(alloc);
+        let count = most.min(self.len().saturating_sub(from as usize));
+        let mut copies = Vec::with_capacity(alloc, count)?;
         let mut place = from;
-        for _ in 0..most.min(self.len()) {
+        for _ in 0..count {
             let Some(entry) = self.at(place) else {
                 return Ok(copies);
             };

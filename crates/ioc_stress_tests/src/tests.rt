@@ -4,4 +4,5 @@ mod every;
 mod kept;
 mod meter;
 mod running;
+mod stopping;
 mod text;

@@ -4,8 +4,8 @@ use crate::tests::kept::Lines;
 use crate::tests::text::{COUNTED, LATER, RECORDS, text};
 use ioc_auditing::{Audited, Auditor, audit};
 use ioc_engine::{
-    Clock, Database, Device, Engine, EngineName, IocError, LoadError, Macros, Record, Reply,
-    Report, StoppedRecord, load,
+    Clock, Database, Device, Engine, EngineName, IocError, Macros, Record, Reply, Report,
+    StoppedRecord, load,
 };
 use ioc_fields::{CommonField, FieldNo, OwnField};
 use ioc_record::text_of;
@@ -74,8 +74,8 @@ fn calls_then_close<B: EngineName<D>, D: Device, C: Clock + Drop, R: Wait>(
     made
 }
 
-// Serves the requests that wait until the engine is closed.
-fn serve<B: EngineName<D>, D: Device, C: Clock + Drop, R: Wait>(
+/// Serves the requests that wait until the engine is closed. No entry leaves memory meanwhile.
+pub fn serve<B: EngineName<D>, D: Device, C: Clock + Drop, R: Wait>(
     rt: &R,
     alloc: Global,
     engine: &Engine<B, D, C>,
@@ -143,15 +143,15 @@ fn is_alike(fields: &Record, other: &Record) -> bool {
     true
 }
 
-// Returns whether all records have the same fields as those of a map.
-fn are_alike<D>(records: &[StoppedRecord<D>], map: &[Record]) -> bool {
+/// Returns whether all records have the same fields as those of a map.
+pub fn are_alike<D>(records: &[StoppedRecord<D>], map: &[Record]) -> bool {
     for stopped in records {
         match map.get(stopped.number.index()) {
             Some(other) if is_alike(&stopped.fields, other) => (),
             _ => return false,
         }
     }
-    records.len() == RECORDS
+    records.len() == map.len()
 }
 
 // Returns the number of records that await their devices.
@@ -163,17 +163,17 @@ fn awaiting<D>(records: &[StoppedRecord<D>]) -> u64 {
     active
 }
 
-// Returns whether all devices are given back with their records.
-fn have_devices<D>(records: &[StoppedRecord<D>]) -> bool {
+/// Returns how many records have a device.
+pub fn devices_in<D>(records: &[StoppedRecord<D>]) -> usize {
     let mut devices = 0usize;
     for stopped in records {
         devices = devices.saturating_add(usize::from(stopped.device.is_some()));
     }
-    devices == LATER.len().saturating_add(COUNTED.len())
+    devices
 }
 
-// Returns whether requests and tickets add up.
-fn adds_up<B: EngineName<D>, D: Device>(report: &Report<B, D>) -> bool {
+/// Returns whether requests and tickets add up.
+pub fn adds_up<B: EngineName<D>, D: Device>(report: &Report<B, D>) -> bool {
     let tally = report.tally();
     let tickets = report.tickets();
     let told = tally
@@ -186,15 +186,10 @@ fn adds_up<B: EngineName<D>, D: Device>(report: &Report<B, D>) -> bool {
         && tickets.spent.saturating_add(tickets.handed_back) == tickets.begun
 }
 
-// Loads the database.
-fn loaded(alloc: Global) -> Result<Database, LoadError> {
-    let text = text(alloc)?;
-    load(alloc, text.as_bytes(), &Macros::new(alloc))
-}
-
-// Makes the calls of a journal again on one map. Returns the auditor if all of them agree.
-fn again(alloc: Global, lines: &Lines) -> Result<Option<Auditor>, IocError> {
-    let Ok(database) = loaded(alloc) else {
+/// Makes the calls of a journal again on one map of the records of a text. Returns the auditor if
+/// all of them agree.
+pub fn again(alloc: Global, text: &[u8], lines: &Lines) -> Result<Option<Auditor>, IocError> {
+    let Ok(database) = load(alloc, text, &Macros::new(alloc)) else {
         return Ok(None);
     };
     let Database { records, .. } = database;
@@ -209,7 +204,7 @@ fn again(alloc: Global, lines: &Lines) -> Result<Option<Auditor>, IocError> {
         &mut None,
         &mut out,
     ) {
-        Ok(Audited::Agree(count)) if count == lines.next && count >= ENTRIES => Ok(Some(auditor)),
+        Ok(Audited::Agree(count)) if count == lines.next => Ok(Some(auditor)),
         _ => Ok(None),
     }
 }
@@ -228,8 +223,11 @@ pub fn is_audited<
     let tally = report.tally();
     let adds_up = adds_up(&report);
     let records = report.into_records(alloc)?;
-    let is_complete = tally.started == tally.completed.saturating_add(awaiting(records.as_slice()));
-    match again(alloc, &lines)? {
+    let is_complete = tally.started == tally.completed.saturating_add(awaiting(records.as_slice()))
+        && devices_in(records.as_slice()) == LATER.len().saturating_add(COUNTED.len())
+        && records.len() == RECORDS
+        && lines.next >= ENTRIES;
+    match again(alloc, text(alloc)?.as_bytes(), &lines)? {
         Some(auditor) => {
             Ok(adds_up && is_complete && are_alike(records.as_slice(), auditor.map().records()))
         }

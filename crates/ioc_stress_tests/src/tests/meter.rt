@@ -2,6 +2,15 @@
 use crate::tests::text::{COUNTED, LATER};
 use ioc_engine::{Answer, Device, DeviceName, Value};
 use std::alloc::{AllocError, Global};
+use std::sync::Arc;
+use std::sync::atomic::{AtomicU64, Ordering};
+use std::thread;
+
+// The number of times that a flag is looked at before a thread stops waiting.
+const TURNS: u64 = 1_000_000;
+
+/// A flag that several threads see.
+pub type Flag = Arc<AtomicU64, Global>;
 
 /// A device of the tests.
 #[derive(Drop)]
@@ -10,6 +19,29 @@ pub enum Meter {
     Later,
     /// It answers at once, with one number more each time.
     Counting(i32),
+    /// Raises the first flag when it is asked, and answers once the second one is raised.
+    Holding(Flag, Flag),
+}
+
+/// Returns whether a flag was raised in time.
+pub fn seen(flag: &AtomicU64) -> bool {
+    for _ in 0..TURNS {
+        if flag.load(Ordering::SeqCst) != 0 {
+            return true;
+        }
+        thread::yield_now();
+    }
+    false
+}
+
+// Reports that the device was asked, and waits until it may answer.
+fn hold(asked: &AtomicU64, answered: &AtomicU64) -> Answer {
+    asked.store(1, Ordering::SeqCst);
+    if seen(answered) {
+        Answer::Done(Value::Long(7))
+    } else {
+        Answer::Fault
+    }
 }
 
 // Answers with the next number.
@@ -26,6 +58,7 @@ impl Device for Meter {
         match self {
             Meter::Later => Answer::Later,
             Meter::Counting(next) => count(next),
+            Meter::Holding(asked, answered) => hold(asked, answered),
         }
     }
 
@@ -43,5 +76,20 @@ pub fn devices(alloc: Global) -> Result<Vec<(DeviceName, Meter)>, AllocError> {
     for name in &COUNTED {
         all.push((DeviceName::cut(name.as_bytes()), Meter::Counting(0)))?;
     }
+    Ok(all)
+}
+
+/// Returns two devices that answer later, and one that waits for a flag.
+pub fn held_devices(
+    alloc: Global,
+    asked: &Flag,
+    answered: &Flag,
+) -> Result<Vec<(DeviceName, Meter)>, AllocError> {
+    let mut all = Vec::new(alloc);
+    for name in LATER.iter().take(2) {
+        all.push((DeviceName::cut(name.as_bytes()), Meter::Later))?;
+    }
+    let holding = Meter::Holding(asked.clone()?, answered.clone()?);
+    all.push((DeviceName::cut(b"holding"), holding))?;
     Ok(all)
 }
