@@ -197,7 +197,7 @@ class Case:
 
     def replay_telling(self, plain):
         """The flags that tell more change no reply."""
-        flags = [flag for flag in ("--test", "--echo", "--explain") if self.chance(0.5)]
+        flags = [flag for flag in ("--test", "--echo", "--explain", "--trace") if self.chance(0.5)]
         script = self.script
         if "--test" in flags:
             pieces_of_it = script.split(b"\n")
@@ -216,11 +216,13 @@ class Case:
         want(ran.status in ((0, 5) if "--test" in flags else (0,)), "status with flags", ran)
         out = ran.out
         if self.is_lined:
+            if "--trace" in flags:
+                out = "".join(f"{it}\n" for it in lines_of(out, ran) if not it.startswith("  "))
             if "--echo" in flags:
-                out = "".join(f"{it}\n" for it in lines_of(out, ran) if not re.match(r"\d+> ", it))
+                out = "".join(f"{it}\n" for it in out.split("\n")[:-1] if not re.match(r"\d+> ", it))
             has_short = len(max(script.split(b"\n"), key=len)) <= 1024
             want(out == plain.out or not has_short or b"\nexpect" in self.script, "other replies with flags", ran)
-        if flags == ["--echo"] or not flags:
+        if "--test" not in flags and "--explain" not in flags:
             want(ran.said == "", "standard error without a reason", ran)
         if ran.status == 5:
             want(re.search(r"\d+ expectations?, [1-9]\d* failed\n\Z", ran.said), "expectations", ran)
@@ -523,7 +525,7 @@ class Case:
         journal, out = self.runner.path("other.journal"), self.runner.path("other.db")
         drawn = [
             ["ioc-replay", self.database, self.runner.path("script"), *self.macros],
-            ["ioc-replay", "--test", "--echo", "--explain", self.database, self.runner.path("script"), *self.macros],
+            ["ioc-replay", "--test", "--echo", "--explain", "--trace", self.database, self.runner.path("script"), *self.macros],
             ["ioc-check", self.database, *self.macros, *self.generator.choice([[], ["--sets"], ["--dot"], ["--write", out]])],
             ["ioc", self.database, "--ticks", "5", "--workers", "1", "--journal", journal, *self.macros],
             ["ioc", self.database, "--console", "--workers", "1", "--journal", journal, *self.macros],

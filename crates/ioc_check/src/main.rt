@@ -16,10 +16,11 @@ use crate::printing::{Counts, add_findings};
 use crate::writing::{database_of, prepared, refuse_overwriting, save};
 use ioc_program::{Ending, Reason, Stop, Stream, given, show};
 use ioc_site::Reading;
-use ioc_site_reader::{Request, Sources, read_files};
+use ioc_site_reader::{Request, read_files};
 use ioc_site_rules::{add_picture, add_sets, check, put_in_order};
-use std::alloc::{AllocError, Global};
+use std::alloc::{Alloc, AllocError, Global};
 use std::env;
+use std::fs::Files;
 use std::io::{self, Write};
 use std::process::ExitCode;
 
@@ -48,14 +49,15 @@ fn shown(alloc: Global, words: &Words<'_>, reading: &Reading) -> Result<Vec<u8>,
 }
 
 // Reads and checks the files that the words name.
-fn examine<S: Sources>(alloc: Global, words: &Words<'_>, sources: &mut S) -> Result<Printed, Stop> {
+fn examine<R: Files + Alloc<A = Global>>(rt: &R, words: &Words<'_>) -> Result<Printed, Stop> {
+    let alloc = rt.alloc();
     let request = Request {
         paths: words.paths.as_slice(),
         macros: words.definitions.as_slice(),
         folders: words.folders.as_slice(),
     };
-    let reading = read_files(alloc, sources, request)?;
-    refuse_overwriting(alloc, words, reading.files.as_slice())?;
+    let reading = read_files(alloc, &mut Disk(rt), request)?;
+    refuse_overwriting(rt, words, reading.files.as_slice())?;
     let reading = prepared(alloc, words, reading)?;
     let mut checked = check(alloc, &reading)?;
     let output = shown(alloc, words, &reading)?;
@@ -89,7 +91,7 @@ fn work(rt: &HostRuntime) -> Result<Ending, Stop> {
     let alloc = rt.alloc();
     let all = given(alloc, env::args(rt))?;
     let words = Words::from_words(alloc, all.as_slice())?;
-    let mut printed = examine(alloc, &words, &mut Disk(rt))?;
+    let mut printed = examine(rt, &words)?;
     if let Err(e) = io::writer(rt).write_all(printed.output.as_slice()) {
         return Err(Stop::Write(Reason::of(&e)));
     }

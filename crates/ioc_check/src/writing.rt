@@ -8,19 +8,74 @@ use ioc_site_writer::{Written, write_database};
 use ioc_values::LoadError;
 use std::alloc::{Alloc, AllocError, Global};
 use std::fs::{self, Files};
+use std::path::PathBuf;
+use std::str;
 
-/// Refuses to write to one of the files that were read.
+// Returns the path by which the system knows a file, without symbolic links, if it knows it.
+fn system_path<R: Files + Alloc<A = Global>>(
+    rt: &R,
+    path: &str,
+) -> Result<Option<PathBuf>, AllocError> {
+    match fs::canonicalize(rt, path) {
+        Ok(known) => Ok(Some(known)),
+        Err(e) if is_out_of_memory(&e) => Err(AllocError),
+        Err(_) => Ok(None),
+    }
+}
+
+// Returns whether a path leads to a file, of which the system knows this path too.
+fn leads_to<R: Files + Alloc<A = Global>>(
+    rt: &R,
+    path: &[u8],
+    known: &PathBuf,
+) -> Result<bool, AllocError> {
+    let Ok(path) = str::from_utf8(path) else {
+        return Ok(false);
+    };
+    match system_path(rt, path)? {
+        Some(own) => Ok(own.as_str() == known.as_str()),
+        None => Ok(false),
+    }
+}
+
+// Returns whether a path is one of these, or leads to a file that one of them leads to.
+fn is_among<R: Files + Alloc<A = Global>>(
+    rt: &R,
+    path: &str,
+    files: &[Vec<u8>],
+) -> Result<bool, AllocError> {
+    if files.iter().any(|file| file.as_slice() == path.as_bytes()) {
+        return Ok(true);
+    }
+    let Some(known) = system_path(rt, path)? else {
+        return Ok(false);
+    };
+    for file in files {
+        if leads_to(rt, file.as_slice(), &known)? {
+            return Ok(true);
+        }
+    }
+    Ok(false)
+}
+
+/// Refuses to write to one of the files that were read, by whatever path it was read.
 ///
 /// # Errors
 ///
 /// [`Stop::Refused`] if it is one. [`Stop::Memory`] if allocation fails.
-pub fn refuse_overwriting(alloc: Global, words: &Words<'_>, files: &[Vec<u8>]) -> Result<(), Stop> {
+pub fn refuse_overwriting<R: Files + Alloc<A = Global>>(
+    rt: &R,
+    words: &Words<'_>,
+    files: &[Vec<u8>],
+) -> Result<(), Stop> {
     let Some(path) = words.output else {
         return Ok(());
     };
-    if files.iter().any(|file| file.as_slice() == path.as_bytes()) {
+    if is_among(rt, path, files)? {
         let name = PROGRAM.name;
-        let text = format!(in alloc; "{name}: --write would overwrite '{path}', which is read\n")?;
+        let text = format!(in rt.alloc();
+            "{name}: --write would overwrite '{path}', which is read\n"
+        )?;
         return Err(Stop::Refused(text));
     }
     Ok(())

@@ -14,8 +14,8 @@ flag_rule name = record (new_rule name) { long = Some name; action = Some SetTru
 -- The arguments of a program with this name: those of two files, and the flags.
 unfoldable pub words_of : Text → App
 words_of name =
-    with_rule (with_rule (with_rule (two_files_app name (codes "SCRIPT")) (flag_rule (codes "test"))) (flag_rule (codes "echo")))
-    (flag_rule (codes "explain"))
+    with_rule (with_rule (with_rule (with_rule (two_files_app name (codes "SCRIPT")) (flag_rule (codes "test"))) (flag_rule (codes "echo")))
+    (flag_rule (codes "explain"))) (flag_rule (codes "trace"))
 
 -- Whether the first value of a flag says that it was given.
 abbrev pub is_true : Option Text → Bool
@@ -28,6 +28,7 @@ pub record IsAskedBy (rows : List Row) (args : Arguments) : Type 0 where
   pub tested : args.manner.is_tested ≡ is_true (first_of (codes "test") rows)
   pub echo : args.manner.has_echo ≡ is_true (first_of (codes "echo") rows)
   pub explained : args.manner.is_explained ≡ is_true (first_of (codes "explain") rows)
+  pub traced : args.manner.is_traced ≡ is_true (first_of (codes "trace") rows)
   pub help : args.manner.help ≡ None
 
 -- The same of the words, by what a program with this name makes of them.

@@ -22,6 +22,8 @@ const ECHO: &str = "echo";
 
 const EXPLAIN: &str = "explain";
 
+const TRACE: &str = "trace";
+
 /// What is told beside the replies.
 #[derive(Clone, Copy)]
 pub struct Manner {
@@ -31,6 +33,8 @@ pub struct Manner {
     pub has_echo: bool,
     /// It is explained why a line is bad or refused.
     pub is_explained: bool,
+    /// What each line makes records do is printed before its replies.
+    pub is_traced: bool,
     /// What the line `help` prints for a user at a terminal, who is prompted.
     pub help: Option<&'static str>,
 }
@@ -46,12 +50,17 @@ pub struct Arguments<'a> {
 impl Manner {
     /// Returns whether nothing is told beside the replies.
     pub fn is_plain(&self) -> bool {
-        !self.is_tested && !self.has_echo && !self.is_explained && self.help.is_none()
+        !self.is_tested && !self.tells_more()
+    }
+
+    // Returns whether more is told than a comparison of replies with what is expected.
+    fn tells_more(&self) -> bool {
+        self.has_echo || self.is_explained || self.is_traced || self.help.is_some()
     }
 
     /// Returns whether replies are compared with what is expected, and no more is told.
     pub fn is_test_alone(&self) -> bool {
-        self.is_tested && !self.has_echo && !self.is_explained && self.help.is_none()
+        self.is_tested && !self.tells_more()
     }
 
     /// Returns this manner at a terminal: a user is prompted and has this help, replies are
@@ -95,7 +104,12 @@ fn command<'a>(alloc: Global, program: &Program) -> Result<Command<'a>, AllocErr
             ECHO,
             "prints each line with its number before its replies",
         ))?
-        .arg(flag(alloc, EXPLAIN, explain))
+        .arg(flag(alloc, EXPLAIN, explain))?
+        .arg(flag(
+            alloc,
+            TRACE,
+            "prints what each line makes records do before its replies",
+        ))
 }
 
 // Returns whether a flag is given.
@@ -129,6 +143,7 @@ fn read<'a>(alloc: Global, matches: &ArgMatches<'a>) -> Result<Arguments<'a>, St
             is_tested: is_given(matches, TEST),
             has_echo: is_given(matches, ECHO),
             is_explained: is_given(matches, EXPLAIN),
+            is_traced: is_given(matches, TRACE),
             help: None,
         },
     })

@@ -7,6 +7,7 @@ use crate::terminal::{PROMPT, Request};
 use ioc_console::{LineBuffer, next_line};
 use ioc_main::{LineFault, PendingOutput, ScriptFault, Session, cut_at};
 use ioc_program::Reason;
+use ioc_trace::TraceLog;
 use std::alloc::Global;
 use std::io::{self, BufRead, Write};
 
@@ -19,6 +20,8 @@ pub struct Dialogue<E: Write + Drop> {
     pub directory: Option<Directory>,
     /// Whether each line is printed with its number.
     pub has_echo: bool,
+    /// What was traced and isn't printed yet, if events are traced.
+    pub trace: Option<TraceLog>,
     /// What the line `help` prints, if there is a prompt.
     pub help: Option<&'static str>,
 }
@@ -91,6 +94,15 @@ impl<E: Write + Drop> Dialogue<E> {
         written(out.write_all(b"\n"))
     }
 
+    // Writes what was traced since this was last done, if events are traced.
+    fn tell_traced<W: Write>(&self, out: &mut W) -> Result<(), LineFault> {
+        let Some(trace) = &self.trace else {
+            return Ok(());
+        };
+        let lines = trace.take()?;
+        written(out.write_all(lines.as_slice()))
+    }
+
     // Explains a reply. If the explanation can't be written, nothing else changes.
     fn explain<W: Write>(
         &mut self,
@@ -126,6 +138,7 @@ impl<E: Write + Drop> Dialogue<E> {
         session.answer(line, said)?;
         let mut reply = LineBuffer::new();
         reply.extend_cut(cut_at(said.replies.as_slice(), b'\n').0);
+        self.tell_traced(out)?;
         write_said(said, out)?;
         self.explain(number, line, reply.as_slice(), out)
     }
@@ -179,6 +192,7 @@ impl<E: Write + Drop> Dialogue<E> {
     ) -> Result<(), ScriptFault> {
         let mut line = LineBuffer::new();
         let mut said = PendingOutput::new(alloc);
+        self.tell_traced(out)?;
         for number in 1..u64::MAX {
             if !self.read(input, &mut line, out)? {
                 break;

@@ -10,6 +10,7 @@ use ioc_dbfile::{Database, Macros, load};
 use ioc_main::{Replay, RunFault, Session};
 use ioc_program::Stage;
 use ioc_record::RecordKind;
+use ioc_trace::TraceLog;
 use std::alloc::{AllocError, Global};
 use std::io::{BufReader, Read, Write};
 
@@ -30,6 +31,15 @@ fn directory_of(alloc: Global, db: &[u8], macros: &Macros) -> Result<Directory, 
     let Database { names, records } = load(alloc, db, macros)?;
     let all = listed(alloc, records.as_slice())?;
     Ok(Directory::new(names, all))
+}
+
+// Returns a log for what is traced, if anything is.
+fn log_of(alloc: Global, manner: Manner) -> Result<Option<TraceLog>, AllocError> {
+    if manner.is_traced {
+        Ok(Some(TraceLog::new(alloc)?))
+    } else {
+        Ok(None)
+    }
 }
 
 // Answers a script until its end, or until a user ends it, and drops the session. It is generic
@@ -95,7 +105,8 @@ pub fn run_dialogue<R: Read + Drop, W: Write, E: Write + Drop>(
             return Err(RunFault::from(error));
         }
     };
-    let session = Replay::new(alloc, names, records)?;
+    let trace = log_of(alloc, manner)?;
+    let session = Replay::new(alloc, names, records, trace.as_ref())?;
     let directory = if manner.is_explained {
         Some(directory_of(alloc, db, macros)?)
     } else {
@@ -105,6 +116,7 @@ pub fn run_dialogue<R: Read + Drop, W: Write, E: Write + Drop>(
         errors,
         directory,
         has_echo: manner.has_echo,
+        trace,
         help: manner.help,
     };
     answer_script(alloc, session, script, out, dialogue, manner)

@@ -2,6 +2,7 @@
 use Rattle.std.proofs.Common.{◌≡◌, ◌⊎◌, ℕ, Bool, true, false, cond, not, List, Option, Some, None, Result, Ok, Err, refl, sym, ap, subst, ◌∙◌, inl, inr}
 use Rattle.std.specs.Prelude.{Contains, IfOk, IfErr, is_some}
 use Rattle.std.specs.Option.{option_map_or}
+use Rattle.std.specs.Result.{result_err}
 use Rattle.std.specs.FinMap.{keys, contains_key, contains_key-keys}
 use Rattle.std.proofs.lemmas.Cmp.{eq_by_cmp_equiv, nat_cmp_total}
 use Rattle.std.proofs.lemmas.Map.Views.{list_any-from_Contains}
@@ -20,7 +21,7 @@ use Rattle.ioc_events.specs.declared.reply.Reply.{Reply}
 use Rattle.ioc_events.specs.declared.event.Event.TheVariants.{Put, Notify}
 use Rattle.ioc_events.specs.Step.{shown}
 use Rattle.ioc_set.specs.SetState.{now_of}
-use Rattle.ioc_set.specs.NoCalls.{no_call, why_not_put}
+use Rattle.ioc_set.specs.NoCalls.{no_call}
 use Rattle.ioc_journaled_set.specs.Holding.{HeldView, numbers_of, IsSoundlyHeld}
 use Rattle.ioc_history.specs.Account.{DeskView}
 use Rattle.ioc_engine_core.specs.Served.{CallIsRefused, GetIsRefused, WasTold, WasServed, WasBegun}
@@ -52,30 +53,30 @@ shown_has false has text shown_so is e = cc
 abbrev puts_row : Option Row → Bool
 puts_row row = option_map_or (λ r. r.can_put) row false
 
-put_row : (row : Option Row) (error : IocError) → why_not_put (kind_to_put_by row) ≡ Some error → ((error ≡ NoField) × (is_some row ≡ false)) ⊎ ((error ≡ NoMod) × (is_some row ≡ true) × (puts_row row ≡ false))
+put_row : (row : Option Row) (error : IocError) → result_err (kind_to_put_by row) ≡ Some error → ((error ≡ NoField) × (is_some row ≡ false)) ⊎ ((error ≡ NoMod) × (is_some row ≡ true) × (puts_row row ≡ false))
 put_row None error is = inl (cc, refl)
-put_row (Some row) error is = elim row.can_put as (λ b. row.can_put ≡ b → why_not_put (cond b (Ok row.kind) (Err NoMod)) ≡ Some error
+put_row (Some row) error is = elim row.can_put as (λ b. row.can_put ≡ b → result_err (cond b (Ok row.kind) (Err NoMod)) ≡ Some error
     → ((error ≡ NoField) × (true ≡ false)) ⊎ ((error ≡ NoMod) × (true ≡ true) × (row.can_put ≡ false))) [
       | true ↦ λ can why. cc
       | false ↦ λ cannot why. inr (cc, refl, cannot)
     ] refl is
 
-put_there : (row : Option Row) → why_not_put (kind_to_put_by row) ≡ None → puts_row row ≡ true
+put_there : (row : Option Row) → result_err (kind_to_put_by row) ≡ None → puts_row row ≡ true
 put_there None is = cc
-put_there (Some row) is = elim row.can_put as (λ b. row.can_put ≡ b → why_not_put (cond b (Ok row.kind) (Err NoMod)) ≡ None → row.can_put ≡ true) [
+put_there (Some row) is = elim row.can_put as (λ b. row.can_put ≡ b → result_err (cond b (Ok row.kind) (Err NoMod)) ≡ None → row.can_put ≡ true) [
   | true ↦ λ can why. can
   | false ↦ λ cannot why. cc
 ] refl is
 
 module _ (base : World Record) (c : Channel) where
-  agrees-put : (error : IocError) → why_not_put (kind_to_put (type_of base c) c.field) ≡ Some error → IsPutError base c error
+  agrees-put : (error : IocError) → result_err (kind_to_put (type_of base c) c.field) ≡ Some error → IsPutError base c error
   unfolding kind_to_put
   agrees-put error is = elim (put_row (row_of (type_of base c) c.field) error is) [
     | inl lacks ↦ subst (IsPutError base c) (sym lacks.0) (λ has. let e = lacks.1 in cc)
     | inr cannot ↦ subst (IsPutError base c) (sym cannot.0) (cannot.1, λ can. let e = cannot.2 in cc)
   ]
 
-  can-put : why_not_put (kind_to_put (type_of base c) c.field) ≡ None → CanBePut base c
+  can-put : result_err (kind_to_put (type_of base c) c.field) ≡ None → CanBePut base c
   unfolding kind_to_put
   can-put is = put_there (row_of (type_of base c) c.field) is
 
@@ -110,14 +111,14 @@ module _ (base : World Record) (c : Channel) where
         sym (same-row held here sound) ∙ shown_has (contains_key (now_of held.set).records n) (is_some (row_of (type_at record_rules (now_of held.set) n) c.field)) _ text (held-there held here) is
 
     put-why : (held : HeldView Record D) → Contains (numbers_of held) n → IsSoundlyHeld record_rules base held → (given : Input)
-        → no_call record_rules (now_of held.set) (Put n c.field given) ≡ why_not_put (kind_to_put (type_of base c) c.field)
+        → no_call record_rules (now_of held.set) (Put n c.field given) ≡ result_err (kind_to_put (type_of base c) c.field)
     unfolding no_call
-    put-why held here sound given = ap (λ (t : RecordType). why_not_put (kind_to_put t c.field)) (held-type held here sound)
+    put-why held here sound given = ap (λ (t : RecordType). result_err (kind_to_put t c.field)) (held-type held here sound)
 
     notify-why : (held : HeldView Record D) → Contains (numbers_of held) n → IsSoundlyHeld record_rules base held → (number : ℕ) (given : Input)
-        → no_call record_rules (now_of held.set) (Notify n number c.field given) ≡ why_not_put (kind_to_put (type_of base c) c.field)
+        → no_call record_rules (now_of held.set) (Notify n number c.field given) ≡ result_err (kind_to_put (type_of base c) c.field)
     unfolding no_call
-    notify-why held here sound number given = ap (λ (t : RecordType). why_not_put (kind_to_put t c.field)) (held-type held here sound)
+    notify-why held here sound number given = ap (λ (t : RecordType). result_err (kind_to_put t c.field)) (held-type held here sound)
 
     -- A call that was answered had a field of the record's type.
     pub told-has : {desk desk_then : DeskView} {at_moment : ℕ} {text : List ℕ} → WasTold D record_rules base n desk at_moment c.field text desk_then → HasField base c

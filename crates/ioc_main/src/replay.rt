@@ -25,6 +25,7 @@ use ioc_scan::{ListName, Period};
 use ioc_scanner::{event_list, interrupt_list};
 use ioc_sim::Machine;
 use ioc_store::Store;
+use ioc_trace::TraceLog;
 use ioc_values::{Finished, Input, IocError, Text, Value};
 use rec_types::Record;
 use std::alloc::{AllocError, Global};
@@ -71,19 +72,25 @@ fn or_refuse<T: Drop>(found: Result<T, IocError>, replies: &mut Replies) -> Opti
 
 #[tactic(auto, unfolding(crate::specs::Replay::carried_out))]
 impl Replay {
-    /// Creates a database of these names and records. All memory that events need is reserved here;
-    /// of the lines of a script, only those that queue an answer, walk a scan list or move a record
-    /// to another allocate.
+    /// Creates a database of these names and records, whose events are traced to the log, if there
+    /// is one. All memory that events need is reserved here, but for the lines of the log; of the
+    /// lines of a script, only those that queue an answer, walk a scan list or move a record to
+    /// another allocate.
     ///
     /// # Errors
     ///
     /// [`AllocError`] if allocation fails.
-    pub fn new(alloc: Global, names: Names, records: Vec<Record>) -> Result<Self, AllocError>
+    pub fn new(
+        alloc: Global,
+        names: Names,
+        records: Vec<Record>,
+        log: Option<&TraceLog>,
+    ) -> Result<Self, AllocError>
         requires { IsSettled record_rules (first_world records.items) }
         ensures names { IfOk result (λ r. r.names ≡ names) }
         ensures machine { IfOk result (λ r. machine_of r.machine ≡ first_machine record_rules records.items) }
     {
-        let machine = Machine::new(alloc, records)?;
+        let machine = Machine::new(alloc, records, log)?;
         Ok(Replay {
             names,
             machine,

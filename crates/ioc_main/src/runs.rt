@@ -54,7 +54,7 @@ pub fn run<R: Read + Drop, W: Write>(
         (W.contents out.new)) }
 {
     let Database { names, records } = load(alloc, db, macros)?;
-    let replay = Replay::new(alloc, names, records)?;
+    let replay = Replay::new(alloc, names, records, None)?;
     run_whole(alloc, replay, script, out)?;
     Ok(())
 }

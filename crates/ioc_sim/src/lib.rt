@@ -9,6 +9,7 @@ mod scanning;
 pub mod scripted;
 pub mod sets;
 pub mod settled;
+mod tracing;
 
 pub use machine::Machine;
 pub use scanner::Scanner;

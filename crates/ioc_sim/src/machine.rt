@@ -19,6 +19,7 @@ use crate::leads::lead_among;
 use crate::scanner::Scanner;
 use crate::scripted::Scripted;
 use crate::settled::{event_leaves_settled, link_change_keeps};
+use crate::tracing::{Traced, run_traced};
 use ioc_dbcommon::{LinkBox, LinkField};
 use ioc_dbfile::{Owners, owners_of, owns_device};
 use ioc_events::{Event, Reply, run_event, run_link, run_put};
@@ -28,9 +29,11 @@ use ioc_links::Link;
 use ioc_names::{Names, RecordNo};
 use ioc_notify::NotifyId;
 use ioc_record::Given;
+use ioc_scan::Listed;
 use ioc_scanner::first_lists::{first_lists, starters};
 use ioc_scanner::places::Occasion;
 use ioc_store::{EventStore, Frame, OneMap};
+use ioc_trace::{TraceLog, TracedMap};
 use ioc_values::{Finished, Input};
 use rec_types::Record;
 use std::alloc::{AllocError, Global};
@@ -51,6 +54,8 @@ pub struct Machine {
     // The puts with notification that have ended since this was last cleared. Room for all that can
     // be live at once is reserved at the load.
     pub(crate) ended: Vec<NotifyId>,
+    // Takes the place of the map during an event, if events are traced.
+    traced: Traced,
     pub(crate) alloc: Global,
     ghost settled: { IsSettled record_rules (world_of map) },
     ghost empty: { frames.items ≡ [] },
@@ -127,7 +132,7 @@ impl Machine {
     ghost use Rattle.ioc_scanner.specs.FirstLists.{starters};
     ghost use Rattle.ioc_sim.specs.Leads.{field_of_link};
     ghost use Rattle.ioc_sim.specs.Machine.{loaded_machine, first_machine, Gives, stepped_on, done, notified, given_up};
-    ghost use Rattle.ioc_sim.specs.Machine.{relinked_on, linked};
+    ghost use Rattle.ioc_sim.specs.Machine.{relinked_on, linked, each_requested};
     ghost use Rattle.ioc_sim.specs.Machine.{with_ended_kept, with_sent, with_none_ended};
     ghost use Rattle.ioc_sim.specs.SeenMachine.{machine_of};
 
@@ -152,23 +157,52 @@ impl Machine {
             owners,
             next: 1,
             ended,
+            traced: None,
             alloc,
         })
     }
 
-    /// Creates a machine with these records, and processes those with PINI.
+    // Traces the events from now on to this log, if there is one.
+    fn trace_to(&mut self, log: Option<&TraceLog>) -> Result<(), AllocError>
+        ensures { machine_of self.new ≡ machine_of self.old }
+    {
+        if let Some(log) = log {
+            self.traced = Some(TracedMap::new(self.alloc, log)?);
+        }
+        Ok(())
+    }
+
+    // Requests these records, each in its own event, and traces them and what follows to this log,
+    // if there is one.
+    fn request_first(
+        &mut self,
+        starters: &[Listed],
+        log: Option<&TraceLog>,
+    ) -> Result<(), AllocError>
+        ensures { OnOk result (machine_of self.new ≡ each_requested record_rules (machine_of self.old) starters.now) }
+    {
+        self.trace_to(log)?;
+        self.request_each(starters)
+    }
+
+    /// Creates a machine with these records, and processes those with PINI. Its events are traced
+    /// to the log, if there is one.
     ///
     /// # Errors
     ///
     /// [`AllocError`] if allocation fails.
     #[tactic(auto, unfolding(ioc_scanner::specs::FirstLists::starters))]
-    pub fn new(alloc: Global, records: Vec<Record>) -> Result<Self, AllocError>
+    pub fn new(
+        alloc: Global,
+        records: Vec<Record>,
+        log: Option<&TraceLog>,
+    ) -> Result<Self, AllocError>
         requires { IsSettled record_rules (first_world records.items) }
         ensures { IfOk result (λ m. machine_of m ≡ first_machine record_rules records.items) }
     {
         let starters = starters(alloc, records.as_slice())?;
         let mut machine = Machine::loaded(alloc, records)?;
-        let requested = machine.request_each(starters.as_slice());
+        let requested = machine.request_first(starters.as_slice(), log);
         let parts = with_first(machine, requested)?;
         Ok(parts.0)
     }
@@ -194,7 +228,20 @@ impl Machine {
         self.scanner.dropped()
     }
 
-    // Puts the value of a text into a field, without taking what the event sends.
+    // Puts the value of a text into a field and traces it, without taking what the event sends.
+    #[inline(never)]
+    fn store_traced(&mut self, number: RecordNo, field: FieldNo, text: &[u8]) -> Reply
+        ensures { Gives (stepped_on record_rules (machine_of self.old) (Put number field (input_of text.now)))
+            (machine_of self.new) result }
+    {
+        self.do_traced(&Event::Put {
+            record: number,
+            field,
+            value: Input::from_text(text),
+        })
+    }
+
+    // Puts the value of a text into a field, without taking what the event sends. Nothing is traced.
     #[tactic(auto, using(crate::proofs::Eventing::closed_on, crate::proofs::Eventing::room_on))]
     fn store(&mut self, number: RecordNo, field: FieldNo, text: &[u8]) -> Reply
         ensures { Gives (stepped_on record_rules (machine_of self.old) (Put number field (input_of text.now)))
@@ -212,8 +259,8 @@ impl Machine {
         )
     }
 
-    // Does an event, without taking what it sends. It is inlined, so that each caller knows the kind
-    // of its event.
+    // Does an event, without taking what it sends. Nothing is traced. It is inlined, so that each
+    // caller knows the kind of its event.
     #[inline(always)]
     #[tactic(auto, using(crate::proofs::Eventing::closed_on, crate::proofs::Eventing::room_on))]
     fn do_event(&mut self, event: &Event) -> Reply
@@ -221,6 +268,69 @@ impl Machine {
     {
         begin_event(&mut self.map);
         run_event(&mut self.map, &mut self.frames, event, &mut self.tally)
+    }
+
+    // Does an event and traces it, without taking what it sends. Not inlined, because most machines
+    // trace nothing.
+    #[inline(never)]
+    #[tactic(auto, using(crate::proofs::Eventing::closed_on, crate::proofs::Eventing::room_on))]
+    fn do_traced(&mut self, event: &Event) -> Reply
+        ensures { Gives (stepped_on record_rules (machine_of self.old) event.now) (machine_of self.new) result }
+    {
+        begin_event(&mut self.map);
+        run_traced(
+            &mut self.traced,
+            &mut self.map,
+            &mut self.frames,
+            event,
+            &mut self.tally,
+        )
+    }
+
+    // Does an event, without taking what it sends, and traces it if events are traced.
+    #[inline(always)]
+    fn do_either(&mut self, event: &Event) -> Reply
+        ensures { Gives (stepped_on record_rules (machine_of self.old) event.now) (machine_of self.new) result }
+    {
+        if self.traced.is_some() {
+            self.do_traced(event)
+        } else {
+            self.do_event(event)
+        }
+    }
+
+    // Requests a record and traces it, without taking what the event sends.
+    #[inline(never)]
+    fn request_traced(&mut self, number: RecordNo) -> Reply
+        ensures { Gives (stepped_on record_rules (machine_of self.old) (Process number)) (machine_of self.new) result }
+    {
+        self.do_traced(&Event::Process { record: number })
+    }
+
+    // Requests a record, without taking what the event sends. The event is written for each case,
+    // since it is in no memory where nothing is traced.
+    #[inline(always)]
+    fn request(&mut self, number: RecordNo) -> Reply
+        ensures { Gives (stepped_on record_rules (machine_of self.old) (Process number)) (machine_of self.new) result }
+    {
+        if self.traced.is_some() {
+            self.request_traced(number)
+        } else {
+            self.do_event(&Event::Process { record: number })
+        }
+    }
+
+    // Puts the value of a text into a field, without taking what the event sends.
+    #[inline(always)]
+    fn put_text(&mut self, number: RecordNo, field: FieldNo, text: &[u8]) -> Reply
+        ensures { Gives (stepped_on record_rules (machine_of self.old) (Put number field (input_of text.now)))
+            (machine_of self.new) result }
+    {
+        if self.traced.is_some() {
+            self.store_traced(number, field, text)
+        } else {
+            self.store(number, field, text)
+        }
     }
 
     // Changes a link, without taking what the change sends.
@@ -266,7 +376,7 @@ impl Machine {
         ensures { IfOk result (λ reply. Gives (done record_rules (machine_of self.old) (Process number))
             (machine_of self.new) reply) }
     {
-        let reply = self.do_event(&Event::Process { record: number });
+        let reply = self.request(number);
         self.send()?;
         Ok(reply)
     }
@@ -294,7 +404,7 @@ impl Machine {
         ensures { IfOk result (λ reply. Gives (done record_rules (machine_of self.old) (Put number field (input_of text.now)))
             (machine_of self.new) reply) }
     {
-        let reply = self.store(number, field, text);
+        let reply = self.put_text(number, field, text);
         self.send()?;
         Ok(reply)
     }
@@ -313,7 +423,7 @@ impl Machine {
         ensures { IfOk result (λ reply. Gives (done record_rules (machine_of self.old) (Complete number wait finished))
             (machine_of self.new) reply) }
     {
-        let reply = self.do_event(&Event::Complete {
+        let reply = self.do_either(&Event::Complete {
             record: number,
             wait,
             finished,
@@ -364,7 +474,7 @@ impl Machine {
             (machine_of self.new) reply) }
     {
         let notification = NotifyId::new(self.next);
-        let reply = self.do_event(&Event::Notify {
+        let reply = self.do_either(&Event::Notify {
             record: number,
             notification,
             field,
@@ -386,7 +496,7 @@ impl Machine {
         ensures { IfOk result (λ reply. Gives (given_up record_rules (machine_of self.old) notification)
             (machine_of self.new) reply) }
     {
-        let reply = self.do_event(&Event::Cancel { notification });
+        let reply = self.do_either(&Event::Cancel { notification });
         self.send()?;
         Ok(reply)
     }

@@ -240,7 +240,7 @@ pub fn loaded(alloc: Global, text: &[u8], puts: usize) -> Result<Option<OneThrea
         return Ok(None);
     };
     Ok(Some(OneThread {
-        machine: Machine::new(alloc, records)?,
+        machine: Machine::new(alloc, records, None)?,
         names,
         numbers: vec![in alloc; None; puts.saturating_add(1)]?,
     }))

@@ -13,4 +13,5 @@ returns c =
     let four = more _ _ _ _ _ (c.in_ok-arg-4.ensures.shape c.macros_option.ensures.local) three c.macros_option.ensures.rule in
     let five = more _ _ _ _ _ (c.in_ok-arg-5.ensures.shape c.flag.ensures.local) four c.flag.ensures.rule in
     let six = more _ _ _ _ _ (c.in_ok-arg-6.ensures.shape c.flag-2.ensures.local) five c.flag-2.ensures.rule in
-    IfOk-weaker c.arg-7.result _ _ (λ _ adds. more _ _ _ _ _ (adds.shape c.flag-3.ensures.local) six c.flag-3.ensures.rule) c.arg-7.ensures
+    let seven = more _ _ _ _ _ (c.in_ok-arg-7.ensures.shape c.flag-3.ensures.local) six c.flag-3.ensures.rule in
+    IfOk-weaker c.arg-8.result _ _ (λ _ adds. more _ _ _ _ _ (adds.shape c.flag-4.ensures.local) seven c.flag-4.ensures.rule) c.arg-8.ensures

@@ -12,5 +12,6 @@ returns c = record {
   tested = c.is_given.ensures;
   echo = c.is_given-2.ensures;
   explained = c.is_given-3.ensures;
+  traced = c.is_given-4.ensures;
   help = search rules;
 }

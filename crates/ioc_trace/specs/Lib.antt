@@ -1,0 +1,2 @@
+pub mod TracedMap
+pub mod TracedMapLaws
