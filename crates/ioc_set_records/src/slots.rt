@@ -95,11 +95,7 @@ fn looked_for<K, D>(slots: &[Slot<K, D>], number: RecordNo) -> Option<usize>
 
 // Returns the place of a record that isn't at the guess: it tries the place next to it, then looks for
 // the record.
-fn beside_or_looked_for<K, D>(
-    slots: &[Slot<K, D>],
-    guess: usize,
-    number: RecordNo,
-) -> Option<usize>
+fn beside_or_looked_for<K, D>(slots: &[Slot<K, D>], guess: usize, number: RecordNo) -> Option<usize>
     requires { AreAscending slots.now }
     ensures found { IfSome result (λ i. (i < length slots.now) × (slice_index (numbers_of slots.now) i ≡ number)) }
     ensures absent { IfNone result ((i : ℕ) → i < length slots.now → slice_index (numbers_of slots.now) i ≢ number) }
