@@ -1,5 +1,5 @@
 use Rattle.ioc_engine.specs.Named.{name_of, devices_of, cell_of}
-use Rattle.ioc_stress_tests.proofs.tests.running.run_drawn.Given as goal
+use Rattle.ioc_stress_tests.proofs.tests.running.run_text.Given as goal
 
 -- The name of the engine.
 abbrev pub ghosts-run-B-JournalName : goal.ghosts-run-B-JournalName
