@@ -513,7 +513,8 @@ class Case:
             count = int(AGREE.fullmatch(told[-1])[1])
             want(count == (len(changed) if most is None else min(len(changed), most + 1)), f"{count} of {len(changed)} entries", ran)
             self.seen["changed journals that agree"] += changed != lines
-        if has_trace and self.is_lined:
+        # A text of a changed journal may have a line end.
+        if has_trace and self.is_lined and "\\0a" not in text:
             rest = told[: -1 - ("--sets" in words) - ("--show" in words)] if ran.status == 0 else told
             known = set(changed)
             want(all(it in known or re.fullmatch(r"\t[A-Z0-9]+ .*->.*", it) for it in rest), "a trace", ran)
