@@ -46,6 +46,7 @@ fn redo_event<K: RecordKind>(
 }
 
 // Gets the text of a field again.
+#[inline(never)]
 fn redo_get<K: RecordKind>(
     map: &PlayedMap<K>,
     number: RecordNo,
@@ -63,6 +64,7 @@ fn redo_get<K: RecordKind>(
 }
 
 // Tells again whether a put with notification is live.
+#[inline(never)]
 fn redo_is_live<K: RecordKind>(map: &PlayedMap<K>, number: NotifyId, live: bool) -> Redone
     ensures { (frames : Vec Frame) → frames.items ≡ []
         → Redoes K.rules map.now map.now frames frames (call.IsLive number live) result }
@@ -75,6 +77,7 @@ fn redo_is_live<K: RecordKind>(map: &PlayedMap<K>, number: NotifyId, live: bool)
 }
 
 // Changes a link again.
+#[inline(never)]
 fn redo_link<K: RecordKind>(
     alloc: Global,
     map: &mut PlayedMap<K>,

@@ -197,6 +197,7 @@ fn process_at(bytes: &[u8]) -> Option<(Call, &[u8])>
 }
 
 #[tactic(auto, unfolding(crate::specs::Calls::put_at))]
+#[inline(never)]
 fn put_at(bytes: &[u8]) -> Option<(Call, &[u8])>
     ensures { Gives (λ x. (x.0, x.1.now)) result (put_at bytes.now) }
 {
@@ -220,6 +221,7 @@ fn put_at(bytes: &[u8]) -> Option<(Call, &[u8])>
 }
 
 #[tactic(auto, unfolding(crate::specs::Calls::complete_at))]
+#[inline(never)]
 fn complete_at(bytes: &[u8]) -> Option<(Call, &[u8])>
     ensures { Gives (λ x. (x.0, x.1.now)) result (complete_at bytes.now) }
 {
@@ -243,6 +245,7 @@ fn complete_at(bytes: &[u8]) -> Option<(Call, &[u8])>
 }
 
 #[tactic(auto, unfolding(crate::specs::Calls::notify_at))]
+#[inline(never)]
 fn notify_at(bytes: &[u8]) -> Option<(Call, &[u8])>
     ensures { Gives (λ x. (x.0, x.1.now)) result (notify_at bytes.now) }
 {
@@ -270,6 +273,7 @@ fn notify_at(bytes: &[u8]) -> Option<(Call, &[u8])>
 }
 
 #[tactic(auto, unfolding(crate::specs::Calls::cancel_at))]
+#[inline(never)]
 fn cancel_at(bytes: &[u8]) -> Option<(Call, &[u8])>
     ensures { Gives (λ x. (x.0, x.1.now)) result (cancel_at bytes.now) }
 {
@@ -280,6 +284,7 @@ fn cancel_at(bytes: &[u8]) -> Option<(Call, &[u8])>
 }
 
 #[tactic(auto, unfolding(crate::specs::Calls::get_at))]
+#[inline(never)]
 fn get_at(bytes: &[u8]) -> Option<(Call, &[u8])>
     ensures { Gives (λ x. (x.0, x.1.now)) result (get_at bytes.now) }
 {
@@ -294,6 +299,7 @@ fn get_at(bytes: &[u8]) -> Option<(Call, &[u8])>
 }
 
 #[tactic(auto, unfolding(crate::specs::Calls::is_live_at))]
+#[inline(never)]
 fn is_live_at(bytes: &[u8]) -> Option<(Call, &[u8])>
     ensures { Gives (λ x. (x.0, x.1.now)) result (is_live_at bytes.now) }
 {
@@ -305,6 +311,7 @@ fn is_live_at(bytes: &[u8]) -> Option<(Call, &[u8])>
 }
 
 #[tactic(auto, unfolding(crate::specs::Calls::relink_at))]
+#[inline(never)]
 fn relink_at(bytes: &[u8]) -> Option<(Call, &[u8])>
     ensures { Gives (λ x. (x.0, x.1.now)) result (relink_at bytes.now) }
 {
@@ -322,6 +329,7 @@ fn relink_at(bytes: &[u8]) -> Option<(Call, &[u8])>
 }
 
 #[tactic(auto, unfolding(crate::specs::Calls::post_at))]
+#[inline(never)]
 fn post_at(bytes: &[u8]) -> Option<(Call, &[u8])>
     ensures { Gives (λ x. (x.0, x.1.now)) result (post_at bytes.now) }
 {
@@ -333,6 +341,7 @@ fn post_at(bytes: &[u8]) -> Option<(Call, &[u8])>
 }
 
 #[tactic(auto, unfolding(crate::specs::Calls::interrupt_at))]
+#[inline(never)]
 fn interrupt_at(bytes: &[u8]) -> Option<(Call, &[u8])>
     ensures { Gives (λ x. (x.0, x.1.now)) result (interrupt_at bytes.now) }
 {
@@ -343,7 +352,9 @@ fn interrupt_at(bytes: &[u8]) -> Option<(Call, &[u8])>
     Some((Call::Interrupt(device, count), rest))
 }
 
-/// Reads the arguments and the reply of a call of the kind.
+/// Reads the arguments and the reply of a call of the kind. Most calls of a journal are requests: only
+/// what reads those is inlined, since a function clears its locals when it begins, and those of
+/// what is inlined into it.
 #[tactic(auto, unfolding(crate::specs::Calls::call_by))]
 fn call_by(kind: CallKind, bytes: &[u8]) -> Option<(Call, &[u8])>
     ensures { Gives (λ x. (x.0, x.1.now)) result (call_by kind bytes.now) }
