@@ -1,15 +1,12 @@
 //! The example of the README: a record reads a tank's level, and another one copies it.
 #![tactic(auto)]
 
-ghost use Rattle.ioc_engine.specs.Named.{IsNamedBy};
-
 use ioc_engine::{
-    Answer, CountingClock, Device, DeviceName, Engine, EngineName, FieldText, IocError, Limits,
-    LoadError, Macros, Seed, Value, load,
+    Answer, CountingClock, Desk, Device, DeviceName, Engine, EngineName, EngineWork, FieldText,
+    IocError, Limits, LoadError, Macros, Seed, Value, load, with_engine,
 };
 use std::alloc::Global;
 use std::io;
-use std::marker::Brand;
 use std::sync::Wait;
 
 const TEXT: &[u8] = b"record(longin,\"level\"){field(INP,\"@tank\") field(HIGH,10) field(HSV,MINOR)}
@@ -30,31 +27,24 @@ impl Device for Tank {
     }
 }
 
-fn work<B: EngineName<Tank>, R: Wait>(
-    rt: &R,
-    alloc: Global,
-    seed: Seed<Tank>,
-) -> Result<FieldText, IocError>
-    requires named { IsNamedBy B.table B.base B.devices B.places B.tickets B.counts seed }
-{
-    let engine = Engine::<B, _, _>::start(
-        rt,
-        alloc,
-        seed,
-        CountingClock::new(),
-        Limits::default(),
-    )?;
-    let mut desk = engine.desk(rt)?;
-    let (changed, _receipt) = engine.set_link(
-        rt,
-        &mut desk,
-        engine.channel(b"copy.INP")?,
-        b"level PP MS",
-    )?;
-    changed?;
-    engine.process(rt, &mut desk, engine.record(b"copy")?)?;
-    let (shown, _receipt) = engine.get(rt, &mut desk, engine.channel(b"copy.SEVR")?)?;
-    Ok(shown)
+/// What is done: `copy` reads `level` from then on.
+#[derive(Clone, Copy)]
+struct Copying;
+
+impl<R: Wait> EngineWork<Tank, CountingClock, R, Result<FieldText, IocError>> for Copying {
+    fn work<B: EngineName<Tank> + Send + Sync>(
+        self,
+        rt: &R,
+        engine: &Engine<B, Tank, CountingClock>,
+        desk: &mut Desk<B, Tank>,
+    ) -> Result<FieldText, IocError> {
+        let input = engine.channel(b"copy.INP")?;
+        let (changed, _receipt) = engine.set_link(rt, desk, input, b"level PP MS")?;
+        changed?;
+        engine.process(rt, desk, engine.record(b"copy")?)?;
+        let (shown, _receipt) = engine.get(rt, desk, engine.channel(b"copy.SEVR")?)?;
+        Ok(shown)
+    }
 }
 
 fn loaded(alloc: Global) -> Result<Seed<Tank>, LoadError> {
@@ -64,7 +54,9 @@ fn loaded(alloc: Global) -> Result<Seed<Tank>, LoadError> {
 }
 
 fn run<R: Wait>(rt: &R, alloc: Global, seed: Seed<Tank>) -> Result<bool, IocError> {
-    Ok(work::<Brand, _>(rt, alloc, seed)? == FieldText::cut(b"MINOR"))
+    let clock = CountingClock::new();
+    let shown = with_engine(rt, alloc, seed, clock, Limits::default(), Copying)?;
+    Ok(shown? == FieldText::cut(b"MINOR"))
 }
 
 fn main(rt: HostRuntime) -> io::Result<()> {
