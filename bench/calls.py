@@ -19,7 +19,7 @@ from pathlib import Path
 
 TOP = Path(__file__).resolve().parent.parent
 OWN = re.compile(r"(ioc|rec)_\w+::")
-LEFT_OUT = re.compile(r"\+Destruct::|^ioc_history::pass::")
+LEFT_OUT = re.compile(r"\+Destruct::|^ioc_journal::pass::")
 ROUNDS = (1000, 2000)
 
 

@@ -1,7 +1,7 @@
 //! The command line of the program.
 use crate::work::{Job, Work};
 use clap::{Arg, ArgAction, Command, value_parser};
-use ioc_program::{Program, Stop, UsageFault, parse};
+use ioc_command_line::{Program, Stop, UsageFault, parse};
 use std::alloc::{AllocError, Global};
 
 /// The program.

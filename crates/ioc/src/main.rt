@@ -7,8 +7,8 @@ use ioc_app::{
     Args, Console, Mode, Outputs, PROGRAM, Plant, RunFault, Ticks, counting_devices, ioc_args,
     ioc_run,
 };
+use ioc_command_line::{Ending, FileRole, Reason, Stage, Stop, given, read_whole, show};
 use ioc_engine::{Database, LoadError, SystemClock, load};
-use ioc_program::{Ending, FileRole, Reason, Stage, Stop, given, read_whole, show};
 use std::alloc::{Alloc, Global};
 use std::env;
 use std::fs::{File, Files};

@@ -3,6 +3,7 @@ use crate::caller::{Caller, LineFault};
 use crate::fault::RunFault;
 use crate::streams::Streams;
 use crate::task::Task;
+use ioc_command_line::Reason;
 use ioc_console::{
     HELP, LineBuffer, RecordList, Request, add_count, add_field, add_reply, add_shown, next_line,
 };
@@ -10,7 +11,6 @@ use ioc_engine::{Clock, Database, Desk, Device, Engine, EngineName, IocError, Re
 use ioc_fields::field_list::fields;
 use ioc_fields::row_of;
 use ioc_main::{Command, ended_line};
-use ioc_program::Reason;
 use std::alloc::{AllocError, Global};
 use std::io::{BufRead, Write};
 use std::sync::Wait;

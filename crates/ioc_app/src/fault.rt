@@ -1,5 +1,5 @@
 //! Why a run ends early.
-use ioc_program::Reason;
+use ioc_command_line::Reason;
 use std::alloc::AllocError;
 use std::fmt;
 

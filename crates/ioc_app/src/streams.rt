@@ -1,8 +1,8 @@
 //! What a run writes.
 use crate::fault::RunFault;
 use crate::journal::JournalWriter;
+use ioc_command_line::Reason;
 use ioc_engine::{Desk, Device, Engine, EngineName};
-use ioc_program::Reason;
 use std::io::Write;
 use std::sync::Wait;
 

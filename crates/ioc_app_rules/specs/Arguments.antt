@@ -4,8 +4,8 @@ use Rattle.std.specs.Str.Parse.{digits_value, without_leading_plus}
 use Rattle.clap.specs.Words.{App, Row, Rule, Text, first_of, matches_of, new_rule, with_rule}
 use Rattle.clap.specs.declared.builder.action.ArgAction.TheVariants.{SetTrue}
 use Rattle.clap.specs.declared.builder.value_parser.ValueParser.TheVariants.{Unsigned}
-use Rattle.ioc_program.specs.CommandLine.{definitions_in, definitions_rule, file_rule, macros_rule, program_app}
-use Rattle.ioc_program.specs.Definitions.{all_defined}
+use Rattle.ioc_command_line.specs.CommandLine.{definitions_in, definitions_rule, file_rule, macros_rule, program_app}
+use Rattle.ioc_command_line.specs.Definitions.{all_defined}
 use Rattle.ioc_app_rules.specs.declared.arguments.Args.{Args}
 use Rattle.ioc_app_rules.specs.declared.arguments.Mode.{Mode}
 use Rattle.ioc_app_rules.specs.declared.arguments.Mode.TheVariants.{Console, Ticks}

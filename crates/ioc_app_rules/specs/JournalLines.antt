@@ -1,6 +1,6 @@
 -- The lines of the journal's entries, in the order of their places.
 use Rattle.std.specs.Prelude.{ℕ, ◌+◌, List, [], ◌∷◌, ◌++◌}
-use Rattle.ioc_history.specs.declared.entry.JournalEntry.{JournalEntry}
+use Rattle.ioc_journal.specs.declared.entry.JournalEntry.{JournalEntry}
 use Rattle.ioc_journal_file.specs.Form.{line_of}
 
 -- The line of the entry at a place.

@@ -2,16 +2,16 @@
 ghost use Rattle.std.specs.Prelude.{◌≡◌, ◌≤◌, ℕ, true, false, map, codes, IfOk, IfErr};
 ghost use Rattle.std.specs.String.{string_bytes};
 ghost use Rattle.clap.specs.Words.{app_of, found_of, rows_of, rule_of};
-ghost use Rattle.ioc_program.specs.CommandLine.{program_app};
+ghost use Rattle.ioc_command_line.specs.CommandLine.{program_app};
 ghost use Rattle.ioc_app_rules.specs.Arguments.{IsNumber, IsMode, IsAskedBy, IsAskedByWords, ioc_words, number_rule, ticks_rule, console_rule, workers_rule, file_option_rule};
 ghost use Rattle.ioc_app_rules.specs.declared.arguments.Mode.TheVariants.{Ticks};
 
 use clap::builder::ValueParser;
 use clap::{Arg, ArgAction, ArgMatches, Command};
-use ioc_dblex::Macros;
-use ioc_program::{
+use ioc_command_line::{
     Program, Stop, UsageFault, definitions_argument, file_argument, macros_in, macros_option, parse,
 };
+use ioc_dblex::Macros;
 use std::alloc::{AllocError, Global};
 
 /// The program, as its help shows it.

@@ -2,7 +2,7 @@
 ghost use Rattle.std.specs.Prelude.{◌≡◌, ◌<◌, ◌+◌, ◌^◌, ◌++◌, length, IfOk, OnOk};
 ghost use Rattle.ioc_app_rules.specs.JournalLines.{entry_line, entry_lines};
 
-use ioc_history::JournalEntry;
+use ioc_journal::JournalEntry;
 use ioc_journal_file::{Mark, print_entry};
 use std::alloc::AllocError;
 

@@ -1,9 +1,9 @@
 //! The command line of the program.
 use clap::{Arg, ArgAction, Command, value_parser};
-use ioc_dblex::Macros;
-use ioc_program::{
+use ioc_command_line::{
     Program, Stop, UsageFault, definitions_argument, file_argument, macros_in, macros_option, parse,
 };
+use ioc_dblex::Macros;
 use std::alloc::{AllocError, Global};
 
 /// The program, with its exit statuses behind its arguments.

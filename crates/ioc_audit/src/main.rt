@@ -11,11 +11,11 @@ mod tests;
 use crate::command::{PROGRAM, Words};
 use crate::showing::{Found, add_shown, found_in};
 use crate::telling::{Telling, told_of};
-use ioc_auditing::{AuditFault, Audited, Auditor, Trace, audit};
-use ioc_dbfile::{Database, load};
-use ioc_program::{
+use ioc_command_line::{
     Ending, FileRole, Reason, Stage, Stop, given, open, read_whole, show, unreadable,
 };
+use ioc_dbfile::{Database, load};
+use ioc_journal_audit::{AuditFault, Audited, Auditor, Trace, audit};
 use ioc_values::LoadError;
 use std::alloc::Global;
 use std::env;

@@ -1,11 +1,11 @@
 //! What is shown of a database after its last entry.
 use crate::command::{PROGRAM, Words};
-use ioc_auditing::{PlayedMap, add_sets};
+use ioc_command_line::Stop;
 use ioc_dbfile::Database;
 use ioc_dblex::split_at_byte;
 use ioc_fields::{FieldNo, field};
+use ioc_journal_audit::{PlayedMap, add_sets};
 use ioc_names::RecordNo;
-use ioc_program::Stop;
 use ioc_record::{RecordKind, text_of};
 use ioc_store::Store;
 use ioc_values::IocError;
@@ -33,7 +33,7 @@ fn refused(alloc: Global, option: &str, word: &str, error: IocError) -> Stop {
     let words = error.words();
     match format!(in alloc; "{name}: --{option} '{word}': {words}\n") {
         Ok(text) => Stop::Refused(text),
-        Err(_) => Stop::Memory(ioc_program::Stage::Loading),
+        Err(_) => Stop::Memory(ioc_command_line::Stage::Loading),
     }
 }
 

@@ -1,8 +1,8 @@
 //! What the program tells of an audit.
 use crate::command::PROGRAM;
-use ioc_auditing::{Audited, Difference};
+use ioc_command_line::{Ending, Stop, Stream};
+use ioc_journal_audit::{Audited, Difference};
 use ioc_journal_file::{Line, print};
-use ioc_program::{Ending, Stop, Stream};
 use std::alloc::{AllocError, Global};
 use std::fmt::Write;
 

@@ -1,8 +1,8 @@
 use crate::command::Words;
 use crate::run;
 use crate::telling::Telling;
+use ioc_command_line::Stop;
 use ioc_dblex::Macros;
-use ioc_program::Stop;
 use std::alloc::{AllocError, Global};
 use std::test::*;
 

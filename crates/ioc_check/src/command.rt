@@ -1,7 +1,7 @@
 //! The command line of the program.
 use crate::left_out::LeftOutTypes;
 use clap::{Arg, ArgAction, ArgMatches, Command};
-use ioc_program::{Program, Stop, UsageFault, parse};
+use ioc_command_line::{Program, Stop, UsageFault, parse};
 use ioc_site_reader::{Definition, parse_definitions};
 use std::alloc::{AllocError, Global};
 

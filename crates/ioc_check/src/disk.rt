@@ -1,5 +1,5 @@
 //! The files of the machine as sources of texts.
-use ioc_program::is_out_of_memory;
+use ioc_command_line::is_out_of_memory;
 use ioc_site_reader::Sources;
 use std::alloc::{Alloc, AllocError, Global};
 use std::fs::{self, Files};

@@ -14,7 +14,7 @@ use crate::command::{PROGRAM, Words};
 use crate::disk::Disk;
 use crate::printing::{Counts, add_findings};
 use crate::writing::{database_of, prepared, refuse_overwriting, save};
-use ioc_program::{Ending, Reason, Stop, Stream, given, show};
+use ioc_command_line::{Ending, Reason, Stop, Stream, given, show};
 use ioc_site::Reading;
 use ioc_site_reader::{Request, read_files};
 use ioc_site_rules::{add_picture, add_sets, check, put_in_order};

@@ -2,7 +2,7 @@
 use crate::command::{PROGRAM, Words};
 use crate::left_out::{Kept, leave_out};
 use crate::printing::Counts;
-use ioc_program::{FileRole, Reason, Stop, is_out_of_memory};
+use ioc_command_line::{FileRole, Reason, Stop, is_out_of_memory};
 use ioc_site::{Finding, Reading, Statement};
 use ioc_site_writer::{Written, write_database};
 use ioc_values::LoadError;

@@ -23,7 +23,7 @@ use Rattle.ioc_events.specs.Step.{shown}
 use Rattle.ioc_set.specs.SetState.{now_of}
 use Rattle.ioc_set.specs.NoCalls.{no_call}
 use Rattle.ioc_journaled_set.specs.Holding.{HeldView, numbers_of, IsSoundlyHeld}
-use Rattle.ioc_history.specs.Account.{DeskView}
+use Rattle.ioc_journal.specs.Account.{DeskView}
 use Rattle.ioc_engine_core.specs.Served.{CallIsRefused, GetIsRefused, WasTold, WasServed, WasBegun}
 use Rattle.ioc_engine.specs.declared.channel.Channel.{Channel}
 use Rattle.ioc_engine.specs.Types.{type_at, HeldKeepTypes}

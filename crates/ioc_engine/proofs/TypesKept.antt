@@ -35,8 +35,8 @@ use Rattle.ioc_events.specs.Starting.{taken_and_stored}
 use Rattle.ioc_events.specs.declared.event.Call.{Call}
 use Rattle.ioc_events.specs.Calls.{called as call_of}
 use Rattle.ioc_events.specs.StepRules.{Does, Step, by_itself, then_others, Starts, to_be_processed, at_once_told, StartsAll, no_more, next_starts, no_such_record, processes_record, refuses_value, stores_alone, stores_while_active, stores_and_processes, not_awaited, completes_record, refuses_notified_value, no_place, waits_its_turn, starts_now, not_live, cancels, Calls, does_event, shows_field, tells_if_live, keeps_its_link, takes_link, posts_event, interrupts}
-use Rattle.ioc_history.specs.declared.entry.Note.{Note}
-use Rattle.ioc_history.specs.Legal.{entry_of, done}
+use Rattle.ioc_journal.specs.declared.entry.Note.{Note}
+use Rattle.ioc_journal.specs.Legal.{entry_of, done}
 use Rattle.ioc_engine.specs.Types.{type_at, HaveSameTypes, CallsKeepTypes, ListsKeepTypes, HeldKeepTypes}
 
 module _ {R : Type 0} (k : RecordRules R) (lawful : IsLawful k) where

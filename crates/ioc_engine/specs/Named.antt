@@ -4,8 +4,8 @@ use Rattle.atomic_table.specs.Seated.{TableId}
 use Rattle.rec_types.specs.Record.{Record}
 use Rattle.ioc_store.specs.World.{World}
 use Rattle.ioc_ledger.specs.Shared.{names_of}
-use Rattle.ioc_history.specs.declared.journal_name.JournalName
-use Rattle.ioc_history.specs.declared.cell.CellName
+use Rattle.ioc_journal.specs.declared.journal_name.JournalName
+use Rattle.ioc_journal.specs.declared.cell.CellName
 use Rattle.ioc_journaled_set.specs.declared.sets_name.SetsName
 use Rattle.ioc_engine_core.specs.Loading.{loaded_world, device_in}
 use Rattle.ioc_engine.specs.declared.seed.Seed.{Seed}

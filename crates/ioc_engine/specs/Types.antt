@@ -8,9 +8,9 @@ use Rattle.ioc_store.specs.World.{World, Has, at}
 use Rattle.ioc_store.specs.Given.{Answers}
 use Rattle.ioc_events.specs.declared.event.Call.{Call}
 use Rattle.ioc_events.specs.Calls.{called}
-use Rattle.ioc_history.specs.declared.entry.Note.{Note}
-use Rattle.ioc_history.specs.Legal.{map_of}
-use Rattle.ioc_history.specs.Covering.{Holds}
+use Rattle.ioc_journal.specs.declared.entry.Note.{Note}
+use Rattle.ioc_journal.specs.Legal.{map_of}
+use Rattle.ioc_journal.specs.Covering.{Holds}
 
 module _ {R : Type 0} (k : RecordRules R) where
   -- The type of the record with this number.

@@ -1,14 +1,14 @@
 //! Checkpoints of an engine.
 ghost use Rattle.std.specs.Prelude.{◌≡◌, ◌≤◌, ◌⊎◌, take, drop, IfOk, IfErr};
 ghost use Rattle.ioc_values.specs.declared.error.IocError.TheVariants.{Stopped};
-ghost use Rattle.ioc_history.specs.Account.{calls, HasSeenMore, IsGiven};
-ghost use Rattle.ioc_history.specs.Places.{IsNoPlace};
+ghost use Rattle.ioc_journal.specs.Account.{calls, HasSeenMore, IsGiven};
+ghost use Rattle.ioc_journal.specs.Places.{IsNoPlace};
 
 use crate::desk::Desk;
 use crate::engine::Engine;
 use crate::engine_name::EngineName;
 use ioc_device::Device;
-use ioc_history::Excerpt;
+use ioc_journal::Excerpt;
 use ioc_values::IocError;
 use std::alloc::AllocError;
 use std::sync::Wait;

@@ -1,7 +1,7 @@
 //! Desks.
 use crate::engine_name::EngineName;
 use ioc_device::Device;
-use ioc_history;
+use ioc_journal;
 use ioc_notify::NotifyId;
 use ioc_scan::Listed;
 use ioc_set::EventBuffers;
@@ -24,7 +24,7 @@ use std::alloc::Global;
 /// ```
 #[derive(Drop)]
 pub struct Desk<B: EngineName<D>, D: Device> {
-    pub(crate) account: ioc_history::DeskAccount<Record, B>,
+    pub(crate) account: ioc_journal::DeskAccount<Record, B>,
     pub(crate) buffers: EventBuffers<Record, D>,
     pub(crate) alloc: Global,
     pub(crate) moved: usize,

@@ -6,8 +6,8 @@ ghost use Rattle.ioc_events.specs.declared.event.Event.TheVariants.{Process, Put
 ghost use Rattle.ioc_events.specs.Step.{names};
 ghost use Rattle.ioc_set.specs.Doing.{is_ordinary};
 ghost use Rattle.ioc_set.specs.SetStore.{world_of};
-ghost use Rattle.ioc_history.specs.Line.{longer, Begins};
-ghost use Rattle.ioc_history.specs.Account.{IsAccount, calls, calls_by};
+ghost use Rattle.ioc_journal.specs.Line.{longer, Begins};
+ghost use Rattle.ioc_journal.specs.Account.{IsAccount, calls, calls_by};
 ghost use Rattle.ioc_names.specs.NameTable.{number_of};
 ghost use Rattle.ioc_journaled_set.specs.Puts.{HaveEnded};
 ghost use Rattle.ioc_engine_core.specs.Served.{WasServed, WasTold, CallIsRefused, GetIsRefused};

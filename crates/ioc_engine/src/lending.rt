@@ -1,7 +1,7 @@
 //! Engines that are lent to a program.
 ghost use Rattle.std.specs.Prelude.{◌≡◌, ◌⊎◌, IfOk, IfErr, OnOk};
 ghost use Rattle.ioc_values.specs.declared.error.IocError.TheVariants.{BadValue, JournalFull, NoMemory, Stopped};
-ghost use Rattle.ioc_history.specs.Places.{AreAllowed};
+ghost use Rattle.ioc_journal.specs.Places.{AreAllowed};
 ghost use Rattle.ioc_engine.specs.Named.{IsNamedBy};
 
 use crate::desk::Desk;
@@ -10,7 +10,7 @@ use crate::engine_name::EngineName;
 use crate::seed::Seed;
 use ioc_device::Device;
 use ioc_engine_core::Clock;
-use ioc_history::Limits;
+use ioc_journal::Limits;
 use ioc_values::IocError;
 use std::alloc::Global;
 use std::marker::Brand;

@@ -46,7 +46,7 @@ pub use ioc_dbfile::{Database, Macros, load};
 pub use ioc_device::{Answer, Ask, Device};
 pub use ioc_engine_core::{Clock, FixedClock};
 pub use ioc_events::{Call, Entry, Event, KeptAnswers, Reply};
-pub use ioc_history::{Excerpt, JournalBase, JournalEntry, TicketTally};
+pub use ioc_journal::{Excerpt, JournalBase, JournalEntry, TicketTally};
 pub use ioc_ledger::{Outcome, Tally};
 pub use ioc_menus::Scan;
 pub use ioc_names::RecordNo;
@@ -87,8 +87,8 @@ pub use ioc_dbfile::DeviceName;
 /// let limits = Limits::of(1_000_000);
 /// let engine = Engine::<B, _, _>::start(rt, alloc, seed, CountingClock::new(), limits)?;
 /// ```
-pub use ioc_history::Limits;
+pub use ioc_journal::Limits;
 
 /// The trace of a call in the journal of an engine. [`Engine::learn`] lets a desk's next call come
 /// after it, and [`Report::entry`] has the call's entry once the engine has stopped.
-pub type Receipt<B> = ioc_history::Receipt<Record, B>;
+pub type Receipt<B> = ioc_journal::Receipt<Record, B>;

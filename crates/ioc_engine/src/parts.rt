@@ -2,7 +2,7 @@
 ghost use Rattle.std.specs.Prelude.{◌≡◌, ◌⊎◌, ◌<◌, ℕ, All, Any, Contains, IfOk, IfErr};
 ghost use Rattle.ioc_values.specs.declared.error.IocError.TheVariants.{NoMemory, Stopped};
 ghost use Rattle.rec_types.specs.Record.{record_rules};
-ghost use Rattle.ioc_history.specs.Account.{HasSeenMore};
+ghost use Rattle.ioc_journal.specs.Account.{HasSeenMore};
 ghost use Rattle.ioc_engine_core.specs.Seen.{IsPartSeen};
 
 use crate::desk::Desk;

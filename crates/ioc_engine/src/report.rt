@@ -1,15 +1,15 @@
 //! The end of an engine.
 ghost use Rattle.std.specs.Prelude.{◌≡◌, ◌<◌, ◌≤◌, ◌⊎◌, ◌++◌, ℕ, Some, slice_get, [], length, map, take, drop, IfOk, IfSome, IfNone, OnOk};
 ghost use Rattle.rec_types.specs.Record.{record_rules};
-ghost use Rattle.ioc_history.specs.Account.{IsEntryOf, calls, calls_by};
-ghost use Rattle.ioc_history.specs.Base.{IsBaseOf};
-ghost use Rattle.ioc_history.specs.Counting.{counts_of, dropped_in};
+ghost use Rattle.ioc_journal.specs.Account.{IsEntryOf, calls, calls_by};
+ghost use Rattle.ioc_journal.specs.Base.{IsBaseOf};
+ghost use Rattle.ioc_journal.specs.Counting.{counts_of, dropped_in};
 ghost use Rattle.ioc_ledger.specs.Requests.{capped};
-ghost use Rattle.ioc_history.specs.Legal.{IsLegal, map_of};
-ghost use Rattle.ioc_history.specs.Line.{Begins};
+ghost use Rattle.ioc_journal.specs.Legal.{IsLegal, map_of};
+ghost use Rattle.ioc_journal.specs.Line.{Begins};
 ghost use Rattle.ioc_journaled_set.specs.SameDevice.{IsDeviceOf};
 ghost use Rattle.ioc_engine_core.specs.Ended.{IsEnd, counts_in};
-ghost use Rattle.ioc_history.specs.Ticketed.{AreTicketed};
+ghost use Rattle.ioc_journal.specs.Ticketed.{AreTicketed};
 ghost use Rattle.ioc_engine.specs.Stopped.{stopped_of, GivesBack};
 
 use crate::Receipt;
@@ -18,7 +18,7 @@ use crate::engine::Engine;
 use crate::engine_name::EngineName;
 use ioc_device::Device;
 use ioc_engine_core::{CoreReport, EndedSet};
-use ioc_history::{JournalBase, JournalEntry, TicketTally};
+use ioc_journal::{JournalBase, JournalEntry, TicketTally};
 use ioc_ledger::Tally;
 use ioc_names::RecordNo;
 use ioc_set_records::Slot;

@@ -3,8 +3,8 @@ ghost use Rattle.std.specs.Prelude.{◌≡◌, ◌⊎◌, ℕ, [], None, take, I
 ghost use Rattle.ioc_values.specs.declared.error.IocError.TheVariants.{BadValue, NoMemory, Stopped};
 ghost use Rattle.rec_types.specs.Record.{record_rules};
 ghost use Rattle.ioc_events.specs.declared.event.Call.TheVariants as call;
-ghost use Rattle.ioc_history.specs.Account.{HasCalled};
-ghost use Rattle.ioc_history.specs.Places.{IsNoPlace};
+ghost use Rattle.ioc_journal.specs.Account.{HasCalled};
+ghost use Rattle.ioc_journal.specs.Places.{IsNoPlace};
 ghost use Rattle.ioc_scan.specs.Places.{period_of};
 
 use crate::Receipt;

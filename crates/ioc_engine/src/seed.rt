@@ -1,7 +1,7 @@
 //! What an engine is started with.
 ghost use Rattle.std.specs.Prelude.{◌≡◌, ◌-◌, ◌^◌, ◌<◌, ℕ, List, [], length, map, slice_index_or, All, IfOk};
 ghost use Rattle.crossbeam_utils.specs.Seq.{cell_view};
-ghost use Rattle.ioc_history.specs.Line.{keeper};
+ghost use Rattle.ioc_journal.specs.Line.{keeper};
 ghost use Rattle.rec_types.specs.Record.{record_rules};
 ghost use Rattle.ioc_dbfile.specs.Owners.{owner_of};
 ghost use Rattle.ioc_dbfile.specs.OwnerTable.{owner_in};
@@ -9,8 +9,8 @@ ghost use Rattle.ioc_set_records.specs.Joined.{IsClosed};
 ghost use Rattle.ioc_set_records.specs.Linked.{links_in};
 ghost use Rattle.ioc_engine_core.specs.Loading.{IsIdle};
 ghost use Rattle.ioc_engine.specs.Binding.{device_of, spare_of};
-ghost use Rattle.ioc_scanner.specs.FirstLists.{first_lists, AreStarters};
-ghost use Rattle.ioc_scanner.specs.declared.places.Occasion.TheVariants.{Scanning};
+ghost use Rattle.ioc_scan_rules.specs.FirstLists.{first_lists, AreStarters};
+ghost use Rattle.ioc_scan_rules.specs.declared.places.Occasion.TheVariants.{Scanning};
 ghost use Rattle.ioc_set_records.specs.declared.loaded.Loaded.{Loaded};
 ghost use Rattle.rec_types.specs.Record.{Record};
 
@@ -18,11 +18,11 @@ use crate::binding::bind;
 use crate::lookup::Lookup;
 use ioc_dbfile::{Database, DeviceName};
 use ioc_engine_core::{new_cell, with_copies};
-use ioc_history::{Cell, KeyPass, PLACES};
+use ioc_journal::{Cell, KeyPass, PLACES};
 use ioc_ledger::CountBlanks;
 use ioc_scan::{Listed, ScanLists};
-use ioc_scanner::first_lists::first_lists;
-use ioc_scanner::{Occasion, starters};
+use ioc_scan_rules::first_lists::first_lists;
+use ioc_scan_rules::{Occasion, starters};
 use ioc_set_records::Loaded;
 use rec_types::Record;
 use std::alloc::{AllocError, Global};

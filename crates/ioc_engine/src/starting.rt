@@ -1,7 +1,7 @@
 //! The start of an engine.
 ghost use Rattle.std.specs.Prelude.{◌≡◌, ◌⊎◌, length, IfOk, IfErr, OnOk};
 ghost use Rattle.ioc_values.specs.declared.error.IocError.TheVariants.{BadValue, JournalFull, NoMemory};
-ghost use Rattle.ioc_history.specs.Places.{AreAllowed};
+ghost use Rattle.ioc_journal.specs.Places.{AreAllowed};
 ghost use Rattle.ioc_engine.specs.Named.{IsNamedBy};
 
 use crate::engine::Engine;
@@ -10,7 +10,7 @@ use crate::engine_name::EngineName;
 use crate::seed::Seed;
 use ioc_device::Device;
 use ioc_engine_core::{Clock, StartError, start};
-use ioc_history::Limits;
+use ioc_journal::Limits;
 use ioc_scan::Listed;
 use ioc_values::IocError;
 use rec_types::Record;

@@ -12,10 +12,10 @@ use Rattle.ioc_set_records.specs.Contents.{Contents, nothing, record_at}
 use Rattle.ioc_set_records.specs.Joined.{links_of, Names, IsPart}
 use Rattle.ioc_store.specs.OneMapLaws.{get-numbered, len-numbered}
 use Rattle.ioc_store.specs.World.{World, Has, IsClosed, at, common_at}
-use Rattle.ioc_history.specs.Key.{Key, record_keys}
-use Rattle.ioc_history.specs.Key.{Has as Has_key}
-use Rattle.ioc_history.specs.KeyLaws.{has_either, record_kind}
-use Rattle.ioc_history.specs.Covering.{Holds}
+use Rattle.ioc_journal.specs.Key.{Key, record_keys}
+use Rattle.ioc_journal.specs.Key.{Has as Has_key}
+use Rattle.ioc_journal.specs.KeyLaws.{has_either, record_kind}
+use Rattle.ioc_journal.specs.Covering.{Holds}
 use Rattle.ioc_set.specs.Resting.{resting}
 use Rattle.ioc_ledger.specs.Requests.{no_counts}
 use Rattle.ioc_journaled_set.specs.Holding.{KeepsDevices}

@@ -7,7 +7,7 @@ use Rattle.std.specs.Prelude.{Contains, IsSome, All}
 use Rattle.std.specs.FinMap.{get, keys}
 use Rattle.ioc_notify.specs.Waits.{at_record}
 use Rattle.ioc_store.specs.World.{World}
-use Rattle.ioc_history.specs.Covering.{WaitsWithin}
+use Rattle.ioc_journal.specs.Covering.{WaitsWithin}
 use Rattle.ioc_set.specs.SetState.{SetState, now_of}
 use Rattle.ioc_journaled_set.specs.Copies.{IsIn}
 use Rattle.ioc_journaled_set.specs.Holding.{HeldView}

@@ -1,6 +1,6 @@
 -- The keys of all records.
 use Rattle.std.proofs.Common.{◌≡◌, List, ◌∷◌, ap, subst, ⊎_elim, arith}
-use Rattle.ioc_history.specs.Key.{Key, Has}
+use Rattle.ioc_journal.specs.Key.{Key, Has}
 
 -- Keys of records together with the key of the puts with notification include no key of a desk.
 pub no_desks_with : (born now : List Key) → ((key : Key) → Has key born → key.0 ≡ 0) → now ≡ (2, 0) ∷ born → (key : Key) → Has key now → key.0 ≡ 1 → ⊥

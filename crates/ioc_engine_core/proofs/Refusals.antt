@@ -8,7 +8,7 @@ use Rattle.ioc_events.specs.declared.event.Event.{Event}
 use Rattle.ioc_journaled_set.specs.Holding.{HeldView, numbers_of, IsSoundlyHeld, IsNoCall}
 use Rattle.ioc_fields.specs.declared.field_no.FieldNo.{FieldNo}
 use Rattle.ioc_events.specs.Step.{shown}
-use Rattle.ioc_history.specs.Places.{IsNoPlace}
+use Rattle.ioc_journal.specs.Places.{IsNoPlace}
 use Rattle.ioc_set.specs.SetState.{now_of}
 use Rattle.ioc_engine_core.specs.Served.{CallIsRefused, GetIsRefused}
 

@@ -2,9 +2,9 @@
 use Rattle.std.proofs.Common.{◌≡◌, ℕ, List, ◌++◌, [], refl, sym, ap, ◌∙◌, subst, append-nil, append_assoc}
 use Rattle.ioc_record.specs.RecordRules.{RecordRules}
 use Rattle.ioc_store.specs.World.{World}
-use Rattle.ioc_history.specs.declared.entry.Note.{Note}
-use Rattle.ioc_history.specs.Account.{DeskView, HasSeenMore, calls, calls_by}
-use Rattle.ioc_history.specs.Line.{Begins}
+use Rattle.ioc_journal.specs.declared.entry.Note.{Note}
+use Rattle.ioc_journal.specs.Account.{DeskView, HasSeenMore, calls, calls_by}
+use Rattle.ioc_journal.specs.Line.{Begins}
 use Rattle.ioc_engine_core.specs.Seen.{IsPartSeen}
 
 pub begins_on : (a b c : List Note) → Begins a b → Begins b c → Begins a c

@@ -6,7 +6,7 @@ use Rattle.ioc_store.specs.World.{World}
 use Rattle.ioc_values.specs.declared.error.IocError.TheVariants.{Stale}
 use Rattle.ioc_events.specs.declared.reply.Reply.{Reply}
 use Rattle.ioc_events.specs.declared.reply.Reply.TheVariants.{Plain, Refused}
-use Rattle.ioc_history.specs.Account.{DeskView}
+use Rattle.ioc_journal.specs.Account.{DeskView}
 use Rattle.ioc_journaled_set.specs.Holding.{HeldView, IsSoundlyHeld}
 use Rattle.ioc_journaled_set.specs.Puts.{PutsView, WasStale}
 use Rattle.ioc_journaled_set.specs.GivingUp.{GaveUpOn}

@@ -7,9 +7,9 @@ use Rattle.ioc_graph.specs.Paths.{Connected}
 use Rattle.ioc_set_records.specs.Joined.{links_of, Joined}
 use Rattle.ioc_store.specs.World.{World}
 use Rattle.ioc_topology.specs.Gathered.{HoldEach}
-use Rattle.ioc_history.specs.declared.entry.Note.{Note}
-use Rattle.ioc_history.specs.Legal.{map_of}
-use Rattle.ioc_history.specs.Account.{IsAccount}
+use Rattle.ioc_journal.specs.declared.entry.Note.{Note}
+use Rattle.ioc_journal.specs.Legal.{map_of}
+use Rattle.ioc_journal.specs.Account.{IsAccount}
 use Rattle.ioc_journaled_set.specs.Copies.{IsIn}
 use Rattle.ioc_journaled_set.specs.Holding.{HeldView, KeepsDevices, numbers_of, IsSoundlyHeld}
 use Rattle.ioc_ledger.specs.declared.tally.Tally.{Tally}

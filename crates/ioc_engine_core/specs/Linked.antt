@@ -9,8 +9,8 @@ use Rattle.ioc_dbcommon.specs.Links.{use_of, record_named}
 use Rattle.ioc_record.specs.RecordRules.{RecordRules}
 use Rattle.ioc_set_records.specs.Joined.{HasLink}
 use Rattle.ioc_store.specs.World.{World}
-use Rattle.ioc_history.specs.Account.{DeskView}
-use Rattle.ioc_history.specs.Places.{IsNoPlace}
+use Rattle.ioc_journal.specs.Account.{DeskView}
+use Rattle.ioc_journal.specs.Places.{IsNoPlace}
 use Rattle.ioc_topology.specs.Change.{AreLent, AreSound, LinkIsRefused}
 use Rattle.ioc_journaled_set.specs.Holding.{HeldView, numbers_of, IsSoundlyHeld}
 use Rattle.ioc_journaled_set.specs.Changing.{Relinks}

@@ -9,7 +9,7 @@ use Rattle.ioc_set_records.specs.Contents.{Contents, nothing}
 use Rattle.ioc_set_records.specs.Joined.{links_of, IsPart}
 use Rattle.ioc_store.specs.OneMap.{numbered}
 use Rattle.ioc_store.specs.World.{World}
-use Rattle.ioc_history.specs.Key.{Key, Has}
+use Rattle.ioc_journal.specs.Key.{Key, Has}
 use Rattle.ioc_set.specs.Resting.{resting}
 use Rattle.ioc_set_records.specs.declared.loaded.Loaded.{Loaded}
 use Rattle.ioc_set_records.specs.Dealing.{HasPart}

@@ -6,7 +6,7 @@ use Rattle.ioc_shared_queues.specs.declared.rank.Rank.TheVariants as rank
 use Rattle.ioc_shared_queues.specs.declared.record_requests.RecordRequest.{RecordRequest}
 use Rattle.ioc_shared_queues.specs.Ranks.{rank_of}
 use Rattle.ioc_shared_queues.specs.Requests.{request}
-use Rattle.ioc_scanner.specs.Asked.{Request, Once, Callback}
+use Rattle.ioc_scan_rules.specs.Asked.{Request, Once, Callback}
 
 -- One of these tickets is taken: a counted one, if there is any.
 abbrev pub IsTaken : ℕ → Bool → ℕ → Type 0

@@ -12,8 +12,8 @@ use Rattle.ioc_store.specs.World.{World}
 use Rattle.ioc_events.specs.declared.event.Event.{Event}
 use Rattle.ioc_events.specs.declared.reply.Reply.{Reply}
 use Rattle.ioc_events.specs.Step.{shown}
-use Rattle.ioc_history.specs.Account.{DeskView}
-use Rattle.ioc_history.specs.Places.{IsNoPlace}
+use Rattle.ioc_journal.specs.Account.{DeskView}
+use Rattle.ioc_journal.specs.Places.{IsNoPlace}
 use Rattle.ioc_set.specs.SetState.{now_of}
 use Rattle.ioc_set.specs.NoCalls.{no_call}
 use Rattle.ioc_topology.specs.Change.{IsRefused}

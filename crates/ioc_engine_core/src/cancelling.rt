@@ -3,7 +3,7 @@ ghost use Rattle.std.specs.Prelude.{◌≡◌, ◌⊎◌, ℕ, [], All, IfOk, If
 ghost use Rattle.std.specs.Option.{IfSome};
 ghost use Rattle.ioc_values.specs.declared.error.IocError.TheVariants.{Stale, Stopped};
 ghost use Rattle.ioc_events.specs.declared.reply.Reply.TheVariants.{Plain, Refused};
-ghost use Rattle.ioc_history.specs.Places.{IsNoPlace};
+ghost use Rattle.ioc_journal.specs.Places.{IsNoPlace};
 ghost use Rattle.ioc_journaled_set.specs.Holding.{IsSoundlyHeld};
 ghost use Rattle.ioc_engine_core.specs.Cancelled.{WasCancelled, WasGivenUp, WasNotLive};
 
@@ -11,7 +11,7 @@ use crate::clock::Clock;
 use crate::engine::{BusySet, EngineCore};
 use ioc_device::Device;
 use ioc_events::Reply;
-use ioc_history::{DeskAccount, Receipt};
+use ioc_journal::{DeskAccount, Receipt};
 use ioc_journaled_set::{JournaledSet, SetsName, cancel_on};
 use ioc_notify::NotifyId;
 use ioc_record::RecordKind;

@@ -1,12 +1,12 @@
 //! Checkpoints of the journal.
 ghost use Rattle.std.specs.Prelude.{◌≡◌, ◌≤◌, ◌⊎◌, take, drop, IfOk, IfErr, IfSome};
 ghost use Rattle.ioc_values.specs.declared.error.IocError.TheVariants.{Stopped};
-ghost use Rattle.ioc_history.specs.Account.{calls, HasSeenMore, IsGiven};
-ghost use Rattle.ioc_history.specs.Places.{IsNoPlace};
+ghost use Rattle.ioc_journal.specs.Account.{calls, HasSeenMore, IsGiven};
+ghost use Rattle.ioc_journal.specs.Places.{IsNoPlace};
 
 use crate::engine::{BusySet, EngineCore};
 use ioc_device::Device;
-use ioc_history::{DeskAccount, Excerpt};
+use ioc_journal::{DeskAccount, Excerpt};
 use ioc_journaled_set::{SetsName, checkpoint_giving, checkpoint_on};
 use ioc_record::RecordKind;
 use ioc_values::IocError;

@@ -1,11 +1,11 @@
 //! The journal of an engine that has ended.
 ghost use Rattle.std.specs.Prelude.{◌≡◌, ◌<◌, ◌≤◌, ◌⊎◌, ℕ, Some, slice_get, [], length, take, drop, IfSome, IfNone};
-ghost use Rattle.ioc_history.specs.Account.{IsEntryOf, calls, calls_by, desk_view};
-ghost use Rattle.ioc_history.specs.Base.{IsBaseOf};
-ghost use Rattle.ioc_history.specs.Line.{Begins};
-ghost use Rattle.ioc_history.specs.Legal.{IsLegal, map_of};
+ghost use Rattle.ioc_journal.specs.Account.{IsEntryOf, calls, calls_by, desk_view};
+ghost use Rattle.ioc_journal.specs.Base.{IsBaseOf};
+ghost use Rattle.ioc_journal.specs.Line.{Begins};
+ghost use Rattle.ioc_journal.specs.Legal.{IsLegal, map_of};
 
-use ioc_history::{Cell, DeskAccount, Journal, JournalBase, JournalEntry, JournalName, Receipt};
+use ioc_journal::{Cell, DeskAccount, Journal, JournalBase, JournalEntry, JournalName, Receipt};
 use ioc_record::RecordKind;
 use std::marker::Model;
 use std::sync::Wait;
@@ -20,9 +20,9 @@ pub struct EndedJournal<K: RecordKind, B: JournalName<K>> {
 
 impl<K: RecordKind, B: JournalName<K>> Model for EndedJournal<K, B> {
     ghost use Rattle.std.specs.Prelude.{◌≡◌};
-    ghost use Rattle.ioc_history.specs.declared.entry.Note.{Note};
-    ghost use Rattle.ioc_history.specs.Places.{JournalOf};
-    ghost use Rattle.ioc_history.specs.PlacesCode.{journal_code};
+    ghost use Rattle.ioc_journal.specs.declared.entry.Note.{Note};
+    ghost use Rattle.ioc_journal.specs.Places.{JournalOf};
+    ghost use Rattle.ioc_journal.specs.PlacesCode.{journal_code};
 
     ghost Value = { JournalOf Note };
 

@@ -8,7 +8,7 @@ ghost use Rattle.ioc_engine_core.specs.Linked.{other_of, WasLinked, LinkWasRefus
 use crate::clock::Clock;
 use crate::engine::EngineCore;
 use ioc_device::Device;
-use ioc_history::DeskAccount;
+use ioc_journal::DeskAccount;
 use ioc_journaled_set::{Changed, JournalAccess, JournaledSet, SetsName, change_link};
 use ioc_record::RecordKind;
 use ioc_scan::Listed;

@@ -2,7 +2,7 @@
 ghost use Rattle.std.specs.Prelude.{◌≡◌, ◌⊎◌, ℕ, IfOk, IfErr, OnOk, OnErr};
 ghost use Rattle.ioc_values.specs.declared.error.IocError.TheVariants.{QueueFull, Stopped};
 ghost use Rattle.ioc_events.specs.declared.event.Event.TheVariants.{Put};
-ghost use Rattle.ioc_history.specs.Places.{IsNoPlace};
+ghost use Rattle.ioc_journal.specs.Places.{IsNoPlace};
 ghost use Rattle.ioc_journaled_set.specs.Puts.{PutsView, WasAsked, NoneMayBegin, HaveEnded};
 ghost use Rattle.ioc_set.specs.SetStore.{world_of};
 ghost use Rattle.ioc_engine_core.specs.Served.{WasBegun, CallIsRefused};
@@ -11,7 +11,7 @@ use crate::clock::Clock;
 use crate::engine::EngineCore;
 use ioc_device::Device;
 use ioc_events::Reply;
-use ioc_history::{DeskAccount, Receipt};
+use ioc_journal::{DeskAccount, Receipt};
 use ioc_journaled_set::{FieldPut, Served, SetsName};
 use ioc_notify::NotifyId;
 use ioc_record::RecordKind;

@@ -1,9 +1,9 @@
 //! The cell that an engine is named by.
 ghost use Rattle.std.specs.Prelude.{◌≡◌, [], IfOk};
 ghost use Rattle.crossbeam_utils.specs.Seq.{cell_view};
-ghost use Rattle.ioc_history.specs.Line.{keeper};
+ghost use Rattle.ioc_journal.specs.Line.{keeper};
 
-use ioc_history::{Cell, KeyPass};
+use ioc_journal::{Cell, KeyPass};
 use std::alloc::{AllocError, Global};
 
 /// Creates the cell of an engine that isn't started yet, and the keeper's pass, which has seen no

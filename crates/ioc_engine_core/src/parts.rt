@@ -1,6 +1,6 @@
 //! The records of each lock set.
 ghost use Rattle.std.specs.Prelude.{◌≡◌, ◌⊎◌, ◌<◌, ℕ, false, slice_index_or, All, Any, Contains, IfOk, IfErr};
-ghost use Rattle.ioc_history.specs.Account.{HasSeenMore};
+ghost use Rattle.ioc_journal.specs.Account.{HasSeenMore};
 ghost use Rattle.ioc_journaled_set.specs.Holding.{numbers_of};
 ghost use Rattle.ioc_topology.specs.Change.{IsRefused};
 ghost use Rattle.ioc_topology.specs.Gathered.{IsMarked};
@@ -9,7 +9,7 @@ ghost use Rattle.ioc_engine_core.specs.Seen.{IsPartSeen};
 
 use crate::engine::EngineCore;
 use ioc_device::Device;
-use ioc_history::DeskAccount;
+use ioc_journal::DeskAccount;
 use ioc_journaled_set::{JournaledSet, SetsName};
 use ioc_names::RecordNo;
 use ioc_record::RecordKind;

@@ -2,19 +2,19 @@
 ghost use Rattle.std.specs.Prelude.{◌≡◌, ◌⊎◌, ℕ, true, [], length, take, IfOk, IfErr, OnOk, OnErr};
 ghost use Rattle.ioc_values.specs.declared.error.IocError.TheVariants.{NoMemory, Stopped};
 ghost use Rattle.ioc_events.specs.declared.event.Call.TheVariants as call;
-ghost use Rattle.ioc_history.specs.Account.{HasCalled};
-ghost use Rattle.ioc_history.specs.Posting.{is_posting, requests_of};
-ghost use Rattle.ioc_history.specs.Places.{IsNoPlace};
+ghost use Rattle.ioc_journal.specs.Account.{HasCalled};
+ghost use Rattle.ioc_journal.specs.Posting.{is_posting, requests_of};
+ghost use Rattle.ioc_journal.specs.Places.{IsNoPlace};
 
 use crate::clock::Clock;
 use crate::engine::EngineCore;
 use ioc_device::Device;
 use ioc_events::{Call, Entry, KeptAnswers};
-use ioc_history::{DeskAccount, Place, Posted, Receipt};
+use ioc_journal::{DeskAccount, Place, Posted, Receipt};
 use ioc_journaled_set::SetsName;
 use ioc_record::RecordKind;
 use ioc_scan::{ListName, Listed};
-use ioc_scanner::{calls, event_list, interrupt_list};
+use ioc_scan_rules::{calls, event_list, interrupt_list};
 use ioc_values::{IocError, Short, Text};
 use std::alloc::Global;
 use std::sync::Wait;

@@ -1,6 +1,6 @@
 //! Requests on their way to the queues.
 ghost use Rattle.std.specs.Prelude.{◌≡◌};
-ghost use Rattle.ioc_scanner.specs.Asked.{callbacks_of};
+ghost use Rattle.ioc_scan_rules.specs.Asked.{callbacks_of};
 ghost use Rattle.ioc_engine_core.specs.Queueing.{IsPut, ArePushed};
 
 use ioc_ledger::Tickets;

@@ -3,9 +3,9 @@ ghost use Rattle.std.specs.Prelude.{◌≡◌, ◌<◌, ◌≤◌, ◌+◌, ℕ,
 ghost use Rattle.std.specs.Vec.{vec_capacity};
 ghost use Rattle.std.specs.FinMap.{len};
 ghost use Rattle.std.specs.List.{sum_by};
-ghost use Rattle.ioc_history.specs.Counting.{counts_of, dropped_in};
+ghost use Rattle.ioc_journal.specs.Counting.{counts_of, dropped_in};
 ghost use Rattle.ioc_ledger.specs.Requests.{capped, no_counts};
-ghost use Rattle.ioc_history.specs.Legal.{map_of};
+ghost use Rattle.ioc_journal.specs.Legal.{map_of};
 ghost use Rattle.ioc_store.specs.World.{Has};
 ghost use Rattle.ioc_topology.specs.Gathered.{HoldEach};
 ghost use Rattle.ioc_journaled_set.specs.Copies.{IsIn};
@@ -13,15 +13,15 @@ ghost use Rattle.ioc_journaled_set.specs.Holding.{IsSoundlyHeld, KeepsDevices, n
 ghost use Rattle.ioc_journaled_set.specs.SameDevice.{IsDeviceOf};
 ghost use Rattle.ioc_engine_core.specs.Ended.{IsEnd, counts_in};
 ghost use Rattle.ioc_engine_core.specs.Loading.{IsSpare};
-ghost use Rattle.ioc_history.specs.Ticketed.{AreTicketed};
+ghost use Rattle.ioc_journal.specs.Ticketed.{AreTicketed};
 
 use crate::cancelling::all_sound;
 use crate::ended_journal::EndedJournal;
 use crate::engine::EngineCore;
 use crate::serving::give_up_waiting;
 use ioc_device::Device;
-use ioc_history::legal_laws::lists_leave_sound;
-use ioc_history::{Cell, EngineCounts, Journal, JournalName, TicketTally};
+use ioc_journal::legal_laws::lists_leave_sound;
+use ioc_journal::{Cell, EngineCounts, Journal, JournalName, TicketTally};
 use ioc_journaled_set::{EndedSet, JournaledSet, SetsName, move_all_on};
 use ioc_ledger::laws::counts_are_added;
 use ioc_ledger::{Tally, TallyShare};

@@ -2,12 +2,12 @@
 use crate::engine::EngineCore;
 use crate::queueing::{push_each, push_one};
 use ioc_device::Device;
-use ioc_history::RequestTickets;
+use ioc_journal::RequestTickets;
 use ioc_journaled_set::SetsName;
 use ioc_ledger::Tickets;
 use ioc_record::RecordKind;
 use ioc_scan::Listed;
-use ioc_scanner::{Asked, take_item};
+use ioc_scan_rules::{Asked, take_item};
 use ioc_set::EventBuffers;
 use ioc_shared_queues::Rank;
 use ioc_store::OutboxItem;

@@ -7,7 +7,7 @@ use crate::clock::Clock;
 use crate::engine::{EngineCore, QueuedRequest};
 use ioc_device::Device;
 use ioc_events::Event;
-use ioc_history::{DeskAccount, RequestTickets, SharedJournal};
+use ioc_journal::{DeskAccount, RequestTickets, SharedJournal};
 use ioc_journaled_set::SetsName;
 use ioc_ledger::Ticket;
 use ioc_names::RecordNo;

@@ -2,7 +2,7 @@
 ghost use Rattle.std.specs.FinMap.{len};
 ghost use Rattle.ioc_engine_core.specs.Loading.{IsSpare};
 
-use ioc_history::{EngineCounts, JournalName};
+use ioc_journal::{EngineCounts, JournalName};
 use ioc_ledger::TallyShare;
 use ioc_record::RecordKind;
 use std::marker::Model;

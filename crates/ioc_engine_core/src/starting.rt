@@ -1,10 +1,10 @@
 //! The start of an engine.
 ghost use Rattle.std.specs.Prelude.{◌≡◌, ◌<◌, ◌-◌, ℕ, ◌^◌, ◌↔◌, [], All, IsTrue, IfOk, IfErr, OnOk, length};
 ghost use Rattle.crossbeam_utils.specs.Seq.{cell_view};
-ghost use Rattle.ioc_history.specs.Line.{keeper};
-ghost use Rattle.ioc_history.specs.Account.{AreNoDesks, AreRecords};
-ghost use Rattle.ioc_history.specs.Places.{AreAllowed};
-ghost use Rattle.ioc_history.specs.Legal.{IsSound};
+ghost use Rattle.ioc_journal.specs.Line.{keeper};
+ghost use Rattle.ioc_journal.specs.Account.{AreNoDesks, AreRecords};
+ghost use Rattle.ioc_journal.specs.Places.{AreAllowed};
+ghost use Rattle.ioc_journal.specs.Legal.{IsSound};
 ghost use Rattle.std.specs.FinMap.{len};
 ghost use Rattle.ioc_store.specs.World.{Has};
 ghost use Rattle.ioc_set_records.specs.Joined.{IsClosed};
@@ -17,8 +17,8 @@ ghost use Rattle.ioc_engine_core.specs.declared.starting.StartError.TheVariants.
 use crate::engine::{EngineCore, QueuedRequest};
 use crate::holding::hold_all;
 use ioc_device::Device;
-use ioc_history::legal_laws::lists_leave_sound;
-use ioc_history::{
+use ioc_journal::legal_laws::lists_leave_sound;
+use ioc_journal::{
     Cell, EngineCounts, Journal, JournalName, KeyPass, Limits, SharedJournal, TicketCounts, pass,
 };
 use ioc_journaled_set::{JournaledSet, SetsName, SharedNotifications};

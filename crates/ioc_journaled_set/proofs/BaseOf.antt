@@ -9,9 +9,9 @@ use Rattle.std.proofs.lemmas.List.Elements.{filter-append}
 use Rattle.ioc_notify.specs.declared.waiting_lists.Waiting.{Waiting}
 use Rattle.ioc_notify.specs.Waits.{at_record}
 use Rattle.ioc_store.specs.World.{World, Has}
-use Rattle.ioc_history.specs.Base.{IsBaseOf}
-use Rattle.ioc_history.proofs.Basics.{nobody-waits}
-use Rattle.ioc_history.specs.Covering.{WaitsWithin}
+use Rattle.ioc_journal.specs.Base.{IsBaseOf}
+use Rattle.ioc_journal.proofs.Basics.{nobody-waits}
+use Rattle.ioc_journal.specs.Covering.{WaitsWithin}
 use Rattle.ioc_set.specs.SetState.{SetState, now_of}
 use Rattle.ioc_topology.specs.Gathered.{HoldEach}
 use Rattle.ioc_journaled_set.specs.Copies.{AreCopies, IsIn}

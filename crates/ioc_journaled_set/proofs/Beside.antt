@@ -16,17 +16,17 @@ use Rattle.ioc_events.specs.declared.reply.Reply.{Reply}
 use Rattle.ioc_events.specs.Holding.{IsCounted, IsHeld, how_many, holders}
 use Rattle.ioc_events.specs.Local.{AskAlike}
 use Rattle.ioc_events.specs.Step.{names}
-use Rattle.ioc_history.specs.declared.entry.Note.{Note}
-use Rattle.ioc_history.specs.Key.{Key, Has as Has_key}
-use Rattle.ioc_history.specs.KeyLaws.{has_left, has_right}
-use Rattle.ioc_history.specs.Line.{Continues, noted}
-use Rattle.ioc_history.specs.Legal.{IsLegal, IsSound, key_of, map_of, notifications_key}
-use Rattle.ioc_history.specs.Counting.{sent_in, tallied_by, BothMaySend, BothMayCount}
+use Rattle.ioc_journal.specs.declared.entry.Note.{Note}
+use Rattle.ioc_journal.specs.Key.{Key, Has as Has_key}
+use Rattle.ioc_journal.specs.KeyLaws.{has_left, has_right}
+use Rattle.ioc_journal.specs.Line.{Continues, noted}
+use Rattle.ioc_journal.specs.Legal.{IsLegal, IsSound, key_of, map_of, notifications_key}
+use Rattle.ioc_journal.specs.Counting.{sent_in, tallied_by, BothMaySend, BothMayCount}
 use Rattle.ioc_ledger.specs.Shared.{ShareView}
 use Rattle.ioc_ledger.specs.declared.tally.Tally.{Tally}
-use Rattle.ioc_history.specs.Covering.{Holds, Cover, CancelsWithin}
-use Rattle.ioc_history.specs.Laws.{MovesAlike, GoesOn}
-use Rattle.ioc_history.specs.Account.{journalled, BothMayFollow, AddedByBoth, puts_key}
+use Rattle.ioc_journal.specs.Covering.{Holds, Cover, CancelsWithin}
+use Rattle.ioc_journal.specs.Laws.{MovesAlike, GoesOn}
+use Rattle.ioc_journal.specs.Account.{journalled, BothMayFollow, AddedByBoth, puts_key}
 use Rattle.ioc_set.specs.SetState.{SetState, now_of, done_by}
 use Rattle.ioc_set.specs.Doing.{Does}
 use Rattle.ioc_journaled_set.specs.CallLaws.{CallLaws}

@@ -7,13 +7,13 @@ use Rattle.ioc_notify.specs.Living.{holders_of}
 use Rattle.ioc_notify.specs.Counts.{IsTable, holders_in}
 use Rattle.ioc_record.specs.RecordRules.{RecordRules}
 use Rattle.ioc_store.specs.World.{World}
-use Rattle.ioc_history.specs.declared.entry.Note.{Note}
-use Rattle.ioc_history.specs.Line.{Continues}
-use Rattle.ioc_history.specs.Legal.{IsLegal, map_of, notifications_key}
-use Rattle.ioc_history.specs.Laws.{LiveLasts}
-use Rattle.ioc_history.proofs.Numbers.{numbers_on}
+use Rattle.ioc_journal.specs.declared.entry.Note.{Note}
+use Rattle.ioc_journal.specs.Line.{Continues}
+use Rattle.ioc_journal.specs.Legal.{IsLegal, map_of, notifications_key}
+use Rattle.ioc_journal.specs.Laws.{LiveLasts}
+use Rattle.ioc_journal.proofs.Numbers.{numbers_on}
 use Rattle.ioc_journaled_set.specs.Puts.{puts_view, AreCounted, AreMoved, IsUpToDate, NoneIsAbove, AreTaken}
-use Rattle.ioc_history.specs.Account.{puts_key, PutsAreKeyed}
+use Rattle.ioc_journal.specs.Account.{puts_key, PutsAreKeyed}
 
 pub keyed_before : (xs ys : List Note) → PutsAreKeyed (xs ++ ys) → PutsAreKeyed xs
 keyed_before [] ys keyed = tt

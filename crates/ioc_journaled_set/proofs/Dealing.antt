@@ -8,18 +8,18 @@ use Rattle.ioc_dbcommon.specs.declared.link_field.LinkField.{LinkField}
 use Rattle.ioc_record.specs.RecordRules.{RecordRules}
 use Rattle.ioc_set_records.specs.Joined.{AreShared}
 use Rattle.ioc_store.specs.World.{World, at}
-use Rattle.ioc_history.specs.declared.entry.Note.{Note}
-use Rattle.ioc_history.specs.declared.cell.View.{View}
-use Rattle.ioc_history.specs.Key.{Key, Has}
-use Rattle.ioc_history.specs.KeyLaws.{has_either, record_kind}
-use Rattle.ioc_history.specs.Line.{Continues, holder}
-use Rattle.ioc_history.specs.Legal.{IsLegal, IsSound, map_of}
-use Rattle.ioc_history.specs.Covering.{Cover}
-use Rattle.ioc_history.specs.Laws.{GoesOn}
-use Rattle.ioc_history.specs.Counting.{BothMaySend, sent_counts}
-use Rattle.ioc_history.proofs.Dropping.{links-drop, link-sends_after}
-use Rattle.ioc_history.specs.LinkChange.{link_note}
-use Rattle.ioc_history.specs.Account.{IsHolder, AreRecords, BothMayFollow, AddedByBoth}
+use Rattle.ioc_journal.specs.declared.entry.Note.{Note}
+use Rattle.ioc_journal.specs.declared.cell.View.{View}
+use Rattle.ioc_journal.specs.Key.{Key, Has}
+use Rattle.ioc_journal.specs.KeyLaws.{has_either, record_kind}
+use Rattle.ioc_journal.specs.Line.{Continues, holder}
+use Rattle.ioc_journal.specs.Legal.{IsLegal, IsSound, map_of}
+use Rattle.ioc_journal.specs.Covering.{Cover}
+use Rattle.ioc_journal.specs.Laws.{GoesOn}
+use Rattle.ioc_journal.specs.Counting.{BothMaySend, sent_counts}
+use Rattle.ioc_journal.proofs.Dropping.{links-drop, link-sends_after}
+use Rattle.ioc_journal.specs.LinkChange.{link_note}
+use Rattle.ioc_journal.specs.Account.{IsHolder, AreRecords, BothMayFollow, AddedByBoth}
 use Rattle.ioc_set.specs.SetState.{SetState, now_of}
 use Rattle.ioc_journaled_set.specs.Holding.{IsOwner}
 use Rattle.ioc_journaled_set.specs.LinkChanges.{keys_of, link_change}

@@ -8,9 +8,9 @@ use Rattle.ioc_notify.specs.Counts.{IsTable, holders_in, lines_of}
 use Rattle.ioc_record.specs.RecordRules.{RecordRules}
 use Rattle.ioc_store.specs.World.{World}
 use Rattle.ioc_events.specs.Holding.{IsCounted, EndsExactly}
-use Rattle.ioc_history.specs.declared.entry.Note.{Note}
-use Rattle.ioc_history.specs.Legal.{entry_of, map_of, IsLegal, IsSound}
-use Rattle.ioc_history.specs.Laws.{EndsLast}
+use Rattle.ioc_journal.specs.declared.entry.Note.{Note}
+use Rattle.ioc_journal.specs.Legal.{entry_of, map_of, IsLegal, IsSound}
+use Rattle.ioc_journal.specs.Laws.{EndsLast}
 use Rattle.ioc_set.proofs.Gathered.{passes-there, there-passes}
 use Rattle.ioc_journaled_set.specs.Puts.{AreCounted, HaveEnded}
 use Rattle.ioc_journaled_set.proofs.Serving.{nothing_there}

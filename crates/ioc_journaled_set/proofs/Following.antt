@@ -10,20 +10,20 @@ use Rattle.ioc_notify.specs.Living.{holders_of}
 use Rattle.ioc_record.specs.RecordRules.{RecordRules}
 use Rattle.ioc_store.specs.World.{World}
 use Rattle.ioc_store.specs.Freeing.{has-cancelled}
-use Rattle.ioc_history.specs.declared.entry.Note.{Note}
-use Rattle.ioc_history.specs.declared.cell.View.{View}
-use Rattle.ioc_history.specs.Key.{Key, Has as Has_key}
-use Rattle.ioc_history.specs.KeyLaws.{has_left}
-use Rattle.ioc_history.specs.Line.{Continues, holder, noted}
-use Rattle.ioc_history.specs.Legal.{IsLegal, key_of, map_of, notifications_key}
-use Rattle.ioc_history.specs.Legal.{IsSound as IsSound-world}
-use Rattle.ioc_history.specs.CountLaws.{CountsNothing}
+use Rattle.ioc_journal.specs.declared.entry.Note.{Note}
+use Rattle.ioc_journal.specs.declared.cell.View.{View}
+use Rattle.ioc_journal.specs.Key.{Key, Has as Has_key}
+use Rattle.ioc_journal.specs.KeyLaws.{has_left}
+use Rattle.ioc_journal.specs.Line.{Continues, holder, noted}
+use Rattle.ioc_journal.specs.Legal.{IsLegal, key_of, map_of, notifications_key}
+use Rattle.ioc_journal.specs.Legal.{IsSound as IsSound-world}
+use Rattle.ioc_journal.specs.CountLaws.{CountsNothing}
 use Rattle.ioc_journaled_set.specs.Sent.{MayCountNothing}
-use Rattle.ioc_history.specs.Covering.{Holds, Cover}
-use Rattle.ioc_history.specs.Laws.{Lasts, LiveLasts, GoesOn}
-use Rattle.ioc_history.proofs.Basics.{is-none}
-use Rattle.ioc_history.specs.Account.{journalled, calls, numbers_given, PutsAreKeyed, MayFollow, Added, puts_key}
-use Rattle.ioc_history.proofs.Numbers.{numbers_same}
+use Rattle.ioc_journal.specs.Covering.{Holds, Cover}
+use Rattle.ioc_journal.specs.Laws.{Lasts, LiveLasts, GoesOn}
+use Rattle.ioc_journal.proofs.Basics.{is-none}
+use Rattle.ioc_journal.specs.Account.{journalled, calls, numbers_given, PutsAreKeyed, MayFollow, Added, puts_key}
+use Rattle.ioc_journal.proofs.Numbers.{numbers_same}
 use Rattle.ioc_set.specs.SetState.{SetState, now_of}
 use Rattle.ioc_set.specs.Sound.{IsSound}
 use Rattle.ioc_journaled_set.specs.GiveUpLaws.{cancel_note, cancel_entry, ShareNone, IsHeldSoundly, IsGivenUpByAll, SetsGiveUp}

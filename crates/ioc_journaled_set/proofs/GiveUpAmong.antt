@@ -11,11 +11,11 @@ use Rattle.ioc_record.specs.RecordRules.{RecordRules}
 use Rattle.ioc_store.specs.World.{World, Has}
 use Rattle.ioc_store.specs.Weights.{weight_of}
 use Rattle.ioc_events.specs.Holding.{one_if_has, holders, IsCounted}
-use Rattle.ioc_history.specs.Covering.{Holds, WaitsWithin}
-use Rattle.ioc_history.proofs.Basics.{not_both, is-none, later, nobody-waits}
+use Rattle.ioc_journal.specs.Covering.{Holds, WaitsWithin}
+use Rattle.ioc_journal.proofs.Basics.{not_both, is-none, later, nobody-waits}
 use Rattle.ioc_set.specs.SetState.{SetState, now_of}
 use Rattle.ioc_journaled_set.specs.GiveUpLaws.{ShareNone, holders_in_all}
-use Rattle.ioc_history.proofs.Summing.{sum-below, sum-add, sum-none, sum-less, point, of-number, reach, holders-sum}
+use Rattle.ioc_journal.proofs.Summing.{sum-below, sum-add, sum-none, sum-less, point, of-number, reach, holders-sum}
 
 module _ {R D : Type 0} where
   -- One of the sets has the record, or none has.

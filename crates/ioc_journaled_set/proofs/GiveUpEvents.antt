@@ -19,7 +19,7 @@ use Rattle.ioc_events.specs.declared.event.Event.TheVariants.{Cancel}
 use Rattle.ioc_events.specs.declared.reply.Reply.TheVariants.{Plain}
 use Rattle.ioc_events.specs.Starting.{NoneReady, is_ready, next_from, next_waiting, sooner, started_then, started_most, all_started}
 use Rattle.ioc_events.specs.Step.{Stepped, stepped, done_alone, done_there, refused, lets_start, with_starts}
-use Rattle.ioc_history.proofs.Basics.{later, passes-there}
+use Rattle.ioc_journal.proofs.Basics.{later, passes-there}
 
 false_and : (b : Bool) → b && false ≡ false
 false_and true = refl

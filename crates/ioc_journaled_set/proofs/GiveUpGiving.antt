@@ -33,18 +33,18 @@ use Rattle.ioc_events.specs.Starting.{NoneReady}
 use Rattle.ioc_events.specs.Calls.{Called, called}
 use Rattle.ioc_events.specs.Step.{Stepped, stepped, tallied, calls_since}
 use Rattle.ioc_events.proofs.RecordLists.{taken-from_each}
-use Rattle.ioc_history.specs.declared.entry.Note.{Note}
-use Rattle.ioc_history.specs.Key.{Key, Has as Has_key}
-use Rattle.ioc_history.specs.Legal.{key_of, notifications_key, done, map_of, Fits, IsLegal, IsUntouched}
-use Rattle.ioc_history.specs.Counting.{is_completion, sent_in, sent_by, nothing_sent, tallied_by}
-use Rattle.ioc_history.specs.Covering.{Holds}
-use Rattle.ioc_history.specs.Laws.{StaysSound, CancelIsHeld, BeginningIsHeld, HeldAlike}
-use Rattle.ioc_history.proofs.Placing.{live-once}
+use Rattle.ioc_journal.specs.declared.entry.Note.{Note}
+use Rattle.ioc_journal.specs.Key.{Key, Has as Has_key}
+use Rattle.ioc_journal.specs.Legal.{key_of, notifications_key, done, map_of, Fits, IsLegal, IsUntouched}
+use Rattle.ioc_journal.specs.Counting.{is_completion, sent_in, sent_by, nothing_sent, tallied_by}
+use Rattle.ioc_journal.specs.Covering.{Holds}
+use Rattle.ioc_journal.specs.Laws.{StaysSound, CancelIsHeld, BeginningIsHeld, HeldAlike}
+use Rattle.ioc_journal.proofs.Placing.{live-once}
 use Rattle.ioc_set.specs.SetState.{SetState, now_of, folded, done_by, held_after}
 use Rattle.ioc_set.specs.Doing.{is_full, with_place}
 use Rattle.ioc_set.specs.Sound.{IsSound}
 use Rattle.ioc_journaled_set.specs.GiveUpLaws.{cancel_event, cancel_note, ShareNone, holders_in_all, GivesUp, IsHeldSoundly, SetsGiveUp, CancelGivesUp, CameToNothing}
-use Rattle.ioc_history.proofs.Summing.{point, of-number}
+use Rattle.ioc_journal.proofs.Summing.{point, of-number}
 use Rattle.ioc_journaled_set.proofs.GiveUpAmong.{some-or-none, nobody-outside}
 use Rattle.ioc_journaled_set.proofs.GiveUpEvents.{cancel-steps, AreActive, none-then, begun-none, begun-active}
 

@@ -14,14 +14,14 @@ use Rattle.ioc_store.specs.World.{World}
 use Rattle.ioc_store.specs.Freeing.{has-cancelled, len-cancelled}
 use Rattle.ioc_ledger.specs.Shared.{ShareView}
 use Rattle.ioc_journaled_set.proofs.Shares.{counted_alike}
-use Rattle.ioc_history.specs.declared.entry.Note.{Note}
-use Rattle.ioc_history.specs.declared.cell.View.{View}
-use Rattle.ioc_history.specs.Key.{Key}
-use Rattle.ioc_history.specs.Account.{DeskView, AreRecords, AreNoDesks, Pass}
+use Rattle.ioc_journal.specs.declared.entry.Note.{Note}
+use Rattle.ioc_journal.specs.declared.cell.View.{View}
+use Rattle.ioc_journal.specs.Key.{Key}
+use Rattle.ioc_journal.specs.Account.{DeskView, AreRecords, AreNoDesks, Pass}
 use Rattle.ioc_journaled_set.specs.GiveUpLaws.{GivesUp}
 use Rattle.ioc_journaled_set.specs.Sets.{GaveUp, EachGivesUp, EachIsHeldBy, IsHeldBy}
-use Rattle.ioc_history.specs.Legal.{map_of}
-use Rattle.ioc_history.specs.Covering.{Holds}
+use Rattle.ioc_journal.specs.Legal.{map_of}
+use Rattle.ioc_journal.specs.Covering.{Holds}
 use Rattle.ioc_set.specs.SetState.{SetState, now_of}
 use Rattle.ioc_journaled_set.specs.Holding.{HeldView, IsCounted, IsLent, IsOwner, KeepsDevices, held_view, seen_by}
 use Rattle.ioc_journaled_set.specs.GivingUp.{EachIsLent, EachIsCounted, sets_of, HeldGaveUp, AreSameSets}

@@ -9,13 +9,13 @@ use Rattle.ioc_notify.specs.Counts.{Table, IsTable, holders_in}
 use Rattle.ioc_notify.specs.Living.{holders_of, is_live}
 use Rattle.ioc_record.specs.RecordRules.{RecordRules}
 use Rattle.ioc_store.specs.World.{World}
-use Rattle.ioc_history.specs.Account.{Pass, puts_key, calls, numbers_given}
-use Rattle.ioc_history.specs.Legal.{map_of}
-use Rattle.ioc_history.specs.Line.{holder}
-use Rattle.ioc_history.proofs.Basics.{not_both, not_true}
-use Rattle.ioc_history.specs.declared.cell.View.{View}
-use Rattle.ioc_history.specs.declared.entry.Note.{Note}
-use Rattle.ioc_history.proofs.Numbers.{next_is_new}
+use Rattle.ioc_journal.specs.Account.{Pass, puts_key, calls, numbers_given}
+use Rattle.ioc_journal.specs.Legal.{map_of}
+use Rattle.ioc_journal.specs.Line.{holder}
+use Rattle.ioc_journal.proofs.Basics.{not_both, not_true}
+use Rattle.ioc_journal.specs.declared.cell.View.{View}
+use Rattle.ioc_journal.specs.declared.entry.Note.{Note}
+use Rattle.ioc_journal.proofs.Numbers.{next_is_new}
 use Rattle.ioc_journaled_set.specs.PutPlaces.{Places, places_of, without, AreFew}
 use Rattle.ioc_journaled_set.specs.Puts.{puts_view, AreKept, AreCounted, AreTaken, NoneIsAbove, CanBegin}
 use Rattle.ioc_journaled_set.proofs.Placed.{old_or_new, left_out, still_there, shorter}

@@ -6,7 +6,7 @@ use Rattle.std.specs.FinMap.{FinMap, keys, len, empty, entries, contains_key, co
 use Rattle.std.proofs.lemmas.List.{length-map}
 use Rattle.std.proofs.lemmas.Cmp.{eq_by_cmp_equiv, nat_cmp_total}
 use Rattle.std.proofs.lemmas.Map.Views.{Contains-from_any, list_any-from_Contains}
-use Rattle.ioc_history.specs.Key.{Key, Has, record_keys}
+use Rattle.ioc_journal.specs.Key.{Key, Has, record_keys}
 
 equal_of : (o : Ordering) → is_eq o ≡ true → o ≡ Equal
 equal_of Less e = cc

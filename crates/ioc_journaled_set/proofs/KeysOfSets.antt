@@ -4,10 +4,10 @@ use Rattle.std.specs.Prelude.{IsSome, is_some}
 use Rattle.std.specs.List.{filter}
 use Rattle.std.specs.FinMap.{get, keys, contains_key}
 use Rattle.std.proofs.lemmas.Bool.{eq-eqb}
-use Rattle.ioc_history.specs.Key.{Key, Has}
-use Rattle.ioc_history.specs.KeyLaws.{has_either, record_kind}
-use Rattle.ioc_history.specs.Legal.{notifications_key}
-use Rattle.ioc_history.specs.Covering.{Cover}
+use Rattle.ioc_journal.specs.Key.{Key, Has}
+use Rattle.ioc_journal.specs.KeyLaws.{has_either, record_kind}
+use Rattle.ioc_journal.specs.Legal.{notifications_key}
+use Rattle.ioc_journal.specs.Covering.{Cover}
 use Rattle.ioc_set.specs.SetState.{SetState, now_of}
 use Rattle.ioc_journaled_set.specs.GiveUpLaws.{ShareNone}
 use Rattle.ioc_journaled_set.proofs.Keys.{key_there, there_key, record_contains, contains_record}

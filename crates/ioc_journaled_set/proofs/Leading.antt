@@ -7,23 +7,23 @@ use Rattle.ioc_dbcommon.specs.declared.link_field.LinkField.{LinkField}
 use Rattle.ioc_dbcommon.specs.Links.{no_link, use_of, named_by}
 use Rattle.ioc_record.specs.Laws.{IsLawful}
 use Rattle.ioc_record.specs.RecordRules.{RecordRules}
-use Rattle.ioc_history.proofs.Dropping.{links-drop, rewires-drop, begun-rewired-drops}
+use Rattle.ioc_journal.proofs.Dropping.{links-drop, rewires-drop, begun-rewired-drops}
 use Rattle.ioc_set_records.specs.Contents.{Records, record_at}
 use Rattle.ioc_set_records.specs.Joined.{relinked}
 use Rattle.ioc_store.specs.World.{World, at, begun_at, put}
 use Rattle.ioc_store.specs.Scanning.{device_of}
 use Rattle.ioc_store.specs.Worlds.{at-put_same, has-put, has-put_back}
-use Rattle.ioc_history.specs.declared.entry.Note.{Note}
-use Rattle.ioc_history.specs.declared.cell.View.{View}
-use Rattle.ioc_history.specs.Key.{Key, Has as Has_key}
-use Rattle.ioc_history.specs.KeyLaws.{has_left, has_right}
-use Rattle.ioc_history.specs.Line.{Continues, holder}
-use Rattle.ioc_history.specs.Legal.{IsLegal, IsSound, key_of, map_of}
-use Rattle.ioc_history.specs.Covering.{Holds, Cover}
-use Rattle.ioc_history.specs.Laws.{Lasts, GoesOn, StaysSound}
-use Rattle.ioc_history.specs.LinkChange.{TakesLink, link_note}
+use Rattle.ioc_journal.specs.declared.entry.Note.{Note}
+use Rattle.ioc_journal.specs.declared.cell.View.{View}
+use Rattle.ioc_journal.specs.Key.{Key, Has as Has_key}
+use Rattle.ioc_journal.specs.KeyLaws.{has_left, has_right}
+use Rattle.ioc_journal.specs.Line.{Continues, holder}
+use Rattle.ioc_journal.specs.Legal.{IsLegal, IsSound, key_of, map_of}
+use Rattle.ioc_journal.specs.Covering.{Holds, Cover}
+use Rattle.ioc_journal.specs.Laws.{Lasts, GoesOn, StaysSound}
+use Rattle.ioc_journal.specs.LinkChange.{TakesLink, link_note}
 use Rattle.ioc_journaled_set.specs.LinkLaws.{SetsLead, SetsMayBeOne}
-use Rattle.ioc_history.specs.Account.{AreKnown}
+use Rattle.ioc_journal.specs.Account.{AreKnown}
 use Rattle.ioc_set.specs.SetState.{SetState, now_of}
 use Rattle.ioc_set.specs.Resting.{resting}
 use Rattle.ioc_set.specs.Sound.{IsSound as IsSound-set}

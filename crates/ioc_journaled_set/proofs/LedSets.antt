@@ -15,10 +15,10 @@ use Rattle.ioc_set_records.specs.Joined.{relinked}
 use Rattle.ioc_store.specs.World.{World, Has, IsClosed, at, begun, begun_at, put}
 use Rattle.ioc_store.specs.Worlds.{has-put}
 use Rattle.ioc_store.specs.Scanning.{device_of, rewired}
-use Rattle.ioc_history.specs.Legal.{map_of}
-use Rattle.ioc_history.specs.Covering.{AreHalves, Holds, WaitsWithin}
-use Rattle.ioc_history.specs.LinkChange.{link_note}
-use Rattle.ioc_history.specs.Laws.{LinkMoves, HeldAlike}
+use Rattle.ioc_journal.specs.Legal.{map_of}
+use Rattle.ioc_journal.specs.Covering.{AreHalves, Holds, WaitsWithin}
+use Rattle.ioc_journal.specs.LinkChange.{link_note}
+use Rattle.ioc_journal.specs.Laws.{LinkMoves, HeldAlike}
 use Rattle.ioc_set.specs.SetState.{SetState, now_of}
 use Rattle.ioc_set.specs.Doing.{with_kept}
 use Rattle.ioc_set.specs.Linking.{FallsApart, BecomeOne}

@@ -19,7 +19,7 @@ use Rattle.ioc_set.specs.Awaiting.{one_if_awaits, awaited}
 use Rattle.ioc_set.specs.SetState.{SetState, now_of}
 use Rattle.ioc_set.specs.Sound.{IsSound}
 use Rattle.ioc_set.specs.Linking.{FallsApart, LeadsInto, link_change_of, awaited_alone}
-use Rattle.ioc_history.specs.LinkChange.{TakesLink}
+use Rattle.ioc_journal.specs.LinkChange.{TakesLink}
 use Rattle.ioc_journaled_set.proofs.Counting.{shared_count, set_count, some_len}
 use Rattle.ioc_journaled_set.proofs.Leading.{own_in_both}
 use Rattle.ioc_journaled_set.proofs.Parting.{begun_there}

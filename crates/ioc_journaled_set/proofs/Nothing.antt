@@ -6,7 +6,7 @@ use Rattle.std.specs.FinMap.{empty, get, get-empty, keys}
 use Rattle.atomic_table.specs.Seated.{TableId}
 use Rattle.ioc_record.specs.RecordRules.{RecordRules, targets}
 use Rattle.ioc_store.specs.World.{World, Has, IsClosed, at}
-use Rattle.ioc_history.specs.Covering.{Holds}
+use Rattle.ioc_journal.specs.Covering.{Holds}
 use Rattle.ioc_set.specs.SetState.{SetState, nothing_held}
 use Rattle.ioc_set.specs.Resting.{resting}
 use Rattle.ioc_journaled_set.specs.Holding.{IsHeld}

@@ -7,11 +7,11 @@ use Rattle.ioc_record.specs.RecordRules.{RecordRules}
 use Rattle.ioc_store.specs.World.{World, Has, at, begun, begun_at, put}
 use Rattle.ioc_store.specs.Scanning.{device_of}
 use Rattle.ioc_events.proofs.Rewired.{rewired-leaves}
-use Rattle.ioc_history.specs.Key.{Key}
-use Rattle.ioc_history.specs.Legal.{map_of}
-use Rattle.ioc_history.specs.Covering.{Holds, Cover, AreHalves}
-use Rattle.ioc_history.specs.LinkChange.{TakesLink}
-use Rattle.ioc_history.specs.Laws.{LinkParts, HeldAlike}
+use Rattle.ioc_journal.specs.Key.{Key}
+use Rattle.ioc_journal.specs.Legal.{map_of}
+use Rattle.ioc_journal.specs.Covering.{Holds, Cover, AreHalves}
+use Rattle.ioc_journal.specs.LinkChange.{TakesLink}
+use Rattle.ioc_journal.specs.Laws.{LinkParts, HeldAlike}
 use Rattle.ioc_set.specs.SetState.{SetState, now_of}
 use Rattle.ioc_set.specs.Linking.{FallsApart, link_change_of}
 use Rattle.ioc_journaled_set.specs.LinkLaws.{SetsPart}

@@ -12,20 +12,20 @@ use Rattle.ioc_store.specs.World.{World, Has, at, common_at, begun, begun_at, pu
 use Rattle.ioc_store.specs.Scanning.{device_of, moved, rewired}
 use Rattle.ioc_store.specs.ScanLaws.{rewired-either, moved-either}
 use Rattle.ioc_store.specs.Worlds.{sent_by, has-put, has-put_back}
-use Rattle.ioc_history.specs.declared.entry.Note.{Note}
-use Rattle.ioc_history.specs.Key.{Key}
-use Rattle.ioc_history.specs.KeyLaws.{has_left}
-use Rattle.ioc_history.specs.Line.{Continues}
-use Rattle.ioc_history.specs.Legal.{IsLegal, IsSound, key_of, map_of}
-use Rattle.ioc_history.specs.Covering.{Holds, Cover}
-use Rattle.ioc_history.specs.Laws.{Lasts, GoesOn}
-use Rattle.ioc_history.specs.LinkChange.{TakesLink, link_note}
+use Rattle.ioc_journal.specs.declared.entry.Note.{Note}
+use Rattle.ioc_journal.specs.Key.{Key}
+use Rattle.ioc_journal.specs.KeyLaws.{has_left}
+use Rattle.ioc_journal.specs.Line.{Continues}
+use Rattle.ioc_journal.specs.Legal.{IsLegal, IsSound, key_of, map_of}
+use Rattle.ioc_journal.specs.Covering.{Holds, Cover}
+use Rattle.ioc_journal.specs.Laws.{Lasts, GoesOn}
+use Rattle.ioc_journal.specs.LinkChange.{TakesLink, link_note}
 use Rattle.ioc_journaled_set.specs.LinkLaws.{SetsPart}
 use Rattle.ioc_set.specs.SetState.{SetState, now_of}
 use Rattle.ioc_set.specs.Sound.{IsSound as IsSound-set}
 use Rattle.ioc_set.specs.Linking.{FallsApart, link_change_of}
-use Rattle.ioc_history.specs.Key.{Has as Has_key}
-use Rattle.ioc_history.proofs.Dropping.{links-drop, changed-drops}
+use Rattle.ioc_journal.specs.Key.{Has as Has_key}
+use Rattle.ioc_journal.proofs.Dropping.{links-drop, changed-drops}
 use Rattle.ioc_set.specs.Doing.{with_kept}
 use Rattle.ioc_journaled_set.specs.Holding.{KeepsDevices}
 use Rattle.ioc_journaled_set.specs.LinkChanges.{keys_of}

@@ -11,8 +11,8 @@ use Rattle.std.proofs.lemmas.List.Quantifiers.{all_pairs_push}
 use Rattle.ioc_notify.specs.declared.live_numbers.Live.{Live}
 use Rattle.ioc_notify.specs.Living.{is_live}
 use Rattle.ioc_journaled_set.specs.PutPlaces.{without}
-use Rattle.ioc_history.proofs.Basics.{one-there, later, passes-there}
-use Rattle.ioc_history.proofs.LiveFew.{numbers, number-there}
+use Rattle.ioc_journal.proofs.Basics.{one-there, later, passes-there}
+use Rattle.ioc_journal.proofs.LiveFew.{numbers, number-there}
 use Rattle.ioc_set.proofs.Gathered.{there-passes}
 
 abbrev pub Differ : List ℕ → Type 0

@@ -10,15 +10,15 @@ use Rattle.ioc_notify.specs.Counts.{IsTable, holders_in, lines_of}
 use Rattle.ioc_record.specs.RecordRules.{RecordRules}
 use Rattle.ioc_store.specs.World.{World, begun_at, has_place}
 use Rattle.ioc_events.specs.Holding.{IsCounted}
-use Rattle.ioc_history.specs.declared.entry.Note.{Note}
-use Rattle.ioc_history.specs.Line.{Continues}
-use Rattle.ioc_history.specs.Legal.{IsLegal, IsSound, map_of}
-use Rattle.ioc_history.specs.Covering.{Holds}
-use Rattle.ioc_history.specs.Laws.{LiveLasts, PlaceForOneMore, StaysSound}
+use Rattle.ioc_journal.specs.declared.entry.Note.{Note}
+use Rattle.ioc_journal.specs.Line.{Continues}
+use Rattle.ioc_journal.specs.Legal.{IsLegal, IsSound, map_of}
+use Rattle.ioc_journal.specs.Covering.{Holds}
+use Rattle.ioc_journal.specs.Laws.{LiveLasts, PlaceForOneMore, StaysSound}
 use Rattle.ioc_journaled_set.specs.Puts.{AreCounted}
 use Rattle.ioc_journaled_set.proofs.Counted.{counted_on}
 use Rattle.ioc_journaled_set.proofs.Telling.{same_live}
-use Rattle.ioc_history.specs.Account.{puts_key}
+use Rattle.ioc_journal.specs.Account.{puts_key}
 
 abbrev numbers : List Live → List ℕ
 numbers ls = map (λ (l : Live). l.number) ls

@@ -16,15 +16,15 @@ use Rattle.ioc_store.specs.Given.{answers_of, listed}
 use Rattle.ioc_events.specs.declared.event.Entry.{Entry}
 use Rattle.ioc_events.specs.Step.{all_there, link_refusal as why_kept}
 use Rattle.ioc_events.specs.Calls.{Called, called, linked}
-use Rattle.ioc_history.specs.declared.entry.Note.{Note}
-use Rattle.ioc_history.specs.Key.{Key}
-use Rattle.ioc_history.specs.Line.{Continues, noted}
-use Rattle.ioc_history.specs.Legal.{AreLiveAlike, IsLegal, IsSound, IsUntouched, Fits, done, map_of}
-use Rattle.ioc_history.specs.Covering.{Holds, Cover}
-use Rattle.ioc_history.specs.Laws.{Lasts, GoesOn, StaysSound}
-use Rattle.ioc_history.specs.Account.{journalled, MayFollow, Added}
-use Rattle.ioc_history.specs.Counting.{sent_in, nothing_sent}
-use Rattle.ioc_history.specs.CountLaws.{LinksCountNothing}
+use Rattle.ioc_journal.specs.declared.entry.Note.{Note}
+use Rattle.ioc_journal.specs.Key.{Key}
+use Rattle.ioc_journal.specs.Line.{Continues, noted}
+use Rattle.ioc_journal.specs.Legal.{AreLiveAlike, IsLegal, IsSound, IsUntouched, Fits, done, map_of}
+use Rattle.ioc_journal.specs.Covering.{Holds, Cover}
+use Rattle.ioc_journal.specs.Laws.{Lasts, GoesOn, StaysSound}
+use Rattle.ioc_journal.specs.Account.{journalled, MayFollow, Added}
+use Rattle.ioc_journal.specs.Counting.{sent_in, nothing_sent}
+use Rattle.ioc_journal.specs.CountLaws.{LinksCountNothing}
 use Rattle.ioc_journaled_set.specs.Sent.{MayCountNothing}
 use Rattle.ioc_set.specs.SetState.{SetState, now_of}
 use Rattle.ioc_journaled_set.specs.LinkChanges.{IsKnown, link_refusal}

@@ -5,16 +5,16 @@ use Rattle.ioc_store.specs.World.{World}
 use Rattle.ioc_store.specs.declared.outbox.OutboxItem.{OutboxItem}
 use Rattle.ioc_store.specs.declared.outbox.OutboxItem.TheVariants.{Once, Post, Change}
 use Rattle.ioc_events.specs.declared.event.Entry.{Entry}
-use Rattle.ioc_history.specs.declared.entry.Note.{Note}
-use Rattle.ioc_history.specs.declared.event_counts.SentCounts.{SentCounts}
-use Rattle.ioc_history.specs.Key.{Key}
-use Rattle.ioc_history.specs.Line.{noted}
-use Rattle.ioc_history.specs.Legal.{map_of}
-use Rattle.ioc_history.specs.Account.{journalled}
-use Rattle.ioc_history.specs.Counting.{once_in, nothing_sent, MaySend, MayCount, BothMayCount, DoesCount}
+use Rattle.ioc_journal.specs.declared.entry.Note.{Note}
+use Rattle.ioc_journal.specs.declared.event_counts.SentCounts.{SentCounts}
+use Rattle.ioc_journal.specs.Key.{Key}
+use Rattle.ioc_journal.specs.Line.{noted}
+use Rattle.ioc_journal.specs.Legal.{map_of}
+use Rattle.ioc_journal.specs.Account.{journalled}
+use Rattle.ioc_journal.specs.Counting.{once_in, nothing_sent, MaySend, MayCount, BothMayCount, DoesCount}
 use Rattle.ioc_ledger.specs.Shared.{ShareView}
 use Rattle.ioc_ledger.specs.declared.tally.Tally.{Tally}
-use Rattle.ioc_history.specs.CountLaws.{counts_nothing, is_link_change, QuestionsCountNothing, LinksCountNothing}
+use Rattle.ioc_journal.specs.CountLaws.{counts_nothing, is_link_change, QuestionsCountNothing, LinksCountNothing}
 use Rattle.ioc_journaled_set.specs.Sent.{MayCountNothing}
 
 -- One more item that is a once request is one more.

@@ -25,19 +25,19 @@ use Rattle.ioc_events.specs.Local.{AskAlike}
 use Rattle.ioc_events.specs.Calls.{called}
 use Rattle.ioc_events.specs.Step.{names, shown, tallied}
 use Rattle.ioc_events.specs.StepRules.{KeepsRecords}
-use Rattle.ioc_history.specs.declared.entry.Note.{Note}
-use Rattle.ioc_history.specs.declared.cell.View.{View}
-use Rattle.ioc_history.specs.Key.{Key, Has as Has_key}
-use Rattle.ioc_history.specs.Line.{Continues, holder, noted}
-use Rattle.ioc_history.specs.KeyLaws.{has_left}
-use Rattle.ioc_history.specs.Legal.{AreLiveAlike, IsLegal, IsSound, key_of, notifications_key, map_of, done}
-use Rattle.ioc_history.specs.Counting.{once_in, sent_counts, sent_in, sent_by, tallied_by, MaySend, MayCount, DoesCount}
-use Rattle.ioc_history.specs.CountLaws.{PartsCountAlike}
+use Rattle.ioc_journal.specs.declared.entry.Note.{Note}
+use Rattle.ioc_journal.specs.declared.cell.View.{View}
+use Rattle.ioc_journal.specs.Key.{Key, Has as Has_key}
+use Rattle.ioc_journal.specs.Line.{Continues, holder, noted}
+use Rattle.ioc_journal.specs.KeyLaws.{has_left}
+use Rattle.ioc_journal.specs.Legal.{AreLiveAlike, IsLegal, IsSound, key_of, notifications_key, map_of, done}
+use Rattle.ioc_journal.specs.Counting.{once_in, sent_counts, sent_in, sent_by, tallied_by, MaySend, MayCount, DoesCount}
+use Rattle.ioc_journal.specs.CountLaws.{PartsCountAlike}
 use Rattle.ioc_store.specs.declared.outbox.OutboxItem.{OutboxItem}
-use Rattle.ioc_history.specs.Covering.{Holds, Cover, CancelsWithin, AreHeldAlike, IsOf, IsDone}
-use Rattle.ioc_history.specs.Laws.{Lasts, OneMore, HoldersMove, MovesAlike, EndsOver, Asks, GoesOn}
-use Rattle.ioc_history.specs.EventLaws.{EventLaws}
-use Rattle.ioc_history.specs.Account.{journalled, number_begun, AreRecords, IsHolder, MayFollow, Added}
+use Rattle.ioc_journal.specs.Covering.{Holds, Cover, CancelsWithin, AreHeldAlike, IsOf, IsDone}
+use Rattle.ioc_journal.specs.Laws.{Lasts, OneMore, HoldersMove, MovesAlike, EndsOver, Asks, GoesOn}
+use Rattle.ioc_journal.specs.EventLaws.{EventLaws}
+use Rattle.ioc_journal.specs.Account.{journalled, number_begun, AreRecords, IsHolder, MayFollow, Added}
 use Rattle.ioc_journaled_set.specs.CallLaws.{CallLaws}
 use Rattle.ioc_journaled_set.specs.Holding.{is_on_record, entry_of_event, IsOwner}
 use Rattle.ioc_journaled_set.specs.Puts.{told_at}

@@ -13,11 +13,11 @@ use Rattle.ioc_notify.specs.Living.{is_live}
 use Rattle.ioc_record.specs.RecordRules.{RecordRules}
 use Rattle.ioc_store.specs.World.{World}
 use Rattle.ioc_events.specs.Holding.{how_many, IsCounted}
-use Rattle.ioc_history.specs.Legal.{IsSound as IsSound-world}
-use Rattle.ioc_history.specs.Covering.{Holds}
-use Rattle.ioc_history.proofs.Basics.{waits-too, passes-there}
-use Rattle.ioc_history.proofs.Placing.{there-counted, few-of, has-waiting, is-held-live, live-once, held-live}
-use Rattle.ioc_history.proofs.LiveFew.{numbers, number-there, entry-live}
+use Rattle.ioc_journal.specs.Legal.{IsSound as IsSound-world}
+use Rattle.ioc_journal.specs.Covering.{Holds}
+use Rattle.ioc_journal.proofs.Basics.{waits-too, passes-there}
+use Rattle.ioc_journal.proofs.Placing.{there-counted, few-of, has-waiting, is-held-live, live-once, held-live}
+use Rattle.ioc_journal.proofs.LiveFew.{numbers, number-there, entry-live}
 use Rattle.ioc_set.specs.SetState.{SetState, now_of}
 use Rattle.ioc_set.specs.Sound.{IsSound}
 use Rattle.ioc_set.specs.Linking.{MayBeOne}

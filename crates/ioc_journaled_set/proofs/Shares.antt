@@ -6,7 +6,7 @@ use Rattle.std.specs.FinMap.{empty, len, len-empty}
 use Rattle.ioc_ledger.specs.declared.tally.Tally.{Tally}
 use Rattle.ioc_ledger.specs.Requests.{no_counts}
 use Rattle.ioc_ledger.specs.Shared.{ShareView, share_view}
-use Rattle.ioc_history.specs.Counting.{IsBacked, IsGivenBack}
+use Rattle.ioc_journal.specs.Counting.{IsBacked, IsGivenBack}
 use Rattle.ioc_set.specs.SetState.{SetState, nothing_held}
 use Rattle.ioc_journaled_set.specs.Holding.{IsCounted}
 

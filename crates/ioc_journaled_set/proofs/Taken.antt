@@ -11,16 +11,16 @@ use Rattle.ioc_notify.specs.Counts.{IsTable, holders_in, lines_of}
 use Rattle.ioc_record.specs.RecordRules.{RecordRules}
 use Rattle.ioc_store.specs.World.{World}
 use Rattle.ioc_events.specs.declared.event.Call.{Call}
-use Rattle.ioc_history.specs.declared.entry.Note.{Note}
-use Rattle.ioc_history.specs.Account.{puts_key, calls, number_given, numbers_given, PutsAreKeyed}
-use Rattle.ioc_history.specs.Laws.{LiveLasts, OneMayBegin, StaysSound}
-use Rattle.ioc_history.specs.Legal.{IsLegal, IsSound, entry_of, map_of, notifications_key}
-use Rattle.ioc_history.specs.Key.{Has}
-use Rattle.ioc_history.specs.Line.{Continues}
-use Rattle.ioc_history.proofs.Basics.{one-there, not_both}
-use Rattle.ioc_history.proofs.LiveFew.{entry-live}
-use Rattle.ioc_history.proofs.Numbers.{numbers_on, numbers_then}
-use Rattle.ioc_history.proofs.Placing.{few-of}
+use Rattle.ioc_journal.specs.declared.entry.Note.{Note}
+use Rattle.ioc_journal.specs.Account.{puts_key, calls, number_given, numbers_given, PutsAreKeyed}
+use Rattle.ioc_journal.specs.Laws.{LiveLasts, OneMayBegin, StaysSound}
+use Rattle.ioc_journal.specs.Legal.{IsLegal, IsSound, entry_of, map_of, notifications_key}
+use Rattle.ioc_journal.specs.Key.{Has}
+use Rattle.ioc_journal.specs.Line.{Continues}
+use Rattle.ioc_journal.proofs.Basics.{one-there, not_both}
+use Rattle.ioc_journal.proofs.LiveFew.{entry-live}
+use Rattle.ioc_journal.proofs.Numbers.{numbers_on, numbers_then}
+use Rattle.ioc_journal.proofs.Placing.{few-of}
 use Rattle.ioc_journaled_set.specs.Puts.{PutsView, AreCounted, AreTaken, CanBegin}
 use Rattle.ioc_journaled_set.proofs.Beside.{lines_are}
 use Rattle.ioc_journaled_set.proofs.Counted.{counted_on, keyed_before}

@@ -5,13 +5,13 @@ use Rattle.std.proofs.lemmas.List.Quantifiers.{all_pairs_push}
 use Rattle.atomic_table.specs.Seated.{TableId}
 use Rattle.ioc_record.specs.RecordRules.{RecordRules}
 use Rattle.ioc_store.specs.World.{World}
-use Rattle.ioc_history.specs.declared.entry.Note.{Note}
-use Rattle.ioc_history.specs.declared.cell.View.{View}
-use Rattle.ioc_history.specs.Key.{Key, Has}
-use Rattle.ioc_history.specs.KeyLaws.{has_left, has_right, has_either, spares_append, continues_self}
-use Rattle.ioc_history.specs.Line.{Continues, holder}
-use Rattle.ioc_history.specs.Legal.{IsLegal}
-use Rattle.ioc_history.specs.Account.{IsHolder, AreNoDesks, AreMerged, Pass}
+use Rattle.ioc_journal.specs.declared.entry.Note.{Note}
+use Rattle.ioc_journal.specs.declared.cell.View.{View}
+use Rattle.ioc_journal.specs.Key.{Key, Has}
+use Rattle.ioc_journal.specs.KeyLaws.{has_left, has_right, has_either, spares_append, continues_self}
+use Rattle.ioc_journal.specs.Line.{Continues, holder}
+use Rattle.ioc_journal.specs.Legal.{IsLegal}
+use Rattle.ioc_journal.specs.Account.{IsHolder, AreNoDesks, AreMerged, Pass}
 use Rattle.ioc_journaled_set.specs.Passes.{Slot, view_of, view_in, IsPassOf, OwnApart, IsTakenOver, AreTakenOver}
 
 -- A list that continues from one that continues from another continues from that one.

@@ -18,13 +18,13 @@ use Rattle.ioc_events.specs.declared.reply.Reply.TheVariants.{Refused}
 use Rattle.ioc_events.specs.Calls.{Called, called}
 use Rattle.ioc_events.specs.Holding.{IsCounted, holders}
 use Rattle.ioc_events.specs.Step.{Stepped, stepped, done_alone, done_there, refused, with_starts, lets_start, calls_since}
-use Rattle.ioc_history.specs.declared.entry.Note.{Note}
-use Rattle.ioc_history.specs.Key.{Key}
-use Rattle.ioc_history.specs.Counting.{is_completion, sent_in, nothing_sent, tallied_by}
+use Rattle.ioc_journal.specs.declared.entry.Note.{Note}
+use Rattle.ioc_journal.specs.Key.{Key}
+use Rattle.ioc_journal.specs.Counting.{is_completion, sent_in, nothing_sent, tallied_by}
 use Rattle.ioc_journaled_set.specs.Sent.{MayCountNothing}
-use Rattle.ioc_history.specs.Line.{Continues, noted}
-use Rattle.ioc_history.specs.Legal.{AreLiveAlike, IsLegal, IsSound, IsUntouched, Fits, done, map_of}
-use Rattle.ioc_history.specs.Account.{journalled, MayFollow, Added, puts_key}
+use Rattle.ioc_journal.specs.Line.{Continues, noted}
+use Rattle.ioc_journal.specs.Legal.{AreLiveAlike, IsLegal, IsSound, IsUntouched, Fits, done, map_of}
+use Rattle.ioc_journal.specs.Account.{journalled, MayFollow, Added, puts_key}
 use Rattle.ioc_journaled_set.specs.Puts.{ChangesNothing}
 use Rattle.ioc_journaled_set.proofs.Beside.{lines_are}
 

@@ -1,8 +1,8 @@
 -- The laws on which the calls on journaled sets rest, in one record. This project's own.
 use Rattle.ioc_record.specs.RecordRules.{RecordRules}
-use Rattle.ioc_history.specs.EventLaws.{EventLaws}
-use Rattle.ioc_history.specs.Laws.{Lasts, LiveLasts, OneMore, HoldersMove, HoldersAreFew, HeldAreFewer, EndsOver, EndsLast, NobodyHas, PlaceForOneMore, HeldAlike, StaysSound}
-use Rattle.ioc_history.specs.CountLaws.{PartsCountAlike}
+use Rattle.ioc_journal.specs.EventLaws.{EventLaws}
+use Rattle.ioc_journal.specs.Laws.{Lasts, LiveLasts, OneMore, HoldersMove, HoldersAreFew, HeldAreFewer, EndsOver, EndsLast, NobodyHas, PlaceForOneMore, HeldAlike, StaysSound}
+use Rattle.ioc_journal.specs.CountLaws.{PartsCountAlike}
 
 pub record CallLaws {R : Type 0} (k : RecordRules R) : Type 0 where
   pub events : EventLaws k

@@ -10,7 +10,7 @@ use Rattle.ioc_fields.specs.declared.field_no.FieldNo.{FieldNo}
 use Rattle.ioc_dbcommon.specs.declared.link_field.LinkField.{LinkField}
 use Rattle.ioc_record.specs.RecordRules.{RecordRules}
 use Rattle.ioc_store.specs.World.{World}
-use Rattle.ioc_history.specs.Account.{DeskView}
+use Rattle.ioc_journal.specs.Account.{DeskView}
 use Rattle.ioc_journaled_set.specs.Holding.{HeldView, numbers_of}
 use Rattle.ioc_journaled_set.specs.LinkChanges.{Parts, Leads, Refuses}
 

@@ -4,7 +4,7 @@ use Rattle.std.specs.Option.{option_or}
 use Rattle.std.specs.FinMap.{get}
 use Rattle.ioc_notify.specs.Waits.{at_record}
 use Rattle.ioc_store.specs.World.{World}
-use Rattle.ioc_history.specs.Covering.{WaitsWithin}
+use Rattle.ioc_journal.specs.Covering.{WaitsWithin}
 use Rattle.ioc_set.specs.SetState.{now_of}
 use Rattle.ioc_set_records.specs.Contents.{Records}
 use Rattle.ioc_journaled_set.specs.Holding.{HeldView, numbers_of}

@@ -15,13 +15,13 @@ use Rattle.ioc_events.specs.declared.reply.Reply.{Reply}
 use Rattle.ioc_events.specs.declared.reply.Reply.TheVariants.{Plain}
 use Rattle.ioc_events.specs.declared.event.Entry.{Entry}
 use Rattle.ioc_events.specs.declared.event.EventEntry.{EventEntry}
-use Rattle.ioc_history.specs.declared.entry.Note.{Note}
-use Rattle.ioc_history.specs.Key.{Key, Has as Has_key}
-use Rattle.ioc_history.specs.Legal.{IsLegal, map_of, notifications_key}
-use Rattle.ioc_history.specs.Legal.{IsSound as IsSound-world}
-use Rattle.ioc_history.specs.CountLaws.{CountsNothing}
-use Rattle.ioc_history.specs.Covering.{Holds, Cover}
-use Rattle.ioc_history.specs.Laws.{GoesOn}
+use Rattle.ioc_journal.specs.declared.entry.Note.{Note}
+use Rattle.ioc_journal.specs.Key.{Key, Has as Has_key}
+use Rattle.ioc_journal.specs.Legal.{IsLegal, map_of, notifications_key}
+use Rattle.ioc_journal.specs.Legal.{IsSound as IsSound-world}
+use Rattle.ioc_journal.specs.CountLaws.{CountsNothing}
+use Rattle.ioc_journal.specs.Covering.{Holds, Cover}
+use Rattle.ioc_journal.specs.Laws.{GoesOn}
 use Rattle.ioc_set.specs.SetState.{SetState, now_of, held_after}
 use Rattle.ioc_set.specs.Sound.{IsSound}
 use Rattle.ioc_set.specs.Doing.{Does, with_place}

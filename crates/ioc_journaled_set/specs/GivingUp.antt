@@ -5,15 +5,15 @@ use Rattle.atomic_table.specs.Seated.{TableId}
 use Rattle.ioc_notify.specs.Living.{holders_of}
 use Rattle.ioc_notify.specs.declared.live_numbers.Live.{Live}
 use Rattle.ioc_notify.specs.Counts.{holders_in}
-use Rattle.ioc_history.specs.Account.{DeskView, HasCalled, calls, numbers_given, puts_key, Pass}
-use Rattle.ioc_history.specs.Line.{holder}
+use Rattle.ioc_journal.specs.Account.{DeskView, HasCalled, calls, numbers_given, puts_key, Pass}
+use Rattle.ioc_journal.specs.Line.{holder}
 use Rattle.ioc_journaled_set.specs.GiveUpLaws.{GivesUp, cancel_entry}
 use Rattle.ioc_journaled_set.specs.Sets.{AreItsSets}
 use Rattle.ioc_journaled_set.specs.Puts.{PutsView}
 use Rattle.ioc_record.specs.RecordRules.{RecordRules}
 use Rattle.ioc_store.specs.World.{World}
-use Rattle.ioc_history.specs.declared.cell.View.{View}
-use Rattle.ioc_history.specs.Legal.{map_of}
+use Rattle.ioc_journal.specs.declared.cell.View.{View}
+use Rattle.ioc_journal.specs.Legal.{map_of}
 use Rattle.ioc_set.specs.SetState.{SetState}
 use Rattle.ioc_journaled_set.specs.Holding.{HeldView, IsLent, IsCounted}
 use Rattle.ioc_ledger.specs.Shared.{ShareView}

@@ -20,13 +20,13 @@ use Rattle.ioc_events.specs.declared.event.Call.TheVariants as call
 use Rattle.ioc_events.specs.declared.event.Entry.{Entry}
 use Rattle.ioc_events.specs.declared.event.EventEntry.{EventEntry}
 use Rattle.ioc_events.specs.Step.{shown}
-use Rattle.ioc_history.specs.declared.entry.Note.{Note}
-use Rattle.ioc_history.specs.declared.cell.View.{View}
-use Rattle.ioc_history.specs.Legal.{map_of}
-use Rattle.ioc_history.specs.Covering.{Holds, Cover}
+use Rattle.ioc_journal.specs.declared.entry.Note.{Note}
+use Rattle.ioc_journal.specs.declared.cell.View.{View}
+use Rattle.ioc_journal.specs.Legal.{map_of}
+use Rattle.ioc_journal.specs.Covering.{Holds, Cover}
 use Rattle.ioc_values.specs.declared.error.IocError.{IocError}
-use Rattle.ioc_history.specs.Account.{Pass, DeskView, IsHolder, AreRecords, HasCalled}
-use Rattle.ioc_history.specs.Places.{IsNoPlace}
+use Rattle.ioc_journal.specs.Account.{Pass, DeskView, IsHolder, AreRecords, HasCalled}
+use Rattle.ioc_journal.specs.Places.{IsNoPlace}
 use Rattle.ioc_set.specs.SetState.{SetState, now_of}
 use Rattle.ioc_set.specs.Sound.{IsSound}
 use Rattle.ioc_set.specs.NoCalls.{no_call}

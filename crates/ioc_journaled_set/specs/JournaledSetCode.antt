@@ -1,8 +1,8 @@
 -- The encoding of a journaled set as a pair of its parts.
 use Rattle.std.specs.Prelude.{List, refl}
 use Rattle.std.specs.Coded.{Coded, code_by, coded×, coded_list}
-use Rattle.ioc_history.specs.declared.entry.Note.{Note}
-use Rattle.ioc_history.specs.contracts.entry.Note as note_row
+use Rattle.ioc_journal.specs.declared.entry.Note.{Note}
+use Rattle.ioc_journal.specs.contracts.entry.Note as note_row
 use Rattle.ioc_set.specs.SetState.{SetState}
 use Rattle.ioc_set.specs.SetStateCode.{held_code}
 use Rattle.ioc_journaled_set.specs.Holding.{HeldView, held_view}

@@ -11,10 +11,10 @@ use Rattle.ioc_record.specs.Values.{stops_put}
 use Rattle.ioc_store.specs.World.{World, Has, common_at}
 use Rattle.ioc_events.specs.declared.event.Call.TheVariants as call
 use Rattle.ioc_events.specs.declared.event.Entry.{Entry}
-use Rattle.ioc_history.specs.declared.entry.Note.{Note}
-use Rattle.ioc_history.specs.Key.{Key, record_keys}
-use Rattle.ioc_history.specs.Legal.{map_of}
-use Rattle.ioc_history.specs.Account.{DeskView, HasCalled}
+use Rattle.ioc_journal.specs.declared.entry.Note.{Note}
+use Rattle.ioc_journal.specs.Key.{Key, record_keys}
+use Rattle.ioc_journal.specs.Legal.{map_of}
+use Rattle.ioc_journal.specs.Account.{DeskView, HasCalled}
 use Rattle.ioc_set.specs.SetState.{SetState, now_of}
 use Rattle.ioc_set.specs.Doing.{with_kept}
 use Rattle.ioc_set.specs.Linking.{FallsApart, LeadsInto, link_change_of}

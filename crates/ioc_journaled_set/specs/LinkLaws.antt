@@ -7,13 +7,13 @@ use Rattle.ioc_dbcommon.specs.declared.link_field.LinkField.{LinkField}
 use Rattle.ioc_dbcommon.specs.Links.{use_of, named_by}
 use Rattle.ioc_record.specs.RecordRules.{RecordRules}
 use Rattle.ioc_store.specs.World.{World, Has}
-use Rattle.ioc_history.specs.declared.entry.Note.{Note}
-use Rattle.ioc_history.specs.Key.{Key}
-use Rattle.ioc_history.specs.Legal.{IsLegal, map_of}
-use Rattle.ioc_history.specs.Legal.{IsSound as IsSound-world}
-use Rattle.ioc_history.specs.Covering.{Holds, Cover}
-use Rattle.ioc_history.specs.LinkChange.{TakesLink, link_note}
-use Rattle.ioc_history.specs.Laws.{GoesOn}
+use Rattle.ioc_journal.specs.declared.entry.Note.{Note}
+use Rattle.ioc_journal.specs.Key.{Key}
+use Rattle.ioc_journal.specs.Legal.{IsLegal, map_of}
+use Rattle.ioc_journal.specs.Legal.{IsSound as IsSound-world}
+use Rattle.ioc_journal.specs.Covering.{Holds, Cover}
+use Rattle.ioc_journal.specs.LinkChange.{TakesLink, link_note}
+use Rattle.ioc_journal.specs.Laws.{GoesOn}
 use Rattle.ioc_set.specs.SetState.{SetState, now_of}
 use Rattle.ioc_set.specs.Sound.{IsSound}
 use Rattle.ioc_set.specs.Linking.{FallsApart, LeadsInto, MayBeOne, link_change_of}

@@ -6,12 +6,12 @@ use Rattle.atomic_table.specs.Seated.{TableId}
 use Rattle.crossbeam_utils.specs.Seq.{cell_view}
 use Rattle.ioc_record.specs.RecordRules.{RecordRules}
 use Rattle.ioc_store.specs.World.{World}
-use Rattle.ioc_history.specs.declared.entry.Note.{Note}
-use Rattle.ioc_history.specs.declared.cell.View.{View}
-use Rattle.ioc_history.specs.Key.{Key, Has, record_keys}
-use Rattle.ioc_history.specs.Line.{holder, nobody, Continues}
-use Rattle.ioc_history.specs.Legal.{IsLegal, IsSound}
-use Rattle.ioc_history.specs.Account.{Pass, IsHolder, AreNoDesks}
+use Rattle.ioc_journal.specs.declared.entry.Note.{Note}
+use Rattle.ioc_journal.specs.declared.cell.View.{View}
+use Rattle.ioc_journal.specs.Key.{Key, Has, record_keys}
+use Rattle.ioc_journal.specs.Line.{holder, nobody, Continues}
+use Rattle.ioc_journal.specs.Legal.{IsLegal, IsSound}
+use Rattle.ioc_journal.specs.Account.{Pass, IsHolder, AreNoDesks}
 use Rattle.ioc_set.specs.SetState.{SetState}
 
 abbrev pub view_of : Pass → View

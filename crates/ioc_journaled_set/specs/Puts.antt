@@ -18,13 +18,13 @@ use Rattle.ioc_events.specs.declared.event.Call.{Call}
 use Rattle.ioc_events.specs.declared.event.Call.TheVariants as call
 use Rattle.ioc_events.specs.declared.event.Entry.{Entry}
 use Rattle.ioc_events.specs.declared.reply.Reply.TheVariants.{Refused}
-use Rattle.ioc_history.specs.Account.{DeskView, HasCalled, Pass, puts_key, calls, numbers_given}
-use Rattle.ioc_history.specs.declared.entry.Note.{Note}
-use Rattle.ioc_history.specs.declared.cell.View.{View}
-use Rattle.ioc_history.specs.Line.{holder, Continues}
+use Rattle.ioc_journal.specs.Account.{DeskView, HasCalled, Pass, puts_key, calls, numbers_given}
+use Rattle.ioc_journal.specs.declared.entry.Note.{Note}
+use Rattle.ioc_journal.specs.declared.cell.View.{View}
+use Rattle.ioc_journal.specs.Line.{holder, Continues}
 use Rattle.ioc_events.specs.Holding.{IsHeld, Cancels}
 use Rattle.ioc_events.specs.Holding.{Begins as IsBegun}
-use Rattle.ioc_history.specs.Legal.{entry_of, map_of, IsLegal, IsSound}
+use Rattle.ioc_journal.specs.Legal.{entry_of, map_of, IsLegal, IsSound}
 use Rattle.ioc_events.specs.Calls.{called}
 use Rattle.ioc_journaled_set.specs.PutPlaces.{Places}
 

@@ -3,8 +3,8 @@ use Rattle.std.specs.Prelude.{ℕ, List, refl}
 use Rattle.std.specs.Coded.{Coded, code_by, coded×, coded_list, coded_ℕ}
 use Rattle.ioc_notify.specs.declared.live_numbers.Live.{Live}
 use Rattle.ioc_notify.specs.contracts.live_numbers.Live as live_row
-use Rattle.ioc_history.specs.declared.entry.Note.{Note}
-use Rattle.ioc_history.specs.contracts.entry.Note as note_row
+use Rattle.ioc_journal.specs.declared.entry.Note.{Note}
+use Rattle.ioc_journal.specs.contracts.entry.Note as note_row
 use Rattle.ioc_journaled_set.specs.Puts.{PutsView, puts_view}
 
 abbrev pub puts_code : Coded PutsView

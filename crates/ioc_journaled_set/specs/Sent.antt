@@ -5,13 +5,13 @@ use Rattle.ioc_record.specs.RecordRules.{RecordRules}
 use Rattle.ioc_store.specs.World.{World}
 use Rattle.ioc_store.specs.declared.outbox.OutboxItem.{OutboxItem}
 use Rattle.ioc_events.specs.declared.event.Entry.{Entry}
-use Rattle.ioc_history.specs.declared.entry.Note.{Note}
-use Rattle.ioc_history.specs.Key.{Key}
-use Rattle.ioc_history.specs.Line.{noted, Continues}
-use Rattle.ioc_history.specs.Legal.{map_of, IsLegal, IsSound}
-use Rattle.ioc_history.specs.Account.{journalled}
-use Rattle.ioc_history.specs.CountLaws.{CountsNothing}
-use Rattle.ioc_history.specs.Counting.{once_in, IsFew}
+use Rattle.ioc_journal.specs.declared.entry.Note.{Note}
+use Rattle.ioc_journal.specs.Key.{Key}
+use Rattle.ioc_journal.specs.Line.{noted, Continues}
+use Rattle.ioc_journal.specs.Legal.{map_of, IsLegal, IsSound}
+use Rattle.ioc_journal.specs.Account.{journalled}
+use Rattle.ioc_journal.specs.CountLaws.{CountsNothing}
+use Rattle.ioc_journal.specs.Counting.{once_in, IsFew}
 
 -- Holds if there are as many tickets as once requests among these items, provided that the requests
 -- and once requests of all calls are fewer than 2^63.

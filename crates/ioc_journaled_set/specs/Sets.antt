@@ -5,12 +5,12 @@ use Rattle.atomic_table.specs.Seated.{TableId}
 use Rattle.ioc_notify.specs.Living.{holders_of, is_live}
 use Rattle.ioc_record.specs.RecordRules.{RecordRules}
 use Rattle.ioc_store.specs.World.{World}
-use Rattle.ioc_history.specs.declared.entry.Note.{Note}
-use Rattle.ioc_history.specs.declared.cell.View.{View}
-use Rattle.ioc_history.specs.Line.{holder}
-use Rattle.ioc_history.specs.Legal.{map_of}
-use Rattle.ioc_history.specs.Covering.{Holds, Cover}
-use Rattle.ioc_history.specs.Account.{DeskView, HasCalled, calls, numbers_given, puts_key}
+use Rattle.ioc_journal.specs.declared.entry.Note.{Note}
+use Rattle.ioc_journal.specs.declared.cell.View.{View}
+use Rattle.ioc_journal.specs.Line.{holder}
+use Rattle.ioc_journal.specs.Legal.{map_of}
+use Rattle.ioc_journal.specs.Covering.{Holds, Cover}
+use Rattle.ioc_journal.specs.Account.{DeskView, HasCalled, calls, numbers_given, puts_key}
 use Rattle.ioc_set.specs.SetState.{SetState, now_of}
 use Rattle.ioc_journaled_set.specs.GiveUpLaws.{GivesUp, cancel_entry, holders_in_all}
 use Rattle.ioc_journaled_set.specs.Passes.{Slot, view_in, IsPassIn, IsDealt}

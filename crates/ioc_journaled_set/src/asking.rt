@@ -1,16 +1,16 @@
 //! Calls that concern puts with notification but no set.
 ghost use Rattle.std.specs.Prelude.{◌≡◌, false, [], None, IfOk, IfErr, OnOk, OnErr};
 ghost use Rattle.ioc_notify.specs.Living.{is_live};
-ghost use Rattle.ioc_history.specs.Account.{HasCalled, number_given};
-ghost use Rattle.ioc_history.specs.Counting.{is_completion};
-ghost use Rattle.ioc_history.specs.Places.{IsNoPlace};
+ghost use Rattle.ioc_journal.specs.Account.{HasCalled, number_given};
+ghost use Rattle.ioc_journal.specs.Counting.{is_completion};
+ghost use Rattle.ioc_journal.specs.Places.{IsNoPlace};
 ghost use Rattle.ioc_journaled_set.specs.Puts.{puts_view, ChangesNothing, WasAsked, WasStale};
 
 use crate::journal_access::JournalAccess;
 use crate::shared_notifications::SharedNotifications;
 use ioc_events::{Call, Entry, Event, KeptAnswers, Reply};
-use ioc_history::legal_laws::{lists_leave_sound, live_lasts};
-use ioc_history::{DeskAccount, EventCounts, JournalName, Place, Receipt};
+use ioc_journal::legal_laws::{lists_leave_sound, live_lasts};
+use ioc_journal::{DeskAccount, EventCounts, JournalName, Place, Receipt};
 use ioc_notify::NotifyId;
 use ioc_notify::table_laws::lines_tell_holders;
 use ioc_record::RecordKind;

@@ -15,7 +15,7 @@ use crate::sets_name::SetsName;
 use crate::shared_notifications::{SharedNotifications, take_number};
 use ioc_device::Device;
 use ioc_events::Event;
-use ioc_history::DeskAccount;
+use ioc_journal::DeskAccount;
 use ioc_record::RecordKind;
 use ioc_set::EventBuffers;
 use ioc_values::IocError;

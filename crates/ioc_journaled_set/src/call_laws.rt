@@ -1,8 +1,8 @@
 //! The laws on which the calls on journaled sets rest.
 ghost use Rattle.ioc_journaled_set.specs.CallLaws.{CallLaws};
 
-use ioc_history::count_laws::parts_count_alike;
-use ioc_history::legal_laws::{
+use ioc_journal::count_laws::parts_count_alike;
+use ioc_journal::legal_laws::{
     events_are_held, events_have_laws, holders_move, holding_lasts, lists_leave_sound, live_lasts,
     one_more_has_a_place, parts_share_what_is_held, those_ended_are_over,
 };

@@ -1,9 +1,9 @@
 //! Checkpoints of the journal, with all sets.
 ghost use Rattle.std.specs.Prelude.{◌≡◌, ◌<◌, ℕ, All, map, length, IfOk, IfErr, IfSome};
 ghost use Rattle.std.specs.List.{flat_map};
-ghost use Rattle.ioc_history.specs.Account.{calls, HasSeenMore, IsGiven};
-ghost use Rattle.ioc_history.specs.Legal.{map_of};
-ghost use Rattle.ioc_history.specs.Places.{IsNoPlace};
+ghost use Rattle.ioc_journal.specs.Account.{calls, HasSeenMore, IsGiven};
+ghost use Rattle.ioc_journal.specs.Legal.{map_of};
+ghost use Rattle.ioc_journal.specs.Places.{IsNoPlace};
 ghost use Rattle.ioc_set.specs.SetState.{folded};
 ghost use Rattle.ioc_store.specs.World.{Has};
 ghost use Rattle.ioc_topology.specs.Gathered.{HoldEach};
@@ -15,8 +15,8 @@ use crate::journal_access::JournalAccess;
 use crate::journaled_set::JournaledSet;
 use crate::sets_name::SetsName;
 use ioc_device::Device;
-use ioc_history::legal_laws::lists_leave_sound;
-use ioc_history::{Cell, DeskAccount, Excerpt, FreePlaces, Journal, JournalBase, SharedJournal};
+use ioc_journal::legal_laws::lists_leave_sound;
+use ioc_journal::{Cell, DeskAccount, Excerpt, FreePlaces, Journal, JournalBase, SharedJournal};
 use ioc_record::RecordKind;
 use ioc_topology::{Locked, hold_each};
 use ioc_values::IocError;

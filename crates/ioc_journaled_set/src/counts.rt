@@ -1,12 +1,12 @@
 //! The share that a set has of the engine's counts.
 ghost use Rattle.std.specs.Prelude.{◌≡◌, ◌<◌, ◌≤◌, ◌-◌, length, IsSome, None, Some};
 ghost use Rattle.std.specs.FinMap.{len};
-ghost use Rattle.ioc_history.specs.Counting.{once_in, sent_in};
+ghost use Rattle.ioc_journal.specs.Counting.{once_in, sent_in};
 ghost use Rattle.ioc_ledger.specs.Shared.{share_view, less_awaited};
 ghost use Rattle.ioc_set.specs.Linking.{awaited_alone};
 ghost use Rattle.ioc_set.specs.SetStore.{world_of};
 
-use ioc_history::{
+use ioc_journal::{
     EngineCounts, EventCounts, JournalName, RequestTickets, SentCounts, SharedJournal,
 };
 use ioc_ledger::{Tally, TallyShare, Ticket};

@@ -3,7 +3,7 @@
 ghost use Rattle.ioc_journaled_set.specs.GiveUpLaws.{SetsGiveUp, CancelGivesUp};
 
 use ioc_device::Device;
-use ioc_history::legal_laws::{
+use ioc_journal::legal_laws::{
     changes_of_all_are_held, lists_leave_sound, parts_share_what_is_held,
 };
 use ioc_record::RecordKind;

@@ -1,5 +1,5 @@
 //! Access to the journal of all calls.
-use ioc_history::{JournalName, SharedJournal};
+use ioc_journal::{JournalName, SharedJournal};
 use ioc_record::RecordKind;
 use std::alloc::Global;
 

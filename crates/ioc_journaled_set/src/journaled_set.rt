@@ -5,14 +5,14 @@ ghost use Rattle.crossbeam_utils.specs.Seq.{cell_view};
 ghost use Rattle.ioc_events.specs.Step.{names, shown};
 ghost use Rattle.ioc_notify.specs.Living.{is_live};
 ghost use Rattle.ioc_journaled_set.specs.Sent.{AreTicketsFor};
-ghost use Rattle.ioc_history.specs.Covering.{Holds};
-ghost use Rattle.ioc_history.specs.Legal.{map_of};
+ghost use Rattle.ioc_journal.specs.Covering.{Holds};
+ghost use Rattle.ioc_journal.specs.Legal.{map_of};
 ghost use Rattle.ioc_set.specs.SetState.{NoneIsLive, folded, now_of};
 ghost use Rattle.ioc_set.specs.NoCalls.{no_call};
 ghost use Rattle.ioc_set.specs.Doing.{is_ordinary};
-ghost use Rattle.ioc_history.specs.Places.{IsNoPlace};
+ghost use Rattle.ioc_journal.specs.Places.{IsNoPlace};
 ghost use Rattle.ioc_set.specs.SetStore.{world_of};
-ghost use Rattle.ioc_history.specs.Account.{number_begun, HasSeenMore, IsAccount};
+ghost use Rattle.ioc_journal.specs.Account.{number_begun, HasSeenMore, IsAccount};
 ghost use Rattle.ioc_journaled_set.specs.Puts.{BeginsUnder, HaveEnded};
 ghost use Rattle.ioc_journaled_set.specs.Holding.{is_on_record, IsCounted, IsLent, IsOwner, KeepsDevices, held_view, numbers_of, Serves, Tells, IsNoCall};
 ghost use Rattle.ioc_journaled_set.specs.SameDevice.{IsDeviceOf};
@@ -26,9 +26,9 @@ use crate::shared_notifications::{SharedNotifications, keep_beside, lock_for};
 use ioc_device::Device;
 use ioc_events::{Call, Entry, Event, KeptAnswers};
 use ioc_fields::FieldNo;
-use ioc_history::count_laws::questions_count_nothing;
-use ioc_history::legal_laws::{events_are_held, holding_lasts};
-use ioc_history::{
+use ioc_journal::count_laws::questions_count_nothing;
+use ioc_journal::legal_laws::{events_are_held, holding_lasts};
+use ioc_journal::{
     Cell, DeskAccount, EngineCounts, EventCounts, KeyPass, Receipt, RequestTickets, SharedJournal,
     pass,
 };

@@ -7,13 +7,13 @@ ghost use Rattle.ioc_dbcommon.specs.Links.{use_of, named_by};
 ghost use Rattle.ioc_record.specs.Values.{stops_put};
 ghost use Rattle.ioc_set_records.specs.Joined.{HasLink};
 ghost use Rattle.ioc_store.specs.World.{common_at};
-ghost use Rattle.ioc_history.specs.declared.entry.Note.{Note};
-ghost use Rattle.ioc_history.specs.Key.{Key, Has};
-ghost use Rattle.ioc_history.specs.Line.{holder};
-ghost use Rattle.ioc_history.specs.Account.{IsHolder, AreRecords, BothMayFollow, HasCalled, AddedByBoth, number_given};
-ghost use Rattle.ioc_history.specs.CountLaws.{is_link_change};
-ghost use Rattle.ioc_history.specs.Counting.{BothMaySend, sent_counts};
-ghost use Rattle.ioc_history.specs.Places.{IsNoPlace};
+ghost use Rattle.ioc_journal.specs.declared.entry.Note.{Note};
+ghost use Rattle.ioc_journal.specs.Key.{Key, Has};
+ghost use Rattle.ioc_journal.specs.Line.{holder};
+ghost use Rattle.ioc_journal.specs.Account.{IsHolder, AreRecords, BothMayFollow, HasCalled, AddedByBoth, number_given};
+ghost use Rattle.ioc_journal.specs.CountLaws.{is_link_change};
+ghost use Rattle.ioc_journal.specs.Counting.{BothMaySend, sent_counts};
+ghost use Rattle.ioc_journal.specs.Places.{IsNoPlace};
 ghost use Rattle.ioc_set.specs.SetState.{now_of, folded};
 ghost use Rattle.ioc_set.specs.Linking.{MayBeOne};
 ghost use Rattle.ioc_set.specs.SetStore.{world_of};
@@ -27,9 +27,9 @@ use crate::link_laws::{held_sets_may_be_one, led_sets_are_held, parted_sets_are_
 use crate::sets_name::SetsName;
 use ioc_device::Device;
 use ioc_events::{Call, Entry, KeptAnswers};
-use ioc_history::count_laws::questions_count_nothing;
-use ioc_history::legal_laws::{holding_lasts, lists_leave_sound};
-use ioc_history::{
+use ioc_journal::count_laws::questions_count_nothing;
+use ioc_journal::legal_laws::{holding_lasts, lists_leave_sound};
+use ioc_journal::{
     DeskAccount, EventCounts, JournalName, KeyPass, Keys, Place, Receipt, SharedJournal, pass,
 };
 use ioc_record::RecordKind;

@@ -2,7 +2,7 @@
 //! only calls the functions whose laws it rests on.
 ghost use Rattle.ioc_journaled_set.specs.LinkLaws.{SetsPart, SetsMayBeOne, SetsLead};
 
-use ioc_history::legal_laws::{joined_are_held, parts_are_held, parts_share_what_is_held};
+use ioc_journal::legal_laws::{joined_are_held, parts_are_held, parts_share_what_is_held};
 use ioc_record::RecordKind;
 
 /// A link change of a held set that may part it in two (`LockSet::part`) is the same link change of

@@ -2,7 +2,7 @@
 ghost use Rattle.std.specs.Prelude.{◌≡◌, ◌≤◌, length, IfOk, IfErr, OnOk, OnErr};
 ghost use Rattle.ioc_store.specs.Given.{answers_of};
 ghost use Rattle.ioc_events.specs.declared.event.Call.TheVariants as call;
-ghost use Rattle.ioc_history.specs.Places.{IsNoPlace};
+ghost use Rattle.ioc_journal.specs.Places.{IsNoPlace};
 ghost use Rattle.ioc_set.specs.SetStore.{world_of};
 ghost use Rattle.ioc_set.specs.Doing.{Does};
 ghost use Rattle.ioc_set.specs.Sound.{IsSound};
@@ -10,7 +10,7 @@ ghost use Rattle.ioc_set.specs.Sound.{IsSound};
 use crate::journal_access::JournalAccess;
 use ioc_device::Device;
 use ioc_events::{Call, Entry, Event, KeptAnswers, Reply};
-use ioc_history::{DeskAccount, JournalName, Place, Receipt, RequestTickets};
+use ioc_journal::{DeskAccount, JournalName, Place, Receipt, RequestTickets};
 use ioc_ledger::Tickets;
 use ioc_notify::Live;
 use ioc_record::RecordKind;

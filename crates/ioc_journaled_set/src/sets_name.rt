@@ -1,5 +1,5 @@
 //! Names the lock sets of an engine.
-use ioc_history::JournalName;
+use ioc_journal::JournalName;
 use std::marker::Brand;
 
 /// Names an engine and the devices that its records have at the load. Its records are of kind `K`,

@@ -10,7 +10,7 @@ use Rattle.ioc_main.specs.declared.fault.ScriptFault.{ScriptFault}
 use Rattle.ioc_main.specs.declared.fault.ScriptFault.TheVariants as script
 use Rattle.ioc_main.specs.declared.fault.RunFault.{RunFault}
 use Rattle.ioc_main.specs.declared.fault.RunFault.TheVariants.{Memory}
-use Rattle.ioc_program.specs.declared.ending.Stage.TheVariants.{Loading as while_loading}
+use Rattle.ioc_command_line.specs.declared.ending.Stage.TheVariants.{Loading as while_loading}
 use Rattle.ioc_main.specs.Faults.{run_fault_of, fault_of}
 use Rattle.ioc_values.specs.declared.error.LoadError.{LoadError}
 use Rattle.ioc_values.specs.declared.error.LoadError.TheVariants as load

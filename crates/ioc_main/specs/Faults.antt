@@ -5,12 +5,12 @@ use Rattle.std.specs.IoError.{error_kind}
 use Rattle.std.specs.declared.io.Error.{Error}
 use Rattle.ioc_values.specs.declared.error.LoadError.{LoadError}
 use Rattle.ioc_values.specs.declared.error.LoadError.TheVariants as load
-use Rattle.ioc_program.specs.declared.reason.Reason.TheVariants as reason
-use Rattle.ioc_program.specs.declared.ending.Stage.TheVariants.{Loading, Line}
-use Rattle.ioc_program.specs.declared.ending.FileRole.TheVariants.{Script}
-use Rattle.ioc_program.specs.declared.ending.Stop.{Stop}
-use Rattle.ioc_program.specs.declared.ending.Stop.TheVariants.{Unreadable, BadDb, Write, Memory}
-use Rattle.ioc_program.specs.Endings.{reason_of}
+use Rattle.ioc_command_line.specs.declared.reason.Reason.TheVariants as reason
+use Rattle.ioc_command_line.specs.declared.ending.Stage.TheVariants.{Loading, Line}
+use Rattle.ioc_command_line.specs.declared.ending.FileRole.TheVariants.{Script}
+use Rattle.ioc_command_line.specs.declared.ending.Stop.{Stop}
+use Rattle.ioc_command_line.specs.declared.ending.Stop.TheVariants.{Unreadable, BadDb, Write, Memory}
+use Rattle.ioc_command_line.specs.Endings.{reason_of}
 use Rattle.ioc_main.specs.declared.fault.LineFault.{LineFault}
 use Rattle.ioc_main.specs.declared.fault.LineFault.TheVariants as line
 use Rattle.ioc_main.specs.declared.fault.ScriptFault.{ScriptFault}

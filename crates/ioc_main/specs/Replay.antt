@@ -21,7 +21,7 @@ use Rattle.ioc_main.specs.Script.{Command, Silent, Bad, Process, Put, Get, At, N
 use Rattle.ioc_main.specs.Replies.{reply_words, text_words, count_words, tally_words}
 use Rattle.ioc_scan.specs.declared.list_name.ListName.TheVariants.{Period as Period-list}
 use Rattle.ioc_main.specs.Sets.{sets_line}
-use Rattle.ioc_scanner.specs.Asked.{event_list, interrupt_list}
+use Rattle.ioc_scan_rules.specs.Asked.{event_list, interrupt_list}
 use Rattle.ioc_main.specs.Relink.{were_linked}
 use Rattle.ioc_sim.specs.Machine.{Machine, MachineReply, Counted, refused, queued_at, queued_on, at_moment, most_served, done, scanned, serve, with_none_ended, notified, given_up}
 

@@ -2,7 +2,7 @@
 ghost use Rattle.std.specs.Prelude.{◌≡◌};
 ghost use Rattle.ioc_main.specs.Faults.{whole_run};
 
-use ioc_program::{FileRole, Reason, Stage, Stop};
+use ioc_command_line::{FileRole, Reason, Stage, Stop};
 use ioc_values::{DbFault, LoadError};
 use std::alloc::AllocError;
 use std::io;
@@ -93,7 +93,7 @@ impl From<ScriptFault> for RunFault {
 
 /// Converts a failed allocation of a load.
 impl From<AllocError> for RunFault {
-    ghost use Rattle.ioc_program.specs.declared.ending.Stage.TheVariants.{Loading};
+    ghost use Rattle.ioc_command_line.specs.declared.ending.Stage.TheVariants.{Loading};
     ghost use Rattle.ioc_main.specs.declared.fault.RunFault.TheVariants.{Memory};
 
     ghost from_gives = { λ _ fault. fault ≡ Memory Loading };

@@ -9,7 +9,7 @@ use crate::cut_at;
 use crate::fault::{LineFault, ScriptFault, WriteFault};
 use crate::session::{PendingOutput, Session};
 use crate::writing::write_text;
-use ioc_program::Reason;
+use ioc_command_line::Reason;
 use ioc_values::ByteBuffer;
 use std::alloc::Global;
 use std::io::{Read, Write};

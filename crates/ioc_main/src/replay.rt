@@ -22,7 +22,7 @@ use ioc_names::Names;
 use ioc_notify::NotifyId;
 use ioc_record::add_text;
 use ioc_scan::{ListName, Period};
-use ioc_scanner::{event_list, interrupt_list};
+use ioc_scan_rules::{event_list, interrupt_list};
 use ioc_sim::Machine;
 use ioc_store::Store;
 use ioc_trace::TraceLog;

@@ -2,10 +2,10 @@
 //! it, and prints a line for each reply. By its flags, and to a user at a terminal, it tells more.
 #![tactic(auto)]
 
+use ioc_command_line::{FileRole, Program, Stage, Stop, given, open, read_whole, show};
 use ioc_dbfile::Macros;
-use ioc_dialogue::{Arguments, Expectations, Manner, Verdict, ending, run_dialogue};
 use ioc_main::{run, whole_run};
-use ioc_program::{FileRole, Program, Stage, Stop, given, open, read_whole, show};
+use ioc_session::{Arguments, Expectations, Manner, Verdict, ending, run_dialogue};
 use std::alloc::Global;
 use std::env;
 use std::io::{self, BufWriter, IsTerminal, Read, Write};

@@ -28,8 +28,8 @@ use Rattle.ioc_store.specs.OneMap.{device_at}
 use Rattle.ioc_store.specs.World.{World, begun, begun_at}
 use Rattle.ioc_dbcommon.specs.declared.link_field.LinkField.{LinkField}
 use Rattle.ioc_events.specs.Step.{stepped, tallied, is_refusal, link_refusal, relinked}
-use Rattle.ioc_scanner.specs.declared.places.Occasion.TheVariants.{Scanning as When-scanned}
-use Rattle.ioc_scanner.specs.FirstLists.{first_lists, starters}
+use Rattle.ioc_scan_rules.specs.declared.places.Occasion.TheVariants.{Scanning as When-scanned}
+use Rattle.ioc_scan_rules.specs.FirstLists.{first_lists, starters}
 use Rattle.ioc_dbfile.specs.FirstWorld.{first_world}
 use Rattle.ioc_dbfile.specs.Finished.{Owner}
 use Rattle.ioc_dbfile.specs.Owners.{owner_of, owns_device}

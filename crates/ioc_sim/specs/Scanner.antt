@@ -9,7 +9,7 @@ use Rattle.ioc_scan.specs.declared.position.Listed.{Listed}
 use Rattle.ioc_scan.specs.Scanned.{Scanned}
 use Rattle.ioc_store.specs.declared.outbox.OutboxItem.{OutboxItem}
 use Rattle.ioc_store.specs.World.{World}
-use Rattle.ioc_scanner.specs.Asked.{Request, Once, Callback, members_of, callbacks_of, asked_of, lists_after, is_dropped}
+use Rattle.ioc_scan_rules.specs.Asked.{Request, Once, Callback, members_of, callbacks_of, asked_of, lists_after, is_dropped}
 
 -- The place of each record on the scan lists, and the waiting requests with the number of dropped
 -- items.

@@ -11,8 +11,8 @@ ghost use Rattle.ioc_store.specs.Given.{Answers};
 ghost use Rattle.ioc_store.specs.OneMap.{world_of};
 ghost use Rattle.ioc_store.specs.World.{World, begun};
 ghost use Rattle.ioc_callback.specs.Serving.{no_items};
-ghost use Rattle.ioc_scanner.specs.declared.places.Occasion.TheVariants.{Scanning};
-ghost use Rattle.ioc_scanner.specs.FirstLists.{first_lists};
+ghost use Rattle.ioc_scan_rules.specs.declared.places.Occasion.TheVariants.{Scanning};
+ghost use Rattle.ioc_scan_rules.specs.FirstLists.{first_lists};
 ghost use Rattle.ioc_sim.specs.Machine.{first_queue};
 
 use crate::leads::lead_among;
@@ -30,8 +30,8 @@ use ioc_names::{Names, RecordNo};
 use ioc_notify::NotifyId;
 use ioc_record::Given;
 use ioc_scan::Listed;
-use ioc_scanner::first_lists::{first_lists, starters};
-use ioc_scanner::places::Occasion;
+use ioc_scan_rules::first_lists::{first_lists, starters};
+use ioc_scan_rules::places::Occasion;
 use ioc_store::{EventStore, Frame, OneMap};
 use ioc_trace::{TraceLog, TracedMap};
 use ioc_values::{Finished, Input};
@@ -129,7 +129,7 @@ fn map_of(
 impl Machine {
     ghost use Rattle.ioc_events.specs.declared.event.Event.TheVariants.{Process, Put, Complete};
     ghost use Rattle.ioc_values.specs.Conversion.{input_of};
-    ghost use Rattle.ioc_scanner.specs.FirstLists.{starters};
+    ghost use Rattle.ioc_scan_rules.specs.FirstLists.{starters};
     ghost use Rattle.ioc_sim.specs.Leads.{field_of_link};
     ghost use Rattle.ioc_sim.specs.Machine.{loaded_machine, first_machine, Gives, stepped_on, done, notified, given_up};
     ghost use Rattle.ioc_sim.specs.Machine.{relinked_on, linked, each_requested};
@@ -191,7 +191,7 @@ impl Machine {
     /// # Errors
     ///
     /// [`AllocError`] if allocation fails.
-    #[tactic(auto, unfolding(ioc_scanner::specs::FirstLists::starters))]
+    #[tactic(auto, unfolding(ioc_scan_rules::specs::FirstLists::starters))]
     pub fn new(
         alloc: Global,
         records: Vec<Record>,

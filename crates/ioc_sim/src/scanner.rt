@@ -2,13 +2,13 @@
 ghost use Rattle.std.specs.Prelude.{◌≡◌, ◌≤◌, ◌+◌, ◌∷◌, [], length, IfOk, OnOk};
 ghost use Rattle.ioc_callback.specs.Serving.{no_items};
 ghost use Rattle.ioc_store.specs.Outbox.{items_of};
-ghost use Rattle.ioc_scanner.specs.Asked.{callbacks_of, drops, requests_of};
+ghost use Rattle.ioc_scan_rules.specs.Asked.{callbacks_of, drops, requests_of};
 ghost use Rattle.ioc_sim.specs.Scanner.{with_requests, count_called, called_on, with_dropped_if, with_item, with_items, with_more_dropped};
 
 use ioc_callback::Queues;
 use ioc_names::RecordNo;
 use ioc_scan::{ListName, Listed, ScanLists};
-use ioc_scanner::{Asked, calls, take_item};
+use ioc_scan_rules::{Asked, calls, take_item};
 use ioc_store::OutboxItem;
 use ioc_store::outbox::Outbox;
 use std::alloc::{AllocError, Global};

@@ -2,16 +2,16 @@
 ghost use Rattle.std.specs.Prelude.{◌≡◌, ◌<◌, ◌++◌, ℕ, [], length, slice_index_or};
 ghost use Rattle.std.specs.List.{AllPairs};
 ghost use Rattle.crossbeam_utils.specs.Seq.{cell_view};
-ghost use Rattle.ioc_history.specs.Key.{Key, Has};
-ghost use Rattle.ioc_history.specs.Line.{holder};
-ghost use Rattle.ioc_history.specs.Legal.{notifications_key};
-ghost use Rattle.ioc_history.specs.Covering.{Cover};
-ghost use Rattle.ioc_history.specs.Account.{IsHolder, puts_key};
+ghost use Rattle.ioc_journal.specs.Key.{Key, Has};
+ghost use Rattle.ioc_journal.specs.Line.{holder};
+ghost use Rattle.ioc_journal.specs.Legal.{notifications_key};
+ghost use Rattle.ioc_journal.specs.Covering.{Cover};
+ghost use Rattle.ioc_journal.specs.Account.{IsHolder, puts_key};
 ghost use Rattle.ioc_set.specs.SetState.{SetState, now_of};
 ghost use Rattle.ioc_journaled_set.specs.GiveUpLaws.{ShareNone};
 ghost use Rattle.ioc_journaled_set.specs.Passes.{Slot, keys_of, other_keys, IsDealt};
 
-use ioc_history::{Cell, KeyPass, Keys, pass};
+use ioc_journal::{Cell, KeyPass, Keys, pass};
 use ioc_record::RecordKind;
 use ioc_set::LockSet;
 use std::marker::Brand;

@@ -3,7 +3,7 @@ ghost use Rattle.std.specs.Prelude.{All};
 ghost use Rattle.crossbeam_utils.specs.Seq.{cell_view};
 ghost use Rattle.ioc_journaled_set.specs.Passes.{IsPassOf, IsPassIn, AreTakenOver};
 
-use ioc_history::{JournalName, KeyPass, SharedJournal};
+use ioc_journal::{JournalName, KeyPass, SharedJournal};
 use ioc_record::RecordKind;
 use std::sync::Wait;
 

@@ -2,12 +2,12 @@
 use crate::tests::calling::{Kind, draw, make, next_of, targets};
 use crate::tests::kept::Lines;
 use crate::tests::text::{COUNTED, LATER, RECORDS, text};
-use ioc_auditing::{Audited, Auditor, audit};
 use ioc_engine::{
     Clock, Database, Device, Engine, EngineName, IocError, Macros, Record, Reply, Report,
     StoppedRecord, load,
 };
 use ioc_fields::{CommonField, FieldNo, OwnField};
+use ioc_journal_audit::{Audited, Auditor, audit};
 use ioc_record::text_of;
 use std::alloc::Global;
 use std::sync::Wait;

@@ -1,8 +1,8 @@
 //! The arguments of the program, and how it ends.
-use ioc_main::{RunFault, whole_run};
-use ioc_program::{
+use ioc_command_line::{
     Ending, FileRole, Program, Reason, Stage, Stop, Stream, TwoFiles, given, unreadable,
 };
+use ioc_main::{RunFault, whole_run};
 use ioc_values::{BadDbKind, DbFault};
 use std::alloc::{AllocError, Global};
 use std::io;

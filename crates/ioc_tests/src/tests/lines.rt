@@ -1,8 +1,8 @@
 //! Scripts with readers and writers of one byte per call.
 use crate::tests::streams::{OneByteReader, OneByteWriter};
+use ioc_command_line::Reason;
 use ioc_dbfile::Macros;
 use ioc_main::{RunFault, run};
-use ioc_program::Reason;
 use std::alloc::Global;
 
 const DB: &[u8] = b"record(longin,\"a\"){field(VAL,\"3\")}";

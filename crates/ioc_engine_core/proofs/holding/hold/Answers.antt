@@ -1,11 +1,11 @@
 use Rattle.std.proofs.Common.{List, [], refl, sym, ◌∙◌, subst}
 use Rattle.std.specs.FinMap.{keys}
 use Rattle.crossbeam_utils.specs.Seq.{cell_view}
-use Rattle.ioc_history.specs.declared.cell.View.{View}
-use Rattle.ioc_history.specs.Key.{Key, Has}
-use Rattle.ioc_history.specs.KeyLaws.{record_kind}
-use Rattle.ioc_history.specs.Covering.{Cover}
-use Rattle.ioc_history.specs.Account.{IsHolder, AreRecords}
+use Rattle.ioc_journal.specs.declared.cell.View.{View}
+use Rattle.ioc_journal.specs.Key.{Key, Has}
+use Rattle.ioc_journal.specs.KeyLaws.{record_kind}
+use Rattle.ioc_journal.specs.Covering.{Cover}
+use Rattle.ioc_journal.specs.Account.{IsHolder, AreRecords}
 use Rattle.ioc_set.specs.SetState.{SetState, now_of}
 use Rattle.ioc_set.specs.Resting.{resting}
 use Rattle.ioc_journaled_set.specs.Holding.{IsOwner, KeepsDevices}

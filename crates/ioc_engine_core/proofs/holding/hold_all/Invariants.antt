@@ -1,6 +1,6 @@
 use Rattle.std.proofs.Common.{◌≡◌, ◌+◌, ◌-◌, ◌^◌, [], length}
 use Rattle.crossbeam_utils.specs.Seq.{cell_view}
-use Rattle.ioc_history.specs.Line.{keeper}
+use Rattle.ioc_journal.specs.Line.{keeper}
 use Rattle.ioc_journaled_set.specs.SameDevice.{IsDeviceOf}
 use Rattle.ioc_ledger.specs.Requests.{no_counts}
 use Rattle.ioc_engine_core.proofs.PartSizes.{left-from}

@@ -1,6 +1,6 @@
 use Rattle.std.proofs.Common.{◌+◌, subst, sym}
 use Rattle.crossbeam_utils.specs.Seq.{cell_view}
-use Rattle.ioc_history.specs.declared.cell.View.{View}
+use Rattle.ioc_journal.specs.declared.cell.View.{View}
 use Rattle.ioc_journaled_set.specs.SameDevice.{IsDeviceOf}
 use Rattle.ioc_engine_core.specs.Loading.{AreOfPartsBelow}
 use Rattle.ioc_engine_core.proofs.DealtParts.{set_is_calm, set_awaits_none, set_holds, set_keeps_devices, set_is_fresh, set_is_born}

@@ -1,5 +1,5 @@
 use Rattle.std.proofs.Common.{rules, [], ◌∷◌}
-use Rattle.ioc_history.proofs.Moves.{begins}
+use Rattle.ioc_journal.proofs.Moves.{begins}
 use Rattle.ioc_engine_core.proofs.opening.new_cell.Goals as goal
 
 pub ruled-requires : goal.ruled-requires

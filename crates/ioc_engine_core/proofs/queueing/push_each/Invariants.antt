@@ -1,5 +1,5 @@
 use Rattle.std.proofs.Common.{ℕ, length}
-use Rattle.ioc_scanner.specs.Asked.{callbacks_of}
+use Rattle.ioc_scan_rules.specs.Asked.{callbacks_of}
 use Rattle.ioc_engine_core.specs.Queueing.{ArePushed}
 use Rattle.ioc_engine_core.proofs.queueing.push_each.Given as goal
 

@@ -3,10 +3,10 @@ use Rattle.std.proofs.lemmas.List.{length-map}
 use Rattle.std.specs.Prelude.{All}
 use Rattle.std.specs.FinMap.{keys, len}
 use Rattle.std.specs.Vec.{vec_capacity}
-use Rattle.ioc_history.specs.Counting.{counts_of}
-use Rattle.ioc_history.specs.Legal.{map_of}
-use Rattle.ioc_history.specs.Places.{JournalOf}
-use Rattle.ioc_history.specs.declared.entry.Note.{Note}
+use Rattle.ioc_journal.specs.Counting.{counts_of}
+use Rattle.ioc_journal.specs.Legal.{map_of}
+use Rattle.ioc_journal.specs.Places.{JournalOf}
+use Rattle.ioc_journal.specs.declared.entry.Note.{Note}
 use Rattle.ioc_set.specs.SetState.{SetState}
 use Rattle.ioc_journaled_set.specs.Copies.{IsIn}
 use Rattle.ioc_journaled_set.specs.Holding.{HeldView, IsSoundlyHeld}

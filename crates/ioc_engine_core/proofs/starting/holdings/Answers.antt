@@ -4,7 +4,7 @@ use Rattle.std.proofs.lemmas.List.{length-map}
 use Rattle.ioc_set_records.specs.declared.loaded.Loaded.{Loaded}
 use Rattle.ioc_store.specs.OneMapLaws.{has_within}
 use Rattle.ioc_store.specs.World.{World, Has}
-use Rattle.ioc_history.specs.Legal.{IsSound}
+use Rattle.ioc_journal.specs.Legal.{IsSound}
 use Rattle.ioc_journaled_set.specs.SameDevice.{IsSameDevice, IsDeviceOf}
 use Rattle.ioc_engine_core.specs.Loading.{loaded_world, device_in, IsAtRest, AreSetsFrom}
 use Rattle.ioc_journaled_set.proofs.Devices.{unchanged}

@@ -1,5 +1,5 @@
 use Rattle.std.proofs.Common.{ap, arith}
-use Rattle.ioc_history.specs.declared.cell.View.{View}
+use Rattle.ioc_journal.specs.declared.cell.View.{View}
 use Rattle.ioc_engine_core.proofs.Keys.{no_desks_with}
 use Rattle.ioc_engine_core.proofs.starting.new_lists.Goals as goal
 

@@ -1,8 +1,8 @@
 use Rattle.std.proofs.Common.{refl, sym, subst, length}
-use Rattle.ioc_history.specs.declared.entry.Note.{Note}
-use Rattle.ioc_history.specs.Base.{IsBaseOf}
-use Rattle.ioc_history.specs.Legal.{map_of}
-use Rattle.ioc_history.specs.Places.{JournalOf}
+use Rattle.ioc_journal.specs.declared.entry.Note.{Note}
+use Rattle.ioc_journal.specs.Base.{IsBaseOf}
+use Rattle.ioc_journal.specs.Legal.{map_of}
+use Rattle.ioc_journal.specs.Places.{JournalOf}
 use Rattle.ioc_journaled_set.proofs.BaseOf.{is_base}
 use Rattle.ioc_journaled_set.proofs.checkpoint.drop_known.Goals as goal
 

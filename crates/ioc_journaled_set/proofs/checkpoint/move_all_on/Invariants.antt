@@ -1,5 +1,5 @@
 use Rattle.std.proofs.Common.{◌≡◌}
-use Rattle.ioc_history.specs.Legal.{map_of}
+use Rattle.ioc_journal.specs.Legal.{map_of}
 use Rattle.ioc_journaled_set.specs.Copies.{IsIn}
 use Rattle.ioc_journaled_set.specs.Holding.{HeldView}
 use Rattle.ioc_journaled_set.proofs.Replaced.{AreReplaced}

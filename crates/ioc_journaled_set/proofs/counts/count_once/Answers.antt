@@ -1,7 +1,7 @@
 use Rattle.std.proofs.Common.{◌≡◌, List, ◌<◌, ◌+◌, [], ◌∷◌, ◌++◌, take, length, sym, ap, ◌∙◌, arith, rules}
 use Rattle.std.proofs.lemmas.List.{take_more}
 use Rattle.ioc_store.specs.declared.outbox.OutboxItem.{OutboxItem}
-use Rattle.ioc_history.specs.Counting.{once_in}
+use Rattle.ioc_journal.specs.Counting.{once_in}
 use Rattle.ioc_journaled_set.proofs.Sending.{one_more_once, none_more_once}
 use Rattle.ioc_journaled_set.proofs.counts.count_once.Goals.{in-Once, in_default}
 use Rattle.ioc_journaled_set.proofs.counts.count_once.Goals as goal

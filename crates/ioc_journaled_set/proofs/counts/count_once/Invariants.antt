@@ -1,5 +1,5 @@
 use Rattle.std.proofs.Common.{◌≡◌, ◌≤◌, take, length}
-use Rattle.ioc_history.specs.Counting.{once_in}
+use Rattle.ioc_journal.specs.Counting.{once_in}
 use Rattle.ioc_journaled_set.proofs.counts.count_once.Given as goal
 
 abbrev pub invariant-loop-item : goal.invariant-loop-item

@@ -1,14 +1,14 @@
 use Rattle.std.proofs.Common.{◌<◌, List, Option, refl, sym, ap, ◌∙◌, subst, length, get_or, arith}
 use Rattle.std.specs.Option.{IfSome}
 use Rattle.crossbeam_utils.specs.Seq.{cell_view}
-use Rattle.ioc_history.specs.declared.cell.View.{View}
+use Rattle.ioc_journal.specs.declared.cell.View.{View}
 use Rattle.ioc_notify.specs.Counts.{holders_in}
 use Rattle.ioc_set.specs.SetState.{SetState}
 use Rattle.ioc_journaled_set.specs.GiveUpLaws.{GivesUp}
 use Rattle.ioc_journaled_set.specs.Holding.{HeldView}
 use Rattle.ioc_journaled_set.specs.Puts.{PutsView, puts_view}
 use Rattle.ioc_journaled_set.specs.GivingUp.{HeldGaveUp, AreSameSets, sets_of}
-use Rattle.ioc_history.specs.Account.{Pass}
+use Rattle.ioc_journal.specs.Account.{Pass}
 use Rattle.ioc_journaled_set.proofs.Kept.{none_gives, pass_exchanged, one_canceled}
 use Rattle.ioc_journaled_set.proofs.GivingUp.{set_at, sets_long, own_sets, on_err_always, line_has, line_other}
 use Rattle.ioc_journaled_set.proofs.giving_up.cancel_on.Goals as goal

@@ -3,7 +3,7 @@ use Rattle.std.specs.Prelude.{IfOk, IfNone, OnErr}
 use Rattle.std.specs.Option.{IfSome}
 use Rattle.crossbeam_utils.specs.Seq.{cell_view}
 use Rattle.ioc_ledger.specs.Shared.{ShareView}
-use Rattle.ioc_history.specs.Account.{Pass}
+use Rattle.ioc_journal.specs.Account.{Pass}
 use Rattle.ioc_set.specs.SetState.{SetState}
 use Rattle.ioc_journaled_set.specs.Sets.{AreItsSets}
 use Rattle.ioc_journaled_set.specs.SameDevice.{IsDeviceOf}

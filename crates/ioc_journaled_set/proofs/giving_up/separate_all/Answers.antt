@@ -6,7 +6,7 @@ use Rattle.ioc_journaled_set.specs.GivingUp.{EachIsLent, EachIsCounted, sets_of}
 use Rattle.ioc_journaled_set.specs.SameDevice.{IsDeviceOf}
 use Rattle.ioc_journaled_set.proofs.GivingUp.{lent_more, counted_more, sets_push}
 use Rattle.ioc_ledger.specs.Shared.{ShareView}
-use Rattle.ioc_history.specs.Account.{Pass}
+use Rattle.ioc_journal.specs.Account.{Pass}
 use Rattle.ioc_journaled_set.proofs.giving_up.separate_all.Goals as goal
 
 pub loop-i-preserved : goal.loop-i-preserved

@@ -2,7 +2,7 @@ use Rattle.std.proofs.Common.{◌≡◌, ℕ, ◌≤◌, length, take}
 use Rattle.std.specs.Prelude.{slice_index_or}
 use Rattle.std.specs.Vec.{vec_len, vec_capacity}
 use Rattle.crossbeam_utils.specs.Seq.{cell_view}
-use Rattle.ioc_history.specs.declared.cell.View.{View}
+use Rattle.ioc_journal.specs.declared.cell.View.{View}
 use Rattle.ioc_journaled_set.specs.Holding.{HeldView}
 use Rattle.ioc_journaled_set.specs.GivingUp.{EachIsLent, EachIsCounted, sets_of}
 use Rattle.ioc_journaled_set.specs.SameDevice.{IsDeviceOf}

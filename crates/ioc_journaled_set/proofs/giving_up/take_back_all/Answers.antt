@@ -7,7 +7,7 @@ use Rattle.ioc_set.specs.SetState.{SetState}
 use Rattle.ioc_journaled_set.specs.Holding.{HeldView, held_view, seen_by, IsCounted}
 use Rattle.ioc_journaled_set.specs.SameDevice.{IsDeviceOf}
 use Rattle.ioc_journaled_set.proofs.GivingUp.{owns_at, has_devices, never_empty}
-use Rattle.ioc_history.specs.Account.{Pass}
+use Rattle.ioc_journal.specs.Account.{Pass}
 use Rattle.ioc_journaled_set.specs.Holding.{IsLent}
 use Rattle.ioc_journaled_set.proofs.giving_up.take_back_all.Given.{Over}
 use Rattle.ioc_journaled_set.proofs.giving_up.take_back_all.Goals.{After-take}

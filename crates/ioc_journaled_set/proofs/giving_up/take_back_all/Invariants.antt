@@ -3,7 +3,7 @@ use Rattle.std.specs.Prelude.{slice_index_or}
 use Rattle.ioc_ledger.specs.Shared.{ShareView}
 use Rattle.ioc_set.specs.SetState.{SetState}
 use Rattle.ioc_journaled_set.specs.Holding.{HeldView, held_view, seen_by}
-use Rattle.ioc_history.specs.Account.{Pass}
+use Rattle.ioc_journal.specs.Account.{Pass}
 use Rattle.ioc_journaled_set.proofs.giving_up.take_back_all.Given as goal
 
 abbrev pub invariant-loop-i : goal.invariant-loop-i

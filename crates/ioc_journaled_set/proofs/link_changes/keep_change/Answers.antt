@@ -1,10 +1,10 @@
 use Rattle.std.proofs.Common.{List, sym, ◌∙◌, subst, arith}
 use Rattle.crossbeam_utils.specs.Seq.{cell_view}
 use Rattle.ioc_device.specs.declared.Answer.{Answer}
-use Rattle.ioc_history.specs.Account.{BothMayFollow, HasCalled, AddedByBoth}
-use Rattle.ioc_history.specs.Counting.{BothMaySend, sent_counts}
-use Rattle.ioc_history.specs.declared.event_counts.SentCounts.{SentCounts}
-use Rattle.ioc_history.proofs.Numbers.{begins_none}
+use Rattle.ioc_journal.specs.Account.{BothMayFollow, HasCalled, AddedByBoth}
+use Rattle.ioc_journal.specs.Counting.{BothMaySend, sent_counts}
+use Rattle.ioc_journal.specs.declared.event_counts.SentCounts.{SentCounts}
+use Rattle.ioc_journal.proofs.Numbers.{begins_none}
 use Rattle.ioc_journaled_set.proofs.Sending.{links_count_none}
 use Rattle.ioc_journaled_set.proofs.link_changes.keep_change.Goals as goal
 

@@ -4,14 +4,14 @@ use Rattle.std.specs.Prelude.{Contains}
 use Rattle.crossbeam_utils.specs.Seq.{cell_view}
 use Rattle.ioc_notify.specs.declared.live_numbers.Live.{Live}
 use Rattle.ioc_notify.specs.Counts.{holders_in}
-use Rattle.ioc_history.specs.declared.entry.Note.{Note}
-use Rattle.ioc_history.specs.declared.cell.View.{View}
-use Rattle.ioc_history.specs.Key.{Key}
-use Rattle.ioc_history.specs.Counting.{BothMaySend, BothMayCount}
-use Rattle.ioc_history.specs.Line.{holder, noted}
-use Rattle.ioc_history.specs.Legal.{map_of, notifications_key}
-use Rattle.ioc_history.specs.Account.{journalled, calls, number_given, numbers_given, BothMayFollow, MayBegin, AddedByBoth, puts_key}
-use Rattle.ioc_history.proofs.Numbers.{numbers_below}
+use Rattle.ioc_journal.specs.declared.entry.Note.{Note}
+use Rattle.ioc_journal.specs.declared.cell.View.{View}
+use Rattle.ioc_journal.specs.Key.{Key}
+use Rattle.ioc_journal.specs.Counting.{BothMaySend, BothMayCount}
+use Rattle.ioc_journal.specs.Line.{holder, noted}
+use Rattle.ioc_journal.specs.Legal.{map_of, notifications_key}
+use Rattle.ioc_journal.specs.Account.{journalled, calls, number_given, numbers_given, BothMayFollow, MayBegin, AddedByBoth, puts_key}
+use Rattle.ioc_journal.proofs.Numbers.{numbers_below}
 use Rattle.ioc_journaled_set.specs.Puts.{PutsView, NoneIsAbove, AreCounted, AreTaken, AreMoved}
 use Rattle.ioc_journaled_set.proofs.Taken.{may_begin_by, room_by, new_by, own_by, within_by, still_taken, still_placed, still_begun}
 use Rattle.ioc_journaled_set.proofs.Counted.{before_there, sums_fit, counted_then}

@@ -1,6 +1,6 @@
 use Rattle.std.proofs.Common.{Some, sym, ap, ◌∙◌, inl, inr, ⊎_elim}
 use Rattle.ioc_events.specs.declared.event.Call.{Call}
-use Rattle.ioc_history.specs.Account.{number_given}
+use Rattle.ioc_journal.specs.Account.{number_given}
 use Rattle.ioc_journaled_set.proofs.shared_notifications.place_begun.Goals as goal
 
 pub returns-in-Some-clause-within : goal.returns-in-Some-clause-within

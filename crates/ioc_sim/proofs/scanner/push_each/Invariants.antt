@@ -1,5 +1,5 @@
 use Rattle.std.proofs.Common.{◌≡◌, ◌+◌, ◌≤◌, length}
-use Rattle.ioc_scanner.specs.Asked.{callbacks_of}
+use Rattle.ioc_scan_rules.specs.Asked.{callbacks_of}
 use Rattle.ioc_sim.specs.Scanner.{with_requests, count_called}
 use Rattle.ioc_sim.proofs.scanner.push_each.Given as goal
 

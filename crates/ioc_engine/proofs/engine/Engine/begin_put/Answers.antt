@@ -2,7 +2,7 @@ use Rattle.std.proofs.Common.{ℕ, sym, subst, ⊎_elim}
 use Rattle.std.specs.Prelude.{IfOk}
 use Rattle.rec_types.specs.Record.{record_rules}
 use Rattle.ioc_set.specs.SetStore.{world_of}
-use Rattle.ioc_history.specs.Account.{DeskView}
+use Rattle.ioc_journal.specs.Account.{DeskView}
 use Rattle.ioc_engine_core.specs.Served.{WasBegun}
 use Rattle.ioc_engine.specs.Refusals.{IsPutError}
 use Rattle.ioc_engine.proofs.TypeRefusals.{ok_then, err_then, begun-can, refused-put}

@@ -1,4 +1,4 @@
-use Rattle.ioc_history.specs.Account.{HasSeenMore}
+use Rattle.ioc_journal.specs.Account.{HasSeenMore}
 use Rattle.ioc_engine_core.proofs.engine.EngineCore.checkpoint_from.Given as goal
 
 -- The desk has seen more of the calls of others at each turn.

@@ -1,8 +1,8 @@
 use Rattle.std.proofs.Common.{◌≡◌, ℕ, List, sym, ap, ◌∙◌, subst}
 use Rattle.std.specs.Prelude.{Contains}
-use Rattle.ioc_history.specs.declared.entry.Note.{Note}
-use Rattle.ioc_history.specs.Account.{IsAccount}
-use Rattle.ioc_history.specs.Line.{Begins}
+use Rattle.ioc_journal.specs.declared.entry.Note.{Note}
+use Rattle.ioc_journal.specs.Account.{IsAccount}
+use Rattle.ioc_journal.specs.Line.{Begins}
 use Rattle.ioc_journaled_set.specs.Holding.{HeldView, IsSoundlyHeld, numbers_of}
 use Rattle.ioc_engine_core.proofs.SeenMore.{no_more}
 use Rattle.ioc_engine_core.proofs.engine.EngineCore.part_of.Goals as goal

@@ -1,7 +1,7 @@
 use Rattle.std.proofs.Common.{◌<◌, ℕ, All}
 use Rattle.std.specs.Prelude.{Any, Contains}
 use Rattle.ioc_topology.specs.Gathered.{IsMarked}
-use Rattle.ioc_history.specs.Account.{HasSeenMore}
+use Rattle.ioc_journal.specs.Account.{HasSeenMore}
 use Rattle.ioc_engine_core.specs.Seen.{IsPartSeen}
 use Rattle.ioc_engine_core.proofs.engine.EngineCore.parts.Given as goal
 

@@ -1,7 +1,7 @@
 use Rattle.std.proofs.Common.{◌≡◌, ℕ, Option, sym, subst}
 use Rattle.std.specs.Prelude.{IfOk, IfErr}
 use Rattle.ioc_set.specs.SetStore.{world_of}
-use Rattle.ioc_history.specs.Account.{DeskView}
+use Rattle.ioc_journal.specs.Account.{DeskView}
 use Rattle.ioc_topology.specs.Change.{AreLent}
 use Rattle.ioc_set.specs.declared.link_change.LinkChange.{LinkChange}
 use Rattle.ioc_journaled_set.specs.Holding.{numbers_of}

@@ -3,16 +3,16 @@ use Rattle.std.specs.Prelude.{ℕ, All, IsSome, ◌≡◌, ◌<◌, ◌↔◌}
 use Rattle.std.specs.FinMap.{get, keys}
 use Rattle.ioc_graph.specs.Paths.{Connected}
 use Rattle.ioc_set_records.specs.Joined.{links_of, Joined}
-use Rattle.ioc_history.specs.declared.entry.Note.{Note}
+use Rattle.ioc_journal.specs.declared.entry.Note.{Note}
 use Rattle.ioc_topology.specs.Gathered.{HoldEach}
 use Rattle.ioc_set.specs.SetState.{SetState}
 use Rattle.ioc_journaled_set.specs.Holding.{HeldView, KeepsDevices, numbers_of}
 use Rattle.ioc_journaled_set.specs.SameDevice.{IsDeviceOf}
-use Rattle.ioc_history.specs.Account.{IsAccount}
-use Rattle.ioc_history.specs.Places.{JournalOf}
-use Rattle.ioc_history.specs.Legal.{map_of}
+use Rattle.ioc_journal.specs.Account.{IsAccount}
+use Rattle.ioc_journal.specs.Places.{JournalOf}
+use Rattle.ioc_journal.specs.Legal.{map_of}
 use Rattle.ioc_journaled_set.specs.Copies.{IsIn}
-use Rattle.ioc_history.specs.Counting.{counts_of}
+use Rattle.ioc_journal.specs.Counting.{counts_of}
 use Rattle.ioc_engine_core.specs.Ended.{ShareASet}
 use Rattle.ioc_engine_core.specs.Loading.{IsSpare}
 use Rattle.ioc_engine_core.proofs.Counts.{counts_alike}

@@ -8,7 +8,7 @@ use Rattle.ioc_journaled_set.specs.Holding.{HeldView, IsHeld}
 use Rattle.ioc_journaled_set.specs.SameDevice.{IsDeviceOf}
 use Rattle.ioc_journaled_set.proofs.Leading.{holds_known, sets_apart, sets_may_be_one}
 use Rattle.ioc_journaled_set.proofs.Serving.{owner_on}
-use Rattle.ioc_history.specs.Account.{Pass}
+use Rattle.ioc_journal.specs.Account.{Pass}
 use Rattle.ioc_journaled_set.proofs.journaled_set.JournaledSet.compare.Goals as goal
 
 pub unreachable-requires : goal.unreachable-requires

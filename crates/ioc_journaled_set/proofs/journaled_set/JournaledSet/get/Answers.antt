@@ -4,10 +4,10 @@ use Rattle.crossbeam_utils.specs.Seq.{cell_view}
 use Rattle.ioc_device.specs.declared.Answer.{Answer}
 use Rattle.ioc_store.specs.World.{Has}
 use Rattle.ioc_events.specs.declared.event.Call.TheVariants as calling
-use Rattle.ioc_history.specs.Covering.{Holds}
-use Rattle.ioc_history.specs.Legal.{map_of}
-use Rattle.ioc_history.specs.declared.cell.View.{View}
-use Rattle.ioc_history.specs.Account.{HasCalled, Pass}
+use Rattle.ioc_journal.specs.Covering.{Holds}
+use Rattle.ioc_journal.specs.Legal.{map_of}
+use Rattle.ioc_journal.specs.declared.cell.View.{View}
+use Rattle.ioc_journal.specs.Account.{HasCalled, Pass}
 use Rattle.ioc_set.specs.SetState.{now_of}
 use Rattle.ioc_journaled_set.specs.Holding.{HeldView, held_view, numbers_of, IsHeld, Tells}
 use Rattle.ioc_journaled_set.specs.SameDevice.{IsDeviceOf}

@@ -1,8 +1,8 @@
 use Rattle.std.proofs.Common.{[], Option, refl, sym, ◌∙◌, subst}
 use Rattle.crossbeam_utils.specs.Seq.{cell_view}
-use Rattle.ioc_history.specs.declared.cell.View.{View}
-use Rattle.ioc_history.specs.Legal.{map_of}
-use Rattle.ioc_history.specs.Account.{IsHolder, AreRecords, Pass}
+use Rattle.ioc_journal.specs.declared.cell.View.{View}
+use Rattle.ioc_journal.specs.Legal.{map_of}
+use Rattle.ioc_journal.specs.Account.{IsHolder, AreRecords, Pass}
 use Rattle.ioc_set.specs.SetState.{now_of}
 use Rattle.ioc_journaled_set.specs.Holding.{IsHeld}
 use Rattle.ioc_journaled_set.specs.SameDevice.{IsDeviceOf}

@@ -7,17 +7,17 @@ use Rattle.ioc_dbcommon.specs.Links.{use_of, named_by, no_link}
 use Rattle.ioc_record.specs.Values.{stops_put}
 use Rattle.ioc_set_records.specs.Joined.{HasLink, relinked}
 use Rattle.ioc_store.specs.World.{World, common_at}
-use Rattle.ioc_history.specs.Covering.{Holds}
-use Rattle.ioc_history.specs.Counting.{BothMaySend, sent_counts}
-use Rattle.ioc_history.specs.Legal.{map_of, IsLegal, IsSound}
-use Rattle.ioc_history.specs.Line.{Continues}
-use Rattle.ioc_history.specs.Key.{Key}
-use Rattle.ioc_history.specs.Laws.{GoesOn}
-use Rattle.ioc_history.specs.LinkChange.{TakesLink, link_note}
+use Rattle.ioc_journal.specs.Covering.{Holds}
+use Rattle.ioc_journal.specs.Counting.{BothMaySend, sent_counts}
+use Rattle.ioc_journal.specs.Legal.{map_of, IsLegal, IsSound}
+use Rattle.ioc_journal.specs.Line.{Continues}
+use Rattle.ioc_journal.specs.Key.{Key}
+use Rattle.ioc_journal.specs.Laws.{GoesOn}
+use Rattle.ioc_journal.specs.LinkChange.{TakesLink, link_note}
 use Rattle.ioc_set_records.specs.Contents.{Records}
-use Rattle.ioc_history.specs.Account.{BothMayFollow, AddedByBoth, Pass}
-use Rattle.ioc_history.specs.declared.entry.Note.{Note}
-use Rattle.ioc_history.specs.declared.cell.View.{View}
+use Rattle.ioc_journal.specs.Account.{BothMayFollow, AddedByBoth, Pass}
+use Rattle.ioc_journal.specs.declared.entry.Note.{Note}
+use Rattle.ioc_journal.specs.declared.cell.View.{View}
 use Rattle.ioc_set.specs.SetState.{SetState, now_of}
 use Rattle.ioc_set.specs.Linking.{MayBeOne}
 use Rattle.ioc_set.specs.SetStore.{world_of}

@@ -1,14 +1,14 @@
 use Rattle.std.proofs.Common.{◌≡◌, Option, Some, None, refl, sym, ◌∙◌, subst}
 use Rattle.crossbeam_utils.specs.Seq.{cell_view}
-use Rattle.ioc_history.specs.Line.{holder}
+use Rattle.ioc_journal.specs.Line.{holder}
 use Rattle.ioc_set.specs.SetState.{now_of}
 use Rattle.ioc_journaled_set.specs.Holding.{IsHeld}
 use Rattle.ioc_journaled_set.specs.SameDevice.{IsDeviceOf}
 use Rattle.ioc_journaled_set.proofs.Leading.{holds_known}
 use Rattle.ioc_journaled_set.proofs.Serving.{owner_on}
-use Rattle.ioc_history.specs.Account.{Pass}
-use Rattle.ioc_history.specs.Covering.{Holds}
-use Rattle.ioc_history.specs.Legal.{map_of}
+use Rattle.ioc_journal.specs.Account.{Pass}
+use Rattle.ioc_journal.specs.Covering.{Holds}
+use Rattle.ioc_journal.specs.Legal.{map_of}
 use Rattle.ioc_journaled_set.proofs.journaled_set.JournaledSet.learn_all.Given.{Over}
 use Rattle.ioc_journaled_set.proofs.journaled_set.JournaledSet.learn_all.Goals.{After-tell_all}
 use Rattle.ioc_journaled_set.proofs.journaled_set.JournaledSet.learn_all.Goals as goal

@@ -1,4 +1,4 @@
-use Rattle.ioc_history.specs.Legal.{map_of}
+use Rattle.ioc_journal.specs.Legal.{map_of}
 use Rattle.ioc_journaled_set.proofs.BaseOf.{in_by_set}
 use Rattle.ioc_journaled_set.proofs.journaled_set.JournaledSet.move_on.Goals as goal
 

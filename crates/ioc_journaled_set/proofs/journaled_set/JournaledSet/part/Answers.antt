@@ -7,16 +7,16 @@ use Rattle.ioc_dbcommon.specs.Links.{use_of, named_by}
 use Rattle.ioc_record.specs.Values.{stops_put}
 use Rattle.ioc_set_records.specs.Joined.{HasLink}
 use Rattle.ioc_store.specs.World.{World, common_at}
-use Rattle.ioc_history.specs.Covering.{Holds, Cover}
-use Rattle.ioc_history.specs.Counting.{BothMaySend, sent_counts}
-use Rattle.ioc_history.specs.Legal.{map_of, IsLegal, IsSound}
-use Rattle.ioc_history.specs.Line.{Continues}
-use Rattle.ioc_history.specs.Key.{Key}
-use Rattle.ioc_history.specs.Laws.{GoesOn}
-use Rattle.ioc_history.specs.LinkChange.{TakesLink, link_note}
-use Rattle.ioc_history.specs.Account.{IsHolder, AreRecords, BothMayFollow, HasCalled, AddedByBoth, Pass}
-use Rattle.ioc_history.specs.declared.entry.Note.{Note}
-use Rattle.ioc_history.specs.declared.cell.View.{View}
+use Rattle.ioc_journal.specs.Covering.{Holds, Cover}
+use Rattle.ioc_journal.specs.Counting.{BothMaySend, sent_counts}
+use Rattle.ioc_journal.specs.Legal.{map_of, IsLegal, IsSound}
+use Rattle.ioc_journal.specs.Line.{Continues}
+use Rattle.ioc_journal.specs.Key.{Key}
+use Rattle.ioc_journal.specs.Laws.{GoesOn}
+use Rattle.ioc_journal.specs.LinkChange.{TakesLink, link_note}
+use Rattle.ioc_journal.specs.Account.{IsHolder, AreRecords, BothMayFollow, HasCalled, AddedByBoth, Pass}
+use Rattle.ioc_journal.specs.declared.entry.Note.{Note}
+use Rattle.ioc_journal.specs.declared.cell.View.{View}
 use Rattle.ioc_set.specs.SetState.{now_of}
 use Rattle.ioc_journaled_set.specs.Holding.{HeldView, held_view, IsHeld}
 use Rattle.ioc_journaled_set.specs.LinkChanges.{link_change, Parts}

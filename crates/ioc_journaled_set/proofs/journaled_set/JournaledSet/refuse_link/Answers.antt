@@ -6,10 +6,10 @@ use Rattle.ioc_record.specs.Values.{stops_put}
 use Rattle.ioc_set_records.specs.Joined.{HasLink}
 use Rattle.ioc_store.specs.World.{common_at}
 use Rattle.ioc_events.specs.declared.event.Call.TheVariants as calling
-use Rattle.ioc_history.specs.Covering.{Holds}
-use Rattle.ioc_history.specs.Legal.{map_of}
-use Rattle.ioc_history.specs.declared.cell.View.{View}
-use Rattle.ioc_history.specs.Account.{HasCalled, Pass}
+use Rattle.ioc_journal.specs.Covering.{Holds}
+use Rattle.ioc_journal.specs.Legal.{map_of}
+use Rattle.ioc_journal.specs.declared.cell.View.{View}
+use Rattle.ioc_journal.specs.Account.{HasCalled, Pass}
 use Rattle.ioc_set.specs.SetState.{now_of}
 use Rattle.ioc_journaled_set.specs.Holding.{HeldView, held_view, IsHeld}
 use Rattle.ioc_journaled_set.specs.LinkChanges.{Refuses}

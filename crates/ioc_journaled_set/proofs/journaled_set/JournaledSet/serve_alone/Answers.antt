@@ -1,4 +1,4 @@
-use Rattle.ioc_history.specs.Line.{noted}
+use Rattle.ioc_journal.specs.Line.{noted}
 use Rattle.std.proofs.Common.{◌≡◌, ◌++◌, ℕ, Option, Some, None, sym, ap, ◌∙◌, subst, arith}
 use Rattle.std.specs.Prelude.{Contains}
 use Rattle.crossbeam_utils.specs.Seq.{cell_view}
@@ -6,13 +6,13 @@ use Rattle.ioc_store.specs.World.{Has}
 use Rattle.ioc_events.specs.declared.event.Entry.{Entry}
 use Rattle.ioc_events.specs.declared.event.Call.TheVariants as calling
 use Rattle.ioc_events.specs.Step.{names}
-use Rattle.ioc_history.specs.declared.event_counts.SentCounts.{SentCounts}
-use Rattle.ioc_history.specs.Counting.{MaySend}
-use Rattle.ioc_history.specs.Covering.{Holds}
-use Rattle.ioc_history.specs.Legal.{map_of}
-use Rattle.ioc_history.specs.declared.cell.View.{View}
-use Rattle.ioc_history.specs.Account.{journalled, HasCalled, Pass}
-use Rattle.ioc_history.proofs.Numbers.{begins_none}
+use Rattle.ioc_journal.specs.declared.event_counts.SentCounts.{SentCounts}
+use Rattle.ioc_journal.specs.Counting.{MaySend}
+use Rattle.ioc_journal.specs.Covering.{Holds}
+use Rattle.ioc_journal.specs.Legal.{map_of}
+use Rattle.ioc_journal.specs.declared.cell.View.{View}
+use Rattle.ioc_journal.specs.Account.{journalled, HasCalled, Pass}
+use Rattle.ioc_journal.proofs.Numbers.{begins_none}
 use Rattle.ioc_set.specs.SetState.{NoneIsLive, now_of}
 use Rattle.ioc_set.specs.NoCalls.{no_call}
 use Rattle.ioc_set.specs.SetStore.{world_of}

@@ -7,11 +7,11 @@ use Rattle.ioc_store.specs.World.{Has, begun_at}
 use Rattle.ioc_store.specs.Given.{answers_of}
 use Rattle.ioc_events.specs.declared.event.Entry.{Entry}
 use Rattle.ioc_events.specs.Step.{names}
-use Rattle.ioc_history.specs.Covering.{Holds}
-use Rattle.ioc_history.specs.Legal.{map_of}
-use Rattle.ioc_history.specs.declared.entry.Note.{Note}
-use Rattle.ioc_history.specs.declared.cell.View.{View}
-use Rattle.ioc_history.specs.Account.{HasCalled, Pass, number_begun, number_given, puts_key, PutsAreKeyed, journalled}
+use Rattle.ioc_journal.specs.Covering.{Holds}
+use Rattle.ioc_journal.specs.Legal.{map_of}
+use Rattle.ioc_journal.specs.declared.entry.Note.{Note}
+use Rattle.ioc_journal.specs.declared.cell.View.{View}
+use Rattle.ioc_journal.specs.Account.{HasCalled, Pass, number_begun, number_given, puts_key, PutsAreKeyed, journalled}
 use Rattle.ioc_set.specs.SetState.{now_of}
 use Rattle.ioc_set.specs.NoCalls.{no_call}
 use Rattle.ioc_set.specs.declared.set_store.SetStore.{SetStore}
@@ -22,14 +22,14 @@ use Rattle.ioc_journaled_set.specs.SameDevice.{IsDeviceOf}
 use Rattle.ioc_journaled_set.proofs.Keys.{key_there}
 use Rattle.ioc_journaled_set.proofs.Devices.{worked_there, keeps_on}
 use Rattle.ioc_journaled_set.proofs.Serving.{names_one, no_cancel, owner_on, entry_is, only, as_many, asks_alike, if_some_then}
-use Rattle.ioc_history.specs.declared.event_counts.SentCounts.{SentCounts}
-use Rattle.ioc_history.specs.Counting.{BothMaySend}
+use Rattle.ioc_journal.specs.declared.event_counts.SentCounts.{SentCounts}
+use Rattle.ioc_journal.specs.Counting.{BothMaySend}
 use Rattle.ioc_journaled_set.proofs.Counting.{some_len}
 use Rattle.ioc_journaled_set.proofs.Shares.{backed, counted_then, has_share, is_there}
 use Rattle.ioc_journaled_set.proofs.Beside.{IsDoneBeside, both_follow, both_send, both_count, held_beside, moved_beside, ended_beside}
 use Rattle.ioc_journaled_set.proofs.Ended.{have_ended, ends_so}
-use Rattle.ioc_history.specs.Line.{noted}
-use Rattle.ioc_history.proofs.Numbers.{numbers_on}
+use Rattle.ioc_journal.specs.Line.{noted}
+use Rattle.ioc_journal.proofs.Numbers.{numbers_on}
 use Rattle.ioc_journaled_set.proofs.Places.{place_alike}
 use Rattle.ioc_journaled_set.proofs.Counted.{up_to_date_on, keyed_before}
 use Rattle.ioc_journaled_set.proofs.Taken.{fewer_live}

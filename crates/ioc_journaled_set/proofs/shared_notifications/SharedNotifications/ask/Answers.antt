@@ -1,7 +1,7 @@
 use Rattle.std.proofs.Common.{List, sym, ap, ◌∙◌, subst}
 use Rattle.ioc_store.specs.World.{begun_at}
-use Rattle.ioc_history.specs.declared.entry.Note.{Note}
-use Rattle.ioc_history.specs.Legal.{map_of}
+use Rattle.ioc_journal.specs.declared.entry.Note.{Note}
+use Rattle.ioc_journal.specs.Legal.{map_of}
 use Rattle.ioc_journaled_set.specs.Puts.{PutsView, AreCounted}
 use Rattle.ioc_journaled_set.proofs.Counted.{counted_on}
 use Rattle.ioc_journaled_set.proofs.Telling.{live_now, ask_comes}

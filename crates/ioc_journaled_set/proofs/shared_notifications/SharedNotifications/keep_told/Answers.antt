@@ -2,14 +2,14 @@ use Rattle.std.proofs.Common.{◌≡◌, ◌≤◌, ℕ, List, ◌++◌, Option,
 use Rattle.std.specs.Option.{IfSome}
 use Rattle.std.specs.Prelude.{Contains}
 use Rattle.crossbeam_utils.specs.Seq.{cell_view}
-use Rattle.ioc_history.specs.declared.entry.Note.{Note}
-use Rattle.ioc_history.specs.declared.cell.View.{View}
-use Rattle.ioc_history.specs.Key.{Key}
+use Rattle.ioc_journal.specs.declared.entry.Note.{Note}
+use Rattle.ioc_journal.specs.declared.cell.View.{View}
+use Rattle.ioc_journal.specs.Key.{Key}
 use Rattle.ioc_journaled_set.specs.Sent.{MayCountNothing}
 use Rattle.ioc_journaled_set.proofs.Sending.{sends_none, counts_none}
-use Rattle.ioc_history.specs.Line.{holder, noted}
-use Rattle.ioc_history.specs.Account.{journalled, calls, numbers_given, MayFollow, Added, puts_key}
-use Rattle.ioc_history.proofs.Numbers.{begins_none, numbers_below, numbers_same}
+use Rattle.ioc_journal.specs.Line.{holder, noted}
+use Rattle.ioc_journal.specs.Account.{journalled, calls, numbers_given, MayFollow, Added, puts_key}
+use Rattle.ioc_journal.proofs.Numbers.{begins_none, numbers_below, numbers_same}
 use Rattle.ioc_journaled_set.specs.Puts.{PutsView, NoneIsAbove, AreCounted, AreTaken, ChangesNothing}
 use Rattle.ioc_journaled_set.proofs.Counted.{counted_on}
 use Rattle.ioc_journaled_set.proofs.Telling.{told_follows, told_counts_none, told_alike}

@@ -1,6 +1,6 @@
 use Rattle.std.proofs.Common.{sym, subst, ap, ℕ, List}
 use Rattle.crossbeam_utils.specs.Seq.{cell_view}
-use Rattle.ioc_history.specs.declared.cell.View.{View}
+use Rattle.ioc_journal.specs.declared.cell.View.{View}
 use Rattle.ioc_journaled_set.specs.PutPlaces.{Places}
 use Rattle.ioc_journaled_set.specs.Puts.{puts_view, AreKept, CanBegin}
 use Rattle.ioc_journaled_set.proofs.Kept.{number_given_back, may_begin}

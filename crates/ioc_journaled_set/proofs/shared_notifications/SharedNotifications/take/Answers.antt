@@ -1,6 +1,6 @@
 use Rattle.std.proofs.Common.{◌≡◌, ◌+◌, ◌++◌, ◌∷◌, [], ℕ, List, sym, ap, subst, ◌∙◌}
 use Rattle.crossbeam_utils.specs.Seq.{cell_view}
-use Rattle.ioc_history.specs.declared.cell.View.{View}
+use Rattle.ioc_journal.specs.declared.cell.View.{View}
 use Rattle.ioc_journaled_set.specs.Puts.{PutsView, puts_view, MayTake, AreKept}
 use Rattle.ioc_journaled_set.specs.PutPlaces.{Places}
 use Rattle.ioc_journaled_set.proofs.Kept.{number_taken, room_made, room_left}

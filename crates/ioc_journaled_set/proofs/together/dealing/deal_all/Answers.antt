@@ -1,10 +1,10 @@
 use Rattle.std.proofs.Common.{◌≡◌, ◌≢◌, ℕ, ◌<◌, List, Some, sym, ap, ap₂, subst, ◌∙◌, length, get_or, get_or-set_other, get_or-set_same, below_more, arith, rules}
 use Rattle.std.specs.Prelude.{slice_set}
-use Rattle.ioc_history.specs.declared.cell.View.{View}
-use Rattle.ioc_history.specs.Key.{Key, Has}
-use Rattle.ioc_history.specs.Line.{holder}
-use Rattle.ioc_history.specs.Legal.{notifications_key}
-use Rattle.ioc_history.specs.Covering.{Cover}
+use Rattle.ioc_journal.specs.declared.cell.View.{View}
+use Rattle.ioc_journal.specs.Key.{Key, Has}
+use Rattle.ioc_journal.specs.Line.{holder}
+use Rattle.ioc_journal.specs.Legal.{notifications_key}
+use Rattle.ioc_journal.specs.Covering.{Cover}
 use Rattle.ioc_set.specs.SetState.{SetState, now_of}
 use Rattle.ioc_journaled_set.specs.GiveUpLaws.{ShareNone}
 use Rattle.ioc_journaled_set.specs.Passes.{Slot, view_of, keys_of, IsDealt}

@@ -1,12 +1,12 @@
 use Rattle.std.proofs.Common.{◌≡◌, ℕ, ◌<◌, ◌≤◌, length, []}
 use Rattle.std.specs.Prelude.{slice_index_or}
-use Rattle.ioc_history.specs.Key.{Has}
-use Rattle.ioc_history.specs.Line.{holder}
-use Rattle.ioc_history.specs.Legal.{notifications_key}
-use Rattle.ioc_history.specs.Covering.{Cover}
+use Rattle.ioc_journal.specs.Key.{Has}
+use Rattle.ioc_journal.specs.Line.{holder}
+use Rattle.ioc_journal.specs.Legal.{notifications_key}
+use Rattle.ioc_journal.specs.Covering.{Cover}
 use Rattle.ioc_set.specs.SetState.{SetState, now_of}
 use Rattle.ioc_journaled_set.specs.Passes.{Slot, view_of, keys_of, other_keys, IsDealt}
-use Rattle.ioc_history.specs.Account.{puts_key}
+use Rattle.ioc_journal.specs.Account.{puts_key}
 use Rattle.ioc_journaled_set.proofs.together.dealing.deal_all.Given as goal
 
 abbrev pub invariant-loop-i : goal.invariant-loop-i

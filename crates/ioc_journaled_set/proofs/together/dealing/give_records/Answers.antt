@@ -1,6 +1,6 @@
 use Rattle.std.proofs.Common.{◌++◌, List, ap₂, subst}
 use Rattle.crossbeam_utils.specs.Seq.{cell_view}
-use Rattle.ioc_history.specs.Key.{Key, Has}
+use Rattle.ioc_journal.specs.Key.{Key, Has}
 use Rattle.ioc_journaled_set.proofs.KeysOfSets.{own_within, own_apart}
 use Rattle.ioc_journaled_set.proofs.together.dealing.give_records.Goals as goal
 

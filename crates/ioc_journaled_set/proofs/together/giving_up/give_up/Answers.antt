@@ -5,15 +5,15 @@ use Rattle.ioc_device.specs.declared.Answer.{Answer}
 use Rattle.ioc_events.specs.declared.event.Event.TheVariants.{Cancel}
 use Rattle.ioc_events.specs.declared.event.Call.TheVariants as calling
 use Rattle.ioc_events.specs.declared.reply.Reply.TheVariants.{Plain}
-use Rattle.ioc_history.specs.declared.entry.Note.{Note}
-use Rattle.ioc_history.specs.declared.cell.View.{View}
-use Rattle.ioc_history.specs.Key.{Has as Has_key}
-use Rattle.ioc_history.specs.Line.{holder}
-use Rattle.ioc_history.specs.Legal.{notifications_key}
+use Rattle.ioc_journal.specs.declared.entry.Note.{Note}
+use Rattle.ioc_journal.specs.declared.cell.View.{View}
+use Rattle.ioc_journal.specs.Key.{Has as Has_key}
+use Rattle.ioc_journal.specs.Line.{holder}
+use Rattle.ioc_journal.specs.Legal.{notifications_key}
 use Rattle.ioc_journaled_set.specs.Sent.{MayCountNothing}
 use Rattle.ioc_journaled_set.proofs.Sending.{sends_none, counts_none}
-use Rattle.ioc_history.specs.Covering.{Cover}
-use Rattle.ioc_history.specs.Account.{MayFollow, HasCalled, Added, puts_key}
+use Rattle.ioc_journal.specs.Covering.{Cover}
+use Rattle.ioc_journal.specs.Account.{MayFollow, HasCalled, Added, puts_key}
 use Rattle.ioc_set.specs.SetState.{now_of, nothing_held}
 use Rattle.ioc_journaled_set.specs.Passes.{IsDealt}
 use Rattle.ioc_journaled_set.proofs.Following.{may_follow, counts_nothing, puts_owned, covered_then, share_none_then, held_then, nobody_then, none_ended_then, others_then, none_began_then}

@@ -6,8 +6,8 @@ use Rattle.ioc_process.specs.Rules.{IsSettled}
 use Rattle.ioc_dbfile.specs.OwnerTable.{owner_in}
 use Rattle.ioc_dbfile.specs.Owners.{owner_of}
 use Rattle.ioc_callback.specs.Serving.{no_items}
-use Rattle.ioc_scanner.specs.declared.places.Occasion.TheVariants.{Scanning}
-use Rattle.ioc_scanner.specs.FirstLists.{first_lists}
+use Rattle.ioc_scan_rules.specs.declared.places.Occasion.TheVariants.{Scanning}
+use Rattle.ioc_scan_rules.specs.FirstLists.{first_lists}
 use Rattle.ioc_sim.specs.Scanner.{Scanner}
 use Rattle.ioc_sim.specs.Machine.{loaded_machine}
 use Rattle.ioc_sim.proofs.Closing.{was_ok}

@@ -1,5 +1,0 @@
-use Rattle.ioc_history.proofs.Lasting.{lasts}
-use Rattle.ioc_history.proofs.legal_laws.holding_lasts.Goals as goal
-
-pub returns : goal.returns
-returns g c = lasts g.K.RecordKind.rules

@@ -1,5 +1,0 @@
-use Rattle.ioc_history.proofs.Replaying.{replays}
-use Rattle.ioc_history.proofs.legal_laws.legal_lists_replay.Goals as goal
-
-pub returns : goal.returns
-returns g c = replays g.K.RecordKind.rules c.events_have_laws.ensures

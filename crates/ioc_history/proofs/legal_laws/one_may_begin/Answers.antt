@@ -1,5 +1,0 @@
-use Rattle.ioc_history.proofs.Begun.{one-may-begin}
-use Rattle.ioc_history.proofs.legal_laws.one_may_begin.Goals as goal
-
-pub returns : goal.returns
-returns g c = one-may-begin g.K.RecordKind.rules g.met.K.RecordKind.lawful c.events_have_laws.ensures

@@ -1,5 +1,0 @@
-use Rattle.ioc_history.proofs.Moves.{turns_learns}
-use Rattle.ioc_history.proofs.pass.learn.Goals as goal
-
-pub step_with-requires-clause-rule : goal.step_with-requires-clause-rule
-step_with-requires-clause-rule g c = λ by. turns_learns by _ c.requires.pass.0

@@ -1,4 +1,0 @@
-use Rattle.ioc_history.proofs.shared_journal.SharedJournal.append.Given as goal
-
-abbrev pub ghosts-append_as : goal.ghosts-append_as
-ghosts-append_as g a = record { entry = a.entry }

@@ -1,4 +1,0 @@
-use Rattle.ioc_history.proofs.shared_journal.SharedJournal.append_two.Goals as goal
-
-pub append_two_as-requires-clause-may : goal.append_two_as-requires-clause-may
-append_two_as-requires-clause-may g c = record { follows = c.requires.follows; begins = c.requires.begins; sends = c.requires.sent; counts = c.requires.counts; backed = c.requires.backed }

@@ -1,0 +1,56 @@
+-- The state of an audit.
+use Rattle.std.specs.Prelude.{◌≡◌, ℕ, List, [], ◌∷◌, ◌++◌, length, Option, Some, None}
+use Rattle.std.specs.Bool.{Decides}
+use Rattle.rec_types.specs.Record.{Record, record_rules}
+use Rattle.ioc_journal_file.specs.declared.line.Line.{Line}
+use Rattle.ioc_journal_file.specs.declared.line.Mark.{Mark}
+use Rattle.ioc_store.specs.World.{World}
+use Rattle.ioc_journal_audit.specs.declared.auditor.Auditor.{Auditor}
+use Rattle.ioc_journal_audit.specs.declared.difference.Difference.{Difference}
+use Rattle.ioc_journal_audit.specs.declared.redo.Redone.{Redone}
+use Rattle.ioc_journal_audit.specs.Legal.{IsLegal, Agrees, entry_of, redone}
+use Rattle.ioc_journal_audit.specs.Numbering.{made_by}
+use Rattle.ioc_journal_audit.specs.Numbers.{count_to, count_in}
+use Rattle.ioc_journal_audit.specs.PlayedMap.{world_of}
+
+-- Holds if these entries agree, and have led from the first database to the auditor's.
+pub record HasAudited (first : World Record) (lines : List Line) (a : Auditor) : Type 0 where
+  pub legal : IsLegal record_rules first lines (world_of a.map)
+  pub place : count_to a.place ≡ length lines
+  pub desks : (desk : ℕ) → count_in a.desks desk ≡ made_by desk lines
+
+-- The call of an entry was made again, with its answers.
+pub record MakesAgain (before : Auditor) (line : Line) (after : Auditor) (made : Redone) : Type 0 where
+  pub world : world_of after.map ≡ (redone record_rules (world_of before.map) (entry_of line)).world
+  pub call : made.call ≡ (redone record_rules (world_of before.map) (entry_of line)).call
+  pub agrees : Decides made.agrees ((redone record_rules (world_of before.map) (entry_of line)).call ≡ line.call)
+  pub playing : after.map.playing ≡ line.answers.items
+  pub place : after.place ≡ before.place
+  pub desks : after.desks ≡ before.desks
+
+-- Holds if the entry agrees with the rules, which lead to the database afterwards.
+pub record Follows (before : Auditor) (line : Line) (after : Auditor) : Type 0 where
+  pub agrees : Agrees record_rules (world_of before.map) (entry_of line)
+  pub world : world_of after.map ≡ (redone record_rules (world_of before.map) (entry_of line)).world
+  pub place : after.place ≡ before.place
+  pub desks : after.desks ≡ before.desks
+
+-- An entry agrees exactly if no difference is told.
+abbrev pub Compares : Auditor → Line → Auditor → Option Difference → Type 0
+Compares before line after None = Follows before line after
+Compares before line after (Some difference) = Agrees record_rules (world_of before.map) (entry_of line) → ⊥
+
+-- The numbers of an entry are the next ones exactly if no difference is told.
+abbrev pub HasNextNumbers : Auditor → Mark → Type 0
+HasNextNumbers a mark = (mark.place ≡ count_to a.place) × (mark.call ≡ count_in a.desks mark.desk)
+
+abbrev pub IsNext : Auditor → Mark → Option Difference → Type 0
+IsNext a mark None = HasNextNumbers a mark
+IsNext a mark (Some difference) = HasNextNumbers a mark → ⊥
+
+-- If no difference is told, the entry agrees after those that do. If one is told, no legal run has
+-- the entry after these.
+abbrev pub ChecksNext : Auditor → Line → Auditor → Option Difference → Type 0
+ChecksNext before line after None = (first : World Record) (lines : List Line) → HasAudited first lines before → HasAudited first (lines ++ line ∷ []) after
+ChecksNext before line after (Some difference) =
+    (first last : World Record) (lines more : List Line) → HasAudited first lines before → IsLegal record_rules first (lines ++ line ∷ more) last → ⊥

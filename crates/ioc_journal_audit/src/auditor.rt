@@ -1,0 +1,136 @@
+//! The entries of a journal, made again one after another and compared.
+ghost use Rattle.std.specs.Prelude.{◌≡◌, ◌≤◌, []};
+ghost use Rattle.std.specs.FinMap.{len};
+ghost use Rattle.std.specs.Vec.{vec_capacity};
+ghost use Rattle.rec_types.specs.Record.{record_rules};
+ghost use Rattle.ioc_process.specs.Rules.{IsSettled};
+ghost use Rattle.ioc_journal_audit.specs.PlayedMap.{world_of};
+
+use crate::counts::{DeskCounts, is_next, next_after};
+use crate::difference::Difference;
+use crate::laws::calls_leave_sound;
+use crate::played_map::PlayedMap;
+use crate::redo::{Redone, redo};
+use ioc_events::call_rules::rules_are_calls;
+use ioc_events::event_rules::replays_lead_to_one;
+use ioc_journal_file::{Line, Mark};
+use ioc_store::{EventStore, Frame};
+use rec_types::Record;
+use std::alloc::{AllocError, Global};
+
+/// A database on which the entries of a journal are made again, one after another.
+#[derive(Drop)]
+pub struct Auditor {
+    map: PlayedMap<Record>,
+    // Open frames of the current event, with room for all records.
+    frames: Vec<Frame>,
+    // The place of the last entry, if there was one.
+    place: Option<u64>,
+    desks: DeskCounts,
+    alloc: Global,
+    ghost settled: { IsSettled record_rules (world_of map) },
+    ghost empty: { frames.items ≡ [] },
+    ghost room: { len (world_of map).records ≤ vec_capacity frames },
+}
+
+impl Auditor {
+    ghost use Rattle.std.specs.Prelude.{IfOk};
+    ghost use Rattle.ioc_dbfile.specs.FirstWorld.{first_world};
+    ghost use Rattle.ioc_journal_audit.specs.Audit.{HasAudited, MakesAgain, Compares, IsNext, ChecksNext};
+
+    /// Creates an auditor of these records, before any entry.
+    ///
+    /// # Errors
+    ///
+    /// [`AllocError`] if allocation fails.
+    pub fn new(alloc: Global, records: Vec<Record>) -> Result<Self, AllocError>
+        requires { IsSettled record_rules (first_world records.items) }
+        ensures { IfOk result (λ a. HasAudited (first_world records.items) [] a) }
+    {
+        let event = EventStore::new(alloc)?;
+        let map = PlayedMap::new(alloc, records, event);
+        let frames = map.frames(alloc)?;
+        Ok(Auditor {
+            map,
+            frames,
+            place: None,
+            desks: DeskCounts::new(alloc),
+            alloc,
+        })
+    }
+
+    /// Returns the records.
+    pub fn map(&self) -> &PlayedMap<Record>
+        ensures { result.now ≡ self.now.map }
+    {
+        &self.map
+    }
+
+    // Makes the call of an entry again, with its answers.
+    fn make_again(&mut self, line: Line) -> Result<Redone, AllocError>
+        ensures { IfOk result (λ made. MakesAgain self.old line self.new made) }
+    {
+        calls_leave_sound();
+        self.map.begin_at(line.mark.moment, line.answers);
+        redo(self.alloc, &mut self.map, &mut self.frames, &line.call)
+    }
+
+    // Makes the call of an entry again, and returns how its reply or its answers differ, if they do.
+    fn compare(&mut self, line: Line) -> Result<Option<Difference>, AllocError>
+        ensures { IfOk result (Compares self.old line self.new) }
+    {
+        let mark = line.mark;
+        let made = self.make_again(line)?;
+        let is_all_played = self.map.is_all_played();
+        if made.agrees && is_all_played {
+            return Ok(None);
+        }
+        let entry = Line {
+            mark,
+            call: made.call,
+            answers: self.map.played(self.alloc)?,
+        };
+        if made.agrees {
+            return Ok(Some(Difference::Answers(entry)));
+        }
+        Ok(Some(Difference::Reply(entry)))
+    }
+
+    // Returns how the numbers of an entry differ from those of the next one, if they do.
+    fn misnumbered(&self, mark: &Mark) -> Option<Difference>
+        ensures { IsNext self.now mark.now result }
+    {
+        if !is_next(mark.place, self.place) {
+            return Some(Difference::Place(next_after(self.place)));
+        }
+        let last = self.desks.last(mark.desk);
+        if !is_next(mark.call, last) {
+            return Some(Difference::DeskCall(next_after(last)));
+        }
+        None
+    }
+
+    /// Makes the call of the next entry again, and compares its reply, the number of its answers,
+    /// its place and its call number. Returns how the entry differs, if it does; then the auditor
+    /// is of no more use.
+    ///
+    /// # Errors
+    ///
+    /// [`AllocError`] if allocation fails.
+    pub fn check(&mut self, line: Line) -> Result<Option<Difference>, AllocError>
+        ensures { IfOk result (ChecksNext self.old line self.new) }
+    {
+        rules_are_calls::<Record>();
+        replays_lead_to_one::<Record>();
+        let mark = line.mark;
+        if let Some(difference) = self.misnumbered(&mark) {
+            return Ok(Some(difference));
+        }
+        if let Some(difference) = self.compare(line)? {
+            return Ok(Some(difference));
+        }
+        self.desks.count(mark.desk, mark.call)?;
+        self.place = Some(mark.place);
+        Ok(None)
+    }
+}

@@ -1,0 +1,17 @@
+use Rattle.std.proofs.lemmas.Result.{IfOk-weaker}
+use Rattle.ioc_command_line.specs.CommandLine.{two_files_app}
+use Rattle.ioc_session.specs.Arguments.{words_of}
+use Rattle.ioc_session.proofs.Asking.{more}
+use Rattle.ioc_session.proofs.arguments.command.Goals as goal
+
+pub returns : goal.returns
+unfolding words_of two_files_app
+returns c =
+    let one = more _ _ _ _ _ (c.in_ok-arg.ensures.shape c.file_argument.ensures.local) c.command.ensures c.file_argument.ensures.rule in
+    let two = more _ _ _ _ _ (c.in_ok-arg-2.ensures.shape c.file_argument-2.ensures.local) one c.file_argument-2.ensures.rule in
+    let three = more _ _ _ _ _ (c.in_ok-arg-3.ensures.shape c.definitions_argument.ensures.local) two c.definitions_argument.ensures.rule in
+    let four = more _ _ _ _ _ (c.in_ok-arg-4.ensures.shape c.macros_option.ensures.local) three c.macros_option.ensures.rule in
+    let five = more _ _ _ _ _ (c.in_ok-arg-5.ensures.shape c.flag.ensures.local) four c.flag.ensures.rule in
+    let six = more _ _ _ _ _ (c.in_ok-arg-6.ensures.shape c.flag-2.ensures.local) five c.flag-2.ensures.rule in
+    let seven = more _ _ _ _ _ (c.in_ok-arg-7.ensures.shape c.flag-3.ensures.local) six c.flag-3.ensures.rule in
+    IfOk-weaker c.arg-8.result _ _ (λ _ adds. more _ _ _ _ _ (adds.shape c.flag-4.ensures.local) seven c.flag-4.ensures.rule) c.arg-8.ensures
