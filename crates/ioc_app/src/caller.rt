@@ -1,12 +1,12 @@
 //! The calls of a console.
 use crate::fault::RunFault;
 use crate::task::tick;
-use ioc_console::choice_of;
 use ioc_engine::{
     Channel, Clock, Desk, Device, Engine, EngineName, FieldText, Input, IocError, NotifyId, Reply,
 };
 use ioc_fields::{FieldNo, name_of};
 use ioc_scan::Period;
+use ioc_scan::period::choice_of;
 use ioc_values::ByteBuffer;
 use std::alloc::{AllocError, Global};
 use std::sync::Wait;

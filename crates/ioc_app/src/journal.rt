@@ -1,8 +1,8 @@
 //! The journal's file.
 use crate::fault::RunFault;
-use ioc_app_rules::{add_entries, add_entry};
 use ioc_command_line::Reason;
 use ioc_engine::{Desk, Device, Engine, EngineName, Excerpt, JournalEntry, Report};
+use ioc_journal_file::{add_entries, add_entry};
 use std::alloc::Global;
 use std::io::Write;
 use std::sync::Wait;

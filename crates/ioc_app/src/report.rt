@@ -1,8 +1,8 @@
 //! What is written at the end of a run.
 use crate::fault::RunFault;
 use crate::journal::JournalWriter;
+use crate::record_line::add_line;
 use crate::streams::Streams;
-use ioc_app_rules::add_line;
 use ioc_engine::{Device, EngineName, Report, StoppedRecord};
 use ioc_main::tally_line;
 use std::alloc::{AllocError, Global};

@@ -1,8 +1,8 @@
 //! What the first thread of a run does.
 use crate::fault::RunFault;
 use crate::streams::Streams;
-use ioc_app_rules::periods_of;
 use ioc_engine::{Clock, Desk, Device, Engine, EngineName, IocError};
+use ioc_scan_rules::periods_of;
 use std::alloc::Global;
 use std::io::Write;
 use std::sync::Wait;

@@ -8,3 +8,4 @@ pub mod Calls
 pub mod Fits
 pub mod Lines
 pub mod Breaks
+pub mod Entries

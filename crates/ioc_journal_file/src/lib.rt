@@ -3,6 +3,7 @@
 #![tactic(auto)]
 
 mod calls;
+mod entries;
 mod kinds;
 mod line;
 mod line_error;
@@ -14,6 +15,7 @@ mod texts;
 mod values;
 mod words;
 
+pub use entries::{add_entries, add_entry};
 pub use line::{Line, Mark, parse, print, print_entry};
 pub use line_error::LineError;
 

@@ -1,5 +1,6 @@
 //! The scan periods.
-ghost use Rattle.std.specs.Prelude.{◌≡◌};
+ghost use Rattle.std.specs.Prelude.{◌≡◌, Some};
+ghost use Rattle.std.specs.Option.{IfSome};
 ghost use Rattle.ioc_scan.specs.Places.{period_of};
 
 use ioc_menus::Scan;
@@ -26,4 +27,20 @@ pub fn period_of(scan: Scan) -> Option<Period>
         Scan::TenthSecond => 1,
     };
     Some(Period { ticks })
+}
+
+/// Returns the choice of SCAN with this period, if there is one.
+pub fn choice_of(period: Period) -> Option<Scan>
+    ensures { IfSome result (λ choice. period_of choice ≡ Some period) }
+{
+    match period.ticks {
+        1 => Some(Scan::TenthSecond),
+        2 => Some(Scan::FifthSecond),
+        5 => Some(Scan::HalfSecond),
+        10 => Some(Scan::OneSecond),
+        20 => Some(Scan::TwoSeconds),
+        50 => Some(Scan::FiveSeconds),
+        100 => Some(Scan::TenSeconds),
+        _ => None,
+    }
 }

@@ -1,3 +1,4 @@
 pub mod Places
 pub mod FirstLists
 pub mod Asked
+pub mod Ticks

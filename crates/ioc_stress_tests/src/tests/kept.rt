@@ -1,6 +1,6 @@
 //! The journal of an engine as the lines of its entries.
-use ioc_app_rules::{add_entries, add_entry};
 use ioc_engine::{Clock, Desk, Device, Engine, EngineName, IocError, Report};
+use ioc_journal_file::{add_entries, add_entry};
 use std::alloc::Global;
 use std::sync::Wait;
 

@@ -1,0 +1,4 @@
+pub mod Arguments
+pub mod Devices
+pub mod Moments
+pub mod Lines

@@ -1,6 +1,0 @@
-pub mod Arguments
-pub mod Devices
-pub mod JournalLines
-pub mod Lines
-pub mod Moments
-pub mod Ticks
