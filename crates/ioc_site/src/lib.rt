@@ -4,10 +4,8 @@
 
 mod finding;
 mod place;
-mod spelling;
 mod statement;
 
 pub use finding::{Finding, Severity};
 pub use place::{Place, Word};
-pub use spelling::nearest;
 pub use statement::{Entry, EntryKind, Reading, RecordText, Statement};

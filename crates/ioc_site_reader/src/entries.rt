@@ -1,16 +1,20 @@
 //! The entries of records.
 use crate::words::Words;
-use ioc_site::{Entry, EntryKind, Place, Word, nearest};
+use ioc_site::{Entry, EntryKind, Place, Word};
 use ioc_site_lines::{Keyword, Kind, Token, keyword_of};
+use ioc_spelling::nearest;
 use std::alloc::{AllocError, Global};
 
 /// The words that begin entries of a record.
 const ENTRIES: [&str; 4] = ["field", "info", "alias", "include"];
 
-/// Returns the word that begins an entry of a record and is near to this one.
-fn near_entry(text: &[u8]) -> Option<&'static str> {
+/// Returns the word that begins an entry of a record and may have been meant by this token.
+fn near_entry(words: &Words, token: &Token) -> Result<Option<&'static str>, AllocError> {
+    if token.kind != Kind::Word {
+        return Ok(None);
+    }
     let known: &'static [&'static str] = &ENTRIES;
-    nearest(text, known)
+    nearest(words.stream.alloc, token.text.as_slice(), known)
 }
 
 /// What is in the body of a record.
@@ -87,9 +91,7 @@ fn entry_keyword(words: &mut Words, token: &Token) -> Result<Option<Keyword>, Al
     {
         return Ok(Some(found));
     }
-    if token.kind == Kind::Word
-        && let Some(name) = near_entry(text)
-    {
+    if let Some(name) = near_entry(words, token)? {
         words.report_misspelt(token, "entry of a record", name)?;
         let is_followed = token.next == Some(b'(');
         return Ok(if is_followed {

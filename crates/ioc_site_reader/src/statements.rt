@@ -1,8 +1,9 @@
 //! The statements of database files.
 use crate::words::Words;
-use ioc_site::{Statement, Word, nearest};
+use ioc_site::{Statement, Word};
 use ioc_site_lines::{Keyword, Kind, Token, keyword_of};
-use std::alloc::AllocError;
+use ioc_spelling::nearest;
+use std::alloc::{AllocError, Global};
 
 /// The words that begin statements.
 const STATEMENTS: [&str; 15] = [
@@ -23,17 +24,17 @@ const STATEMENTS: [&str; 15] = [
     "link",
 ];
 
-/// Returns the word that begins a statement and is near to this one.
-fn near_statement(text: &[u8]) -> Option<&'static str> {
+/// Returns the word that begins a statement and may have been meant by this one.
+fn near_statement(alloc: Global, text: &[u8]) -> Result<Option<&'static str>, AllocError> {
     let known: &'static [&'static str] = &STATEMENTS;
-    nearest(text, known)
+    nearest(alloc, text, known)
 }
 
 /// Returns what a word begins that is no statement: what is near to it. That it is none is
 /// reported.
 fn near_keyword(words: &mut Words, token: &Token) -> Result<Option<Keyword>, AllocError> {
     let text = token.text.as_slice();
-    let Some(name) = near_statement(text) else {
+    let Some(name) = near_statement(words.stream.alloc, text)? else {
         let remedy = b"' is no statement; begin one with record, alias or include";
         words.report(token.place, &[b"'", text, remedy])?;
         return Ok(None);

@@ -1,7 +1,8 @@
 //! Substitution files: templates, and the macros with which each is read.
 use crate::words::Words;
-use ioc_site::{Place, Word, nearest};
+use ioc_site::{Place, Word};
 use ioc_site_lines::{Definition, Kind, Token, split_bare};
+use ioc_spelling::nearest;
 use std::alloc::{AllocError, Global};
 
 /// A template, and the definitions of each of its readings.
@@ -22,10 +23,10 @@ struct Items {
 /// The words that begin statements.
 const HEADINGS: [&str; 2] = ["file", "global"];
 
-/// Returns the word that begins a statement and is near to this one.
-fn near_heading(text: &[u8]) -> Option<&'static str> {
+/// Returns the word that begins a statement and may have been meant by this one.
+fn near_heading(alloc: Global, text: &[u8]) -> Result<Option<&'static str>, AllocError> {
     let known: &'static [&'static str] = &HEADINGS;
-    nearest(text, known)
+    nearest(alloc, text, known)
 }
 
 /// Returns whether a statement begins with this word.
@@ -74,7 +75,7 @@ fn begins_file(words: &mut Words, token: &Token) -> Result<Option<bool>, AllocEr
         words.report(place, &[text])?;
         return Ok(None);
     }
-    match near_heading(text) {
+    match near_heading(words.stream.alloc, text)? {
         Some(name) => {
             words.report_misspelt(token, "statement", name)?;
             Ok(Some(name == "file"))

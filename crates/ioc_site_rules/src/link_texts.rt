@@ -6,11 +6,12 @@ use crate::values::{FieldOf, Limits};
 use crate::wording::{Meant, Shown};
 use ioc_fields::{CommonField, FieldNo, LinkRole, OwnField, RecordType};
 use ioc_links::{Link, LinkKind, MAX_LINK_BYTES, parse};
-use ioc_site::{Word, nearest};
+use ioc_site::Word;
+use ioc_spelling::nearest;
 use ioc_values::number::is_number;
 use ioc_values::trim::trim;
 use ioc_values::{Kind, MAX_FIELD_NAME_BYTES, Range, of_number};
-use std::alloc::AllocError;
+use std::alloc::{AllocError, Global};
 use std::fmt;
 
 /// Why a text is no link.
@@ -70,9 +71,8 @@ impl fmt::Display for LinkFault<'_> {
             }
             LinkFault::Word(word) => write!(
                 f,
-                "has the word '{}', which is no word of links{}",
-                Shown(*word),
-                Meant(nearest(*word, &LINK_WORDS))
+                "has the word '{}', which is no word of links",
+                Shown(*word)
             ),
         }
     }
@@ -165,6 +165,15 @@ pub fn link_fault(kind: LinkKind, text: &[u8]) -> Option<LinkFault<'_>> {
     }
 }
 
+// Returns the word of a link that may have been meant, if the fault is an unknown one.
+fn meant_by(alloc: Global, fault: &LinkFault<'_>) -> Result<Option<&'static str>, AllocError> {
+    let known: &'static [&'static str] = &LINK_WORDS;
+    match fault {
+        LinkFault::Word(word) => nearest(alloc, word, known),
+        _ => Ok(None),
+    }
+}
+
 /// Returns the range of a constant in the link field, or `None` if any constant is allowed.
 pub fn constant_range(record_type: RecordType, field: FieldNo) -> Option<Range> {
     match (record_type, field) {
@@ -214,7 +223,10 @@ pub fn accepts_link(
             )?
         }
         Err(_) => match link_fault(role.link_kind(), value) {
-            Some(fault) => format!(in report.alloc; "{owner}: '{shown}' {fault}")?,
+            Some(fault) => {
+                let meant = Meant(meant_by(report.alloc, &fault)?);
+                format!(in report.alloc; "{owner}: '{shown}' {fault}{meant}")?
+            }
             None => format!(in report.alloc; "{owner}: '{shown}' is no link")?,
         },
     };

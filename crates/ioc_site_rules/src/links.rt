@@ -8,7 +8,8 @@ use crate::wording::{Meant, Shown};
 use indexmap::IndexMap;
 use ioc_fields::{CommonField, FieldKind, FieldNo, LinkRole, RecordType, field, kind_of};
 use ioc_links::{Flags, Link, MAX_DEVICE_BYTES, Target, parse};
-use ioc_site::{Word, nearest};
+use ioc_site::Word;
+use ioc_spelling::nearest;
 use ioc_values::Short;
 use std::alloc::AllocError;
 use std::str;
@@ -98,7 +99,7 @@ impl<'s, 'a> Follower<'s, 'a> {
         let mut meant = Meant(None);
         if self.guesses < MOST_GUESSES {
             self.guesses = self.guesses.saturating_add(1);
-            meant = Meant(nearest(name, self.names.as_slice()));
+            meant = Meant(nearest(report.alloc, name, self.names.as_slice())?);
         }
         let (owner, shown) = (link.owner, Shown(name));
         let text = format!(in report.alloc;
@@ -259,7 +260,7 @@ fn report_no_field(
 ) -> Result<(), AllocError> {
     let name = target.field.as_slice();
     let names = settable_names(report.alloc, record_type)?;
-    let meant = Meant(nearest(name, names.as_slice()));
+    let meant = Meant(nearest(report.alloc, name, names.as_slice())?);
     let (owner, shown) = (link.owner, Shown(name));
     let (holder, kind) = (Shown(record.name.text.as_slice()), record_type.name());
     let text = format!(in report.alloc;

@@ -7,7 +7,8 @@ use crate::wording::{Meant, Shown};
 use ioc_fields::{CommonField, FieldNo, OwnField, RecordType};
 use ioc_links::{Link, LinkKind, parse};
 use ioc_menus::{Menu, Omsl, Pini, Scan, choices};
-use ioc_site::{Word, nearest};
+use ioc_site::Word;
+use ioc_spelling::nearest;
 use ioc_values::{Kind, Value, convert_text};
 use std::alloc::AllocError;
 
@@ -88,7 +89,7 @@ fn check_device_type(
     let text = if is_left_out_device_type(name) || name == b"Raw Soft Channel".as_slice() {
         format!(in report.alloc; "{owner} is '{shown}', which has no effect here")?
     } else {
-        let meant = Meant(nearest(name, &DEVICE_TYPES));
+        let meant = Meant(nearest(report.alloc, name, &DEVICE_TYPES)?);
         format!(in report.alloc; "{owner} is '{shown}', which is unknown{meant}")?
     };
     report.warning(word.place, text)

@@ -6,7 +6,8 @@ use crate::values::accepts;
 use crate::wording::{Meant, Shown};
 use ioc_fields::field_list::fields;
 use ioc_fields::{FieldNo, RecordType, Row, field, name_of, row_of};
-use ioc_site::{Entry, EntryKind, Word, nearest};
+use ioc_site::{Entry, EntryKind, Word};
+use ioc_spelling::nearest;
 use std::alloc::{AllocError, Global};
 
 /// Returns the type that the word names, and reports a word that names none.
@@ -23,7 +24,7 @@ pub fn checked_type(word: &Word, report: &mut Report) -> Result<Option<RecordTyp
     let text = if is_left_out_type(name) {
         format!(in report.alloc; "record type '{shown}' is known to EPICS and left out here")?
     } else {
-        let meant = Meant(nearest(name, &TYPES));
+        let meant = Meant(nearest(report.alloc, name, &TYPES)?);
         format!(in report.alloc; "record type '{shown}' is unknown{meant}")?
     };
     report.error(word.place, text)?;
@@ -64,7 +65,7 @@ fn report_unknown(
         )?
     } else {
         let names = settable_names(report.alloc, record_type)?;
-        let meant = Meant(nearest(name, names.as_slice()));
+        let meant = Meant(nearest(report.alloc, name, names.as_slice())?);
         format!(in report.alloc; "record {owner} ({kind}) has no field {shown}{meant}")?
     };
     report.error(word.place, text)

@@ -6,7 +6,8 @@ use crate::site::SiteRecord;
 use crate::wording::{Listed, Meant, Shown};
 use ioc_fields::{CommonField, FieldKind, FieldNo, FieldSlot, OwnField, RecordType, name_of};
 use ioc_menus::{Menu, choices};
-use ioc_site::{Word, nearest};
+use ioc_site::Word;
+use ioc_spelling::nearest;
 use ioc_values::number::is_number;
 use ioc_values::trim::trim;
 use ioc_values::{Kind, MAX_TEXT_BYTES, Range, Text, convert_text};
@@ -89,7 +90,7 @@ fn accepts_choice(
         format!(in report.alloc;
             "{owner} has '{shown}', which is known to EPICS and left out here"
         )?
-    } else if let Some(choice) = nearest(value, texts) {
+    } else if let Some(choice) = nearest(report.alloc, value, texts)? {
         let meant = Meant(Some(choice));
         format!(in report.alloc; "{owner} has no choice '{shown}'{meant}")?
     } else {
