@@ -5,7 +5,7 @@ use ioc_command_line::{Program, Stop, UsageFault, parse};
 use std::alloc::{AllocError, Global};
 
 /// The program.
-pub const PROGRAM: Program = Program {
+pub const PROGRAM: Program<'static> = Program {
     name: "engine-bench",
     version: "0.1.0",
     about: "Starts an engine for each work, and carries it out in as many threads.",

@@ -15,7 +15,7 @@ use ioc_dblex::Macros;
 use std::alloc::{AllocError, Global};
 
 /// The program, as its help shows it.
-pub const PROGRAM: Program = Program {
+pub const PROGRAM: Program<'static> = Program {
     name: "ioc",
     version: "0.1.0",
     about: "Loads the database text DB, in which the macros NAME stand for VALUE, scans its records \

@@ -1,28 +1,30 @@
 //! The console, which answers lines.
 use crate::caller::{Caller, LineFault};
 use crate::fault::RunFault;
+use crate::listing::{RecordList, add_count, add_field, add_reply, add_shown};
 use crate::streams::Streams;
 use crate::task::Task;
 use ioc_command_line::Reason;
-use ioc_console::{
-    HELP, LineBuffer, RecordList, Request, add_count, add_field, add_reply, add_shown, next_line,
-};
+use ioc_commands::{Command, Dialect, Help, Request};
 use ioc_engine::{Clock, Database, Desk, Device, Engine, EngineName, IocError, Reply};
 use ioc_fields::field_list::fields;
 use ioc_fields::row_of;
-use ioc_main::{Command, ended_line};
+use ioc_main::{Answering, Then, answer_each, ended_line};
 use std::alloc::{AllocError, Global};
 use std::io::{BufRead, Write};
 use std::sync::Wait;
-
-// What a console prints before it reads a line, if it has a prompt.
-const PROMPT: &[u8] = b"epics> ";
 
 /// A console: answers the lines of an input, one after another, until the input ends or a line ends
 /// it.
 #[derive(Drop)]
 pub struct Console<I: BufRead + Drop, E: Write + Drop> {
     input: I,
+    answerer: Answerer<E>,
+}
+
+// Answers the lines of a console.
+#[derive(Drop)]
+struct Answerer<E: Write + Drop> {
     // Where the number of the line of each refusal is written.
     errors: E,
     // If there is a prompt, numbers of lines aren't written.
@@ -33,11 +35,24 @@ pub struct Console<I: BufRead + Drop, E: Write + Drop> {
     tick: u64,
 }
 
-// What is to be done after a line.
-#[derive(Clone, Copy)]
-enum Then {
-    More,
-    End,
+// A console at work: its calls, and what it writes.
+#[derive(Drop)]
+struct Talk<
+    'a,
+    'e,
+    E: Write + Drop,
+    B: EngineName<D>,
+    D: Device,
+    C: Clock + Drop,
+    W: Write + Drop,
+    J: Write + Drop,
+    R: Wait,
+> {
+    answerer: &'a mut Answerer<E>,
+    caller: Caller<'e, B, D, C, R>,
+    streams: &'a mut Streams<W, J>,
+    // The reply to a line.
+    said: Vec<u8>,
 }
 
 impl<I: BufRead + Drop, E: Write + Drop> Console<I, E> {
@@ -56,35 +71,18 @@ impl<I: BufRead + Drop, E: Write + Drop> Console<I, E> {
     ) -> Result<Self, AllocError> {
         Ok(Console {
             input,
-            errors,
-            has_prompt,
-            records: RecordList::new(alloc, database)?,
-            line: 0,
-            tick: 0,
+            answerer: Answerer {
+                errors,
+                has_prompt,
+                records: RecordList::new(alloc, database)?,
+                line: 0,
+                tick: 0,
+            },
         })
     }
+}
 
-    // Writes the prompt, if there is one, and reads a line. Returns false at the end of the input.
-    fn read<W: Write + Drop, J: Write + Drop>(
-        &mut self,
-        streams: &mut Streams<W, J>,
-        line: &mut LineBuffer,
-    ) -> Result<bool, RunFault> {
-        if self.has_prompt {
-            streams.write(PROMPT)?;
-        }
-        self.line = self.line.saturating_add(1);
-        match next_line(&mut self.input, line) {
-            Ok(true) => Ok(true),
-            Ok(false) if self.has_prompt => {
-                streams.write(b"\n")?;
-                Ok(false)
-            }
-            Ok(false) => Ok(false),
-            Err(error) => Err(RunFault::Read(Reason::of(&error))),
-        }
-    }
-
+impl<E: Write + Drop> Answerer<E> {
     // Writes the number of the line and what was wrong with it. If it can't be written, nothing
     // else changes.
     fn tell(&mut self, alloc: Global, words: &str) -> Result<(), AllocError> {
@@ -207,7 +205,7 @@ fn count_for<B: EngineName<D>, D: Device, C: Clock + Drop, R: Wait>(
     Ok(Some(count))
 }
 
-impl<I: BufRead + Drop, E: Write + Drop> Console<I, E> {
+impl<E: Write + Drop> Answerer<E> {
     // Does what a line of a script asks for, and appends its reply.
     fn do_script<B: EngineName<D>, D: Device, C: Clock + Drop, R: Wait>(
         &mut self,
@@ -266,8 +264,8 @@ impl<I: BufRead + Drop, E: Write + Drop> Console<I, E> {
         said: &mut Vec<u8>,
         streams: &mut Streams<W, J>,
     ) -> Result<Then, LineFault> {
-        match Request::from_line(line) {
-            Request::Script(command) => self.do_script(caller, &command, said)?,
+        match Request::from_line(Dialect::Console, line) {
+            Request::Command(command) => self.do_script(caller, &command, said)?,
             Request::Tick(count) => add_count(said, self.walk(caller, count, streams)?)?,
             Request::Checkpoint => {
                 Self::checkpoint(caller, streams)?;
@@ -282,7 +280,8 @@ impl<I: BufRead + Drop, E: Write + Drop> Console<I, E> {
                 add_count(said, count)?;
             }
             Request::Help => {
-                said.extend_from_slice(HELP)?;
+                let help = format!(in caller.alloc; "{}", Help(Dialect::Console))?;
+                said.extend_from_slice(help.as_bytes())?;
                 add_reply(said, &Reply::Plain)?;
             }
             Request::Exit => return Ok(Then::End),
@@ -332,26 +331,58 @@ impl<I: BufRead + Drop, E: Write + Drop> Task for Console<I, E> {
         desk: &mut Desk<B, D>,
         streams: &mut Streams<W, J>,
     ) -> Result<(), RunFault> {
-        let mut line = LineBuffer::new();
-        let mut said = Vec::new(alloc);
-        let mut caller = Caller {
+        let caller = Caller {
             rt,
             alloc,
             engine,
             desk,
         };
-        for _ in 0..u64::MAX {
-            if !self.read(streams, &mut line)? {
-                break;
-            }
-            let then = self.answer(&mut caller, line.as_slice(), &mut said, streams)?;
-            streams.write(said.as_slice())?;
-            said.clear();
-            if let Then::End = then {
-                break;
-            }
-            streams.write_new(caller.rt, caller.engine, caller.desk)?;
+        let Console { input, answerer } = self;
+        let has_prompt = answerer.has_prompt;
+        let mut talk = Talk {
+            answerer,
+            caller,
+            streams,
+            said: Vec::new(alloc),
+        };
+        answer_each(input, has_prompt, &mut talk)
+    }
+}
+
+impl<
+    E: Write + Drop,
+    B: EngineName<D>,
+    D: Device,
+    C: Clock + Drop,
+    W: Write + Drop,
+    J: Write + Drop,
+    R: Wait,
+> Answering for Talk<'_, '_, E, B, D, C, W, J, R> {
+    type Fault = RunFault;
+
+    fn answer(&mut self, number: u64, line: &[u8]) -> Result<Then, RunFault> {
+        self.answerer.line = number;
+        self.said.clear();
+        let (caller, streams) = (&mut self.caller, &mut *self.streams);
+        let then = self.answerer.answer(caller, line, &mut self.said, streams)?;
+        self.streams.write(self.said.as_slice())?;
+        if let Then::More = then {
+            let Caller {
+                rt,
+                engine,
+                desk,
+                ..
+            } = &mut self.caller;
+            self.streams.write_new(*rt, *engine, desk)?;
         }
-        Ok(())
+        Ok(then)
+    }
+
+    fn show(&mut self, text: &[u8]) -> Result<(), RunFault> {
+        self.streams.write(text)
+    }
+
+    fn unreadable(&self, reason: Reason) -> RunFault {
+        RunFault::Read(reason)
     }
 }

@@ -7,7 +7,7 @@ use ioc_dblex::Macros;
 use std::alloc::{AllocError, Global};
 
 /// The program, with its exit statuses behind its arguments.
-pub const PROGRAM: Program = Program {
+pub const PROGRAM: Program<'static> = Program {
     name: "ioc-audit",
     version: "0.1.0",
     about: "Loads the database text DB, in which the macros NAME stand for VALUE, \

@@ -6,7 +6,7 @@ use ioc_site_reader::{Definition, parse_definitions};
 use std::alloc::{AllocError, Global};
 
 /// The program, with its exit statuses behind its arguments.
-pub const PROGRAM: Program = Program {
+pub const PROGRAM: Program<'static> = Program {
     name: "ioc-check",
     version: "0.1.0",
     about: "Reads the database files DB, in which the macros NAME stand for VALUE, \

@@ -15,19 +15,19 @@ use std::io;
 
 /// A program, as its help shows it.
 #[derive(Clone, Copy)]
-pub struct Program {
+pub struct Program<'n> {
     pub name: &'static str,
     pub version: &'static str,
     /// What it does.
     pub about: &'static str,
     /// What its help says behind the arguments.
-    pub notes: &'static str,
+    pub notes: &'n str,
 }
 
-impl Program {
+impl<'n> Program<'n> {
     /// Returns the command of the program, without arguments. It has `-h`, `--help`, `-V` and
     /// `--version`.
-    pub fn command<'a>(&self, alloc: Global) -> Command<'a>
+    pub fn command(&self, alloc: Global) -> Command<'n>
         ensures { app_of result ≡ program_app self.now.name.now }
     {
         Command::new(alloc, self.name)

@@ -32,7 +32,7 @@ pub struct TwoFiles<'a> {
 #[tactic(auto, unfolding(crate::specs::CommandLine::two_files_app))]
 fn command<'a>(
     alloc: Global,
-    program: &Program,
+    program: &Program<'a>,
     other: &'a str,
     help: &'a str,
 ) -> Result<Command<'a>, AllocError>
@@ -108,7 +108,7 @@ impl<'a> TwoFiles<'a> {
     #[tactic(auto, using(crate::proofs::Matching::refuses_words, crate::proofs::Matching::memory_refuses))]
     pub fn from_words(
         alloc: Global,
-        program: &Program,
+        program: &Program<'a>,
         other: &'a str,
         help: &'a str,
         words: &'a [String],

@@ -16,7 +16,7 @@ use Rattle.ioc_values.specs.declared.error.LoadError.{LoadError}
 use Rattle.ioc_values.specs.declared.error.LoadError.TheVariants as load
 use Rattle.ioc_dbparse.specs.Statements.{Gives}
 use Rattle.ioc_dbfile.specs.SeenDatabase.{database_of}
-use Rattle.ioc_main.specs.Script.{lines_of}
+use Rattle.ioc_commands.specs.Commands.{lines_of}
 use Rattle.ioc_sim.specs.Machine.{Machine, first_machine}
 use Rattle.ioc_main.specs.Replay.{transcript}
 use Rattle.ioc_main.specs.Written.{WritesFront, WritesPart, StopsScript}

@@ -2,7 +2,7 @@
 use Rattle.std.proofs.Common.{◌≡◌, ℕ, ◌≤◌, List, [], ◌∷◌, ◌++◌, length, take, Some, None, refl, sym, ap, ◌∙◌, append-nil, inl, inr, arith}
 use Rattle.std.proofs.lemmas.Bool.{cases_lt}
 use Rattle.std.proofs.lemmas.List.{length-take, take_all, take-append-le, take-take}
-use Rattle.ioc_main.specs.Script.{lines_of, cut, before, behind}
+use Rattle.ioc_commands.specs.Commands.{lines_of, cut, before, behind}
 use Rattle.ioc_main.specs.Coming.{onto, to_come, CutsLines}
 use Rattle.ioc_main.proofs.Cutting.{behind-lines, none-behind, onto-nil, onto-onto}
 

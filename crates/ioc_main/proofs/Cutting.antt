@@ -4,7 +4,7 @@ use Rattle.std.proofs.lemmas.Bool.{eqb-true}
 use Rattle.std.specs.Prelude.{option_map}
 use Rattle.std.specs.Borrow.{Bor}
 use Rattle.std.specs.List.{onto_first}
-use Rattle.ioc_main.specs.Script.{lines_of, before, behind}
+use Rattle.ioc_commands.specs.Commands.{lines_of, before, behind}
 use Rattle.ioc_main.specs.Coming.{onto}
 
 step_shorter : (c : Bool) (s b : ℕ) (bs after : List ℕ) → cond c (Some bs) (behind s bs) ≡ Some after → (behind s bs ≡ Some after → length after < length bs) → length after < length (b ∷ bs)

@@ -2,7 +2,7 @@
 use Rattle.std.proofs.Common.{◌≡◌, ℕ, ◌<◌, List, [], ◌∷◌, ◌++◌, length, take, ◌≤◌, arith, Option, Some, None, refl, sym, ap, subst, ◌∙◌, append-nil}
 use Rattle.std.specs.Io.KnownBytes.{Appends}
 use Rattle.std.proofs.Math.Seq.{take-append_seam}
-use Rattle.ioc_main.specs.Script.{lines_of, cut, before, behind}
+use Rattle.ioc_commands.specs.Commands.{lines_of, cut, before, behind}
 use Rattle.ioc_main.specs.Coming.{onto, still, Stands, to_come, CutsLines}
 use Rattle.ioc_main.specs.Written.{Writes, WritesPart, WritesFront, StopsLine}
 use Rattle.ioc_main.specs.declared.fault.LineFault.{LineFault}

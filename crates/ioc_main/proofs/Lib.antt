@@ -6,6 +6,5 @@ pub mod Feeding
 pub mod Getting
 pub mod Reading
 pub mod Telling
-pub mod Verbs
 pub mod Words
 pub mod WrittenLemmas

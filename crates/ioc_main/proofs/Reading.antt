@@ -2,7 +2,7 @@
 use Rattle.std.proofs.Common.{◌≡◌, ℕ, List, [], ◌++◌, Option, Some, None, refl, sym, ap, subst, ◌∙◌, append-nil, take}
 use Rattle.std.specs.Prelude.{IfSome}
 use Rattle.std.specs.Io.KnownBytes.{Appends, Consumes, IsAtEnd}
-use Rattle.ioc_main.specs.Script.{lines_of}
+use Rattle.ioc_commands.specs.Commands.{lines_of}
 use Rattle.ioc_main.specs.Written.{Writes, WritesFront, StopsLine}
 use Rattle.ioc_main.specs.declared.fault.LineFault.{LineFault}
 use Rattle.ioc_main.specs.Coming.{still, to_come, ReadsSo}

@@ -1,6 +1,6 @@
 -- What is still to be printed while a script is read.
 use Rattle.std.specs.Prelude.{◌≡◌, ℕ, List, [], ◌∷◌, ◌++◌, ⊤, Option, Some, None}
-use Rattle.ioc_main.specs.Script.{lines_of, cut}
+use Rattle.ioc_commands.specs.Commands.{lines_of, cut}
 use Rattle.ioc_main.specs.Written.{Writes, StopsLine}
 use Rattle.ioc_main.specs.declared.fault.LineFault.{LineFault}
 

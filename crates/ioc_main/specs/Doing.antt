@@ -6,7 +6,7 @@ use Rattle.ioc_values.specs.Words.{refusal_words}
 use Rattle.ioc_sim.specs.SeenMachine.{machine_of}
 use Rattle.ioc_main.specs.declared.replay.Replay.{Replay}
 use Rattle.ioc_main.specs.declared.session.PendingOutput.{PendingOutput}
-use Rattle.ioc_main.specs.Script.{Command}
+use Rattle.ioc_commands.specs.Commands.{Command}
 use Rattle.ioc_main.specs.Coming.{Stands}
 use Rattle.ioc_main.specs.Replay.{Answered, carried_out}
 

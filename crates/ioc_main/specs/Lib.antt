@@ -5,8 +5,6 @@ pub mod Relink
 pub mod Replay
 pub mod ReplayLaws
 pub mod Replies
-pub mod Script
-pub mod Seen
 pub mod Sets
 pub mod Transcript
 pub mod Written

@@ -17,7 +17,7 @@ use Rattle.ioc_record.specs.RecordRules.{RecordRules}
 use Rattle.ioc_store.specs.World.{World, at}
 use Rattle.ioc_events.specs.declared.event.Event.TheVariants.{Process as Process-event, Put as Put-event, Complete as Complete-event}
 use Rattle.ioc_events.specs.Step.{shown}
-use Rattle.ioc_main.specs.Script.{Command, Silent, Bad, Process, Put, Get, At, Next-done, Next-fault, Next-later, Done, Fault, Event, Interrupt, Scan, Link, Tally as Tally-command, command_of, is_silent, Notify, Cancel, Sets}
+use Rattle.ioc_commands.specs.Commands.{Command, Silent, Bad, Process, Put, Get, At, Next-done, Next-fault, Next-later, Done, Fault, Event, Interrupt, Scan, Link, Tally as Tally-command, command_of, is_silent, Notify, Cancel, Sets}
 use Rattle.ioc_main.specs.Replies.{reply_words, text_words, count_words, tally_words}
 use Rattle.ioc_scan.specs.declared.list_name.ListName.TheVariants.{Period as Period-list}
 use Rattle.ioc_main.specs.Sets.{sets_line}

@@ -5,7 +5,7 @@ use Rattle.std.proofs.lemmas.List.{length-take, take_all}
 use Rattle.rec_types.specs.Record.{record_rules}
 use Rattle.ioc_main.specs.declared.replay.Replay.{Replay}
 use Rattle.ioc_sim.specs.SeenMachine.{machine_of}
-use Rattle.ioc_main.specs.Script.{Command, cut, command_of}
+use Rattle.ioc_commands.specs.Commands.{Command, cut, command_of}
 use Rattle.ioc_main.specs.Replay.{transcript, answered}
 
 -- What is printed for these lines.

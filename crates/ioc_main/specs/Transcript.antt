@@ -10,7 +10,7 @@ use Rattle.ioc_dbfile.specs.Finished.{loaded_by}
 use Rattle.ioc_main.specs.declared.fault.RunFault.{RunFault}
 use Rattle.ioc_command_line.specs.declared.ending.Stage.TheVariants.{Loading as while_loading, Line as in_line, Run as in_a_run}
 use Rattle.ioc_main.specs.declared.fault.RunFault.TheVariants.{BadDb, Read, Write, Memory}
-use Rattle.ioc_main.specs.Script.{lines_of}
+use Rattle.ioc_commands.specs.Commands.{lines_of}
 use Rattle.ioc_sim.specs.Machine.{first_machine}
 use Rattle.ioc_main.specs.Replay.{transcript}
 use Rattle.ioc_main.specs.Written.{WritesFront, WritesPart}

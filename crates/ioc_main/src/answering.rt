@@ -1,16 +1,17 @@
 //! Answers the lines of a script.
-ghost use Rattle.std.specs.Prelude.{◌≡◌, ◌≤◌, ◌+◌, ◌++◌, [], codes, length, IfOk};
+ghost use Rattle.std.specs.Prelude.{◌≡◌, ◌≤◌, ◌+◌, ◌++◌, [], codes, false, length, IfOk};
 ghost use Rattle.rec_types.specs.Record.{record_rules};
 ghost use Rattle.ioc_sim.specs.SeenMachine.{machine_of};
 ghost use Rattle.ioc_main.specs.Replay.{attended, ended_told};
-ghost use Rattle.ioc_main.specs.Script.{command_of, is_silent, put_of, before, behind};
-ghost use Rattle.ioc_main.specs.Seen.{seen};
-ghost use Rattle.ioc_main.specs.declared.command.Command.TheVariants.{Sets};
+ghost use Rattle.ioc_commands.specs.Commands.{command_of, is_silent, put_of, before, behind};
+ghost use Rattle.ioc_commands.specs.Seen.{seen};
+ghost use Rattle.ioc_commands.specs.declared.command.Command.TheVariants.{Sets};
 ghost use Rattle.ioc_main.specs.Doing.{effect_on, Adds, Does, DoesAtLength};
 
+use crate::ended_line;
 use crate::replay::Replay;
 use crate::session::{PendingOutput, Replies, Session};
-use crate::{Command, ended_line, split_before, words_of_put};
+use ioc_commands::{Command, split_before, words_of_put};
 use ioc_device::Answer;
 use ioc_values::Finished;
 use std::alloc::AllocError;
@@ -89,7 +90,7 @@ impl Replay {
     #[tactic(auto, unfolding(crate::specs::Replay::carried_out))]
     fn put_words(&mut self, words: &[u8], replies: &mut Replies) -> Result<(), AllocError>
         requires { length replies.old + 256 ≤ 4096 }
-        ensures { Does (effect_on self.old (put_of (before 32 words.now) (behind 32 words.now))) result self.old self.new
+        ensures { Does (effect_on self.old (put_of false (before 32 words.now) (behind 32 words.now))) result self.old self.new
             replies.old replies.new }
     {
         let (word, rest) = split_before(words, b' ');

@@ -1,28 +1,28 @@
-//! The language of scripts: the command of each line, and the lines of replies.
-//!
-//! Runs of a database text and a script of requests, which are answered line by line.
+//! Runs of a database text and a script of requests, which are answered line by line, and the lines
+//! of replies.
 #![tactic(auto)]
 
 mod answering;
-mod command;
 mod counts;
 mod fault;
 mod fields;
 mod lines;
-mod parts;
+mod reading;
 mod replay;
 mod reply_line;
 mod runs;
 mod session;
 mod sets;
+mod users;
 mod writing;
 
-pub use command::{Command, words_of_put};
 pub use counts::{count_line, ended_line, notify_line, tally_line};
 pub use fault::{LineFault, RunFault, ScriptFault, WriteFault, whole_run};
 pub use lines::run_script;
-pub use parts::{cut_at, split_before};
+pub use reading::{LineBuffer, next_line};
 pub use replay::Replay;
 pub use reply_line::{LineReply, say_refusal, say_reply};
 pub use runs::run;
 pub use session::{PendingOutput, Session};
+pub use sets::{add_to_set, begin_set, begin_sets, end_set, end_sets};
+pub use users::{Answering, PROMPT, Then, answer_each};

@@ -1,15 +1,15 @@
 //! Reads the lines of a script from any reader, and answers each as it ends.
 ghost use Rattle.std.specs.Prelude.{◌≡◌, ◌≤◌, ◌+◌, ◌++◌, [], length, OnOk, OnErr, IfSome, IfErr};
 ghost use Rattle.std.specs.Io.KnownBytes.{Appends};
-ghost use Rattle.ioc_main.specs.Script.{lines_of, cut};
+ghost use Rattle.ioc_commands.specs.Commands.{lines_of, cut};
 ghost use Rattle.ioc_main.specs.Coming.{still, to_come, AnswersLine, StopsAtLine, AnswersPiece, StopsInPiece};
 ghost use Rattle.ioc_main.specs.Written.{Writes, WritesPart, StopsLine, StopsScript};
 
-use crate::cut_at;
 use crate::fault::{LineFault, ScriptFault, WriteFault};
 use crate::session::{PendingOutput, Session};
 use crate::writing::write_text;
 use ioc_command_line::Reason;
+use ioc_commands::cut_at;
 use ioc_values::ByteBuffer;
 use std::alloc::Global;
 use std::io::{Read, Write};

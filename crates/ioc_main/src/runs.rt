@@ -1,7 +1,7 @@
 //! A whole run: a database text, and then a script.
 ghost use Rattle.std.specs.Prelude.{◌≡◌, OnOk, IfErr, IfSome};
 ghost use Rattle.std.specs.Io.KnownBytes.{Appends};
-ghost use Rattle.ioc_main.specs.Script.{lines_of};
+ghost use Rattle.ioc_commands.specs.Commands.{lines_of};
 ghost use Rattle.ioc_main.specs.Written.{StopsScript};
 ghost use Rattle.ioc_main.specs.Transcript.{transcript_of, IsDatabase, StopsWith};
 

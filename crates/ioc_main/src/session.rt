@@ -1,7 +1,7 @@
 //! Sessions, which answer the lines of a script.
 ghost use Rattle.std.specs.Prelude.{◌≡◌, ◌↔◌, ◌≤◌, ◌+◌, ◌∷◌, ◌++◌, [], List, ℕ, length};
 ghost use Rattle.std.specs.Prelude.{IsTrue, OnOk, OnErr};
-ghost use Rattle.ioc_main.specs.Script.{cut};
+ghost use Rattle.ioc_commands.specs.Commands.{cut};
 ghost use Rattle.ioc_main.specs.Coming.{still, Stands};
 
 use ioc_values::ByteBuffer;

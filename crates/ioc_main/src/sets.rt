@@ -15,19 +15,69 @@ use ioc_store::{OneMap, Store};
 use rec_types::Record;
 use std::alloc::{AllocError, Global};
 
-// Appends a text and the name of a record.
-fn add_name(
-    line: &mut Vec<u8>,
-    before: &[u8],
-    map: &OneMap<Record, Scripted>,
-    number: usize,
-) -> Result<(), AllocError>
-    requires { number < length map.now.records.items }
-    ensures { OnOk result (line.new.items ≡ line.old.items ++ before.now ++ name_at record_rules (world_of map.now) number) }
+/// Appends the beginning of the line `sets`.
+///
+/// # Errors
+///
+/// [`AllocError`] if allocation fails.
+pub fn begin_sets(line: &mut Vec<u8>) -> Result<(), AllocError>
+    ensures { OnOk result (line.new.items ≡ line.old.items ++ codes "sets") }
 {
-    line.extend_from_slice(before)?;
-    let record = map.record(RecordNo::new(number));
-    line.extend_from_slice(record.common().name.as_slice())
+    line.extend_from_slice(b"sets")
+}
+
+/// Appends the name of the first record of a set.
+///
+/// # Errors
+///
+/// [`AllocError`] if allocation fails; a part may have been appended then.
+pub fn begin_set(line: &mut Vec<u8>, name: &[u8]) -> Result<(), AllocError>
+    ensures { OnOk result (line.new.items ≡ line.old.items ++ codes " {" ++ name.now) }
+{
+    line.extend_from_slice(b" {")?;
+    line.extend_from_slice(name)
+}
+
+/// Appends the name of another record of a set.
+///
+/// # Errors
+///
+/// [`AllocError`] if allocation fails; a part may have been appended then.
+pub fn add_to_set(line: &mut Vec<u8>, name: &[u8]) -> Result<(), AllocError>
+    ensures { OnOk result (line.new.items ≡ line.old.items ++ codes " " ++ name.now) }
+{
+    line.extend_from_slice(b" ")?;
+    line.extend_from_slice(name)
+}
+
+/// Appends the end of a set.
+///
+/// # Errors
+///
+/// [`AllocError`] if allocation fails.
+pub fn end_set(line: &mut Vec<u8>) -> Result<(), AllocError>
+    ensures { OnOk result (line.new.items ≡ line.old.items ++ codes "}") }
+{
+    line.extend_from_slice(b"}")
+}
+
+/// Appends the end of the line `sets`, a line feed.
+///
+/// # Errors
+///
+/// [`AllocError`] if allocation fails.
+pub fn end_sets(line: &mut Vec<u8>) -> Result<(), AllocError>
+    ensures { OnOk result (line.new.items ≡ line.old.items ++ 10 ∷ []) }
+{
+    line.extend_from_slice(b"\n")
+}
+
+// Returns the name of a record.
+fn name_of(map: &OneMap<Record, Scripted>, number: usize) -> &[u8]
+    requires { number < length map.now.records.items }
+    ensures { result.now ≡ name_at record_rules (world_of map.now) number }
+{
+    map.record(RecordNo::new(number)).common().name.as_slice()
 }
 
 // Appends the names of a part, from its first record on. `next` has the record that follows each.
@@ -44,14 +94,13 @@ fn add_part(
     requires follow { AreFollowers numbers.now next.now }
     ensures { OnOk result (line.new.items ≡ line.old.items ++ part_words record_rules (world_of map.now) numbers.now first) }
 {
-    add_name(line, b" {", map, first)?;
+    begin_set(line, name_of(map, first))?;
     let mut number = next[first];
     while number < next.len() {
-        add_name(line, b" ", map, number)?;
+        add_to_set(line, name_of(map, number))?;
         number = next[number];
     }
-    line.push(b'}')?;
-    Ok(())
+    end_set(line)
 }
 
 // Appends the parts, in the order of their first records.
@@ -89,8 +138,7 @@ pub fn say_sets(alloc: Global, machine: &Machine, line: &mut Vec<u8>) -> Result<
 {
     let numbers = machine.parts()?;
     let next = followers(alloc, numbers.as_slice())?;
-    line.extend_from_slice(b"sets")?;
+    begin_sets(line)?;
     add_parts(line, machine.map(), numbers.as_slice(), next.as_slice())?;
-    line.push(b'\n')?;
-    Ok(())
+    end_sets(line)
 }

@@ -3,51 +3,39 @@
 #![tactic(auto)]
 
 use ioc_command_line::{FileRole, Program, Stage, Stop, given, open, read_whole, show};
+use ioc_commands::{Dialect, Help};
 use ioc_dbfile::Macros;
 use ioc_main::{run, whole_run};
 use ioc_session::{Arguments, Expectations, Manner, Verdict, ending, run_dialogue};
-use std::alloc::Global;
+use std::alloc::{AllocError, Global};
 use std::env;
 use std::io::{self, BufWriter, IsTerminal, Read, Write};
 use std::process::ExitCode;
 
-// The program, with the lines of a script and the exit statuses behind its arguments.
-const PROGRAM: Program = Program {
+// The program, without the notes of its help.
+const PROGRAM: Program<'static> = Program {
     name: "ioc-replay",
     version: "0.1.0",
     about: "Loads the database text DB, in which the macros NAME stand for VALUE, \
         does the script SCRIPT to it, and prints a line for each reply.",
-    notes: "\
-The lines of a script:
-  process REC         requests a record
-  put REC.F TEXT      puts a value
-  get REC.F           prints a field
-  at N                the moment of the lines that follow, in nanoseconds
-  next REC done TEXT  the device of the record will answer this
-  next REC fault      the device of the record will answer a fault
-  next REC later      the device of the record will answer later
-  done REC N TEXT     the device answers the Nth wait of the record
-  fault REC N         the device answers the Nth wait of the record with a fault
-  event NAME          posts an event
-  io WORD             an interrupt of the devices whose link begins with WORD
-  scan CHOICE         requests the records of a period, as: scan 1 second
-  link REC.F TEXT     changes a link
-  tally               prints how many requests had which outcome
-  notify REC.F TEXT   puts a value with notification: ended N tells that all is done
-  cancel N            gives up a put with notification
-  sets                prints which records are joined by links
-  # TEXT              a comment
-With --test, and at a terminal:
-  expect TEXT         the last line of replies before this line is to be TEXT
-At a terminal:
-  get REC             prints the field VAL
-  help                prints this
-  exit                ends the program
+    notes: "",
+};
 
+// What the help says behind the lines of a script.
+const STATUSES: &str = "\
 The exit status: 0 the script is done, 1 the database is refused, 2 the command line is wrong, \
     3 a file cannot be read or the replies cannot be written, 4 memory ran out, \
-    5 an expectation failed",
-};
+    5 an expectation failed";
+
+// Returns what the help says behind the arguments.
+fn notes(alloc: Global) -> Result<String, AllocError> {
+    let lines = Help(Dialect::Script);
+    format!(in alloc;
+        "The lines of a script:\n{lines}\
+        expect TEXT         with --test, and at a terminal: the last line of replies is to be TEXT\n\n\
+        At a terminal, the line help prints what else there is.\n\n{STATUSES}"
+    )
+}
 
 // How many bytes of replies are written at once. A terminal shows them as they are made.
 fn room(rt: &HostRuntime) -> usize {
@@ -71,7 +59,7 @@ fn plain<R: Read + Drop, W: Write>(
 // Tells on standard error which expectations failed, and how many there were. A user who had none
 // is told nothing.
 fn judged<E: Write>(expectations: &Expectations, manner: Manner, errors: &mut E) -> Verdict {
-    if manner.help.is_none() || expectations.count > 0 {
+    if !manner.has_prompt || expectations.count > 0 {
         let _written = expectations.report(errors);
     }
     Verdict::of(expectations)
@@ -101,13 +89,18 @@ fn telling<R: Read + Drop, W: Write>(
 
 fn replay(rt: &HostRuntime) -> Result<Verdict, Stop> {
     let words = given(rt.alloc(), env::args(rt))?;
+    let notes = notes(rt.alloc())?;
+    let program = Program {
+        notes: &notes,
+        ..PROGRAM
+    };
     let Arguments { files, manner } = Arguments::from_words(
         rt.alloc(),
-        &PROGRAM,
+        &program,
         words.as_slice(),
     )?;
     let manner = if files.other == "-" && rt.stdin().is_terminal() {
-        manner.at_terminal(PROGRAM.notes)
+        manner.at_terminal()
     } else {
         manner
     };

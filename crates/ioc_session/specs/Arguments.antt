@@ -29,7 +29,7 @@ pub record IsAskedBy (rows : List Row) (args : Arguments) : Type 0 where
   pub echo : args.manner.has_echo ≡ is_true (first_of (codes "echo") rows)
   pub explained : args.manner.is_explained ≡ is_true (first_of (codes "explain") rows)
   pub traced : args.manner.is_traced ≡ is_true (first_of (codes "trace") rows)
-  pub help : args.manner.help ≡ None
+  pub prompt : args.manner.has_prompt ≡ false
 
 -- The same of the words, by what a program with this name makes of them.
 unfoldable pub IsAskedByWords : Text → List Text → Arguments → Type 0

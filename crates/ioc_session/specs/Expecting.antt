@@ -3,7 +3,7 @@ use Rattle.std.proofs.Common.{◌≡◌, ℕ, List, [], ◌∷◌, length, take,
 use Rattle.std.specs.Cmp.Lexicographic.{pointwise}
 use Rattle.std.proofs.lemmas.Bool.{cases_lt, lt-ltb}
 use Rattle.std.proofs.lemmas.List.{length-take, take_all}
-use Rattle.ioc_main.specs.Script.{before, behind, cut}
+use Rattle.ioc_commands.specs.Commands.{before, behind, cut}
 use Rattle.ioc_main.specs.Coming.{CutsLines}
 
 -- The text that a line of at most 1,024 bytes expects. It may be missing.

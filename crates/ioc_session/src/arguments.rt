@@ -35,8 +35,8 @@ pub struct Manner {
     pub is_explained: bool,
     /// What each line makes records do is printed before its replies.
     pub is_traced: bool,
-    /// What the line `help` prints for a user at a terminal, who is prompted.
-    pub help: Option<&'static str>,
+    /// A user at a terminal is prompted for each line.
+    pub has_prompt: bool,
 }
 
 /// What a command line asks for.
@@ -55,7 +55,7 @@ impl Manner {
 
     // Returns whether more is told than a comparison of replies with what is expected.
     fn tells_more(&self) -> bool {
-        self.has_echo || self.is_explained || self.is_traced || self.help.is_some()
+        self.has_echo || self.is_explained || self.is_traced || self.has_prompt
     }
 
     /// Returns whether replies are compared with what is expected, and no more is told.
@@ -63,13 +63,13 @@ impl Manner {
         self.is_tested && !self.tells_more()
     }
 
-    /// Returns this manner at a terminal: a user is prompted and has this help, replies are
-    /// compared with what is expected, and it is explained why a line is refused.
-    pub fn at_terminal(self, help: &'static str) -> Self {
+    /// Returns this manner at a terminal: a user is prompted, replies are compared with what is
+    /// expected, and it is explained why a line is refused.
+    pub fn at_terminal(self) -> Self {
         Manner {
             is_tested: true,
             is_explained: true,
-            help: Some(help),
+            has_prompt: true,
             ..self
         }
     }
@@ -87,7 +87,7 @@ fn flag<'a>(alloc: Global, name: &'a str, help: &'a str) -> Arg<'a>
 }
 
 // Returns the command of the program.
-fn command<'a>(alloc: Global, program: &Program) -> Result<Command<'a>, AllocError>
+fn command<'a>(alloc: Global, program: &Program<'a>) -> Result<Command<'a>, AllocError>
     ensures { IfOk result (λ c. app_of c ≡ words_of program.now.name.now) }
 {
     let script = "the script; where it is - it is standard input";
@@ -144,7 +144,7 @@ fn read<'a>(alloc: Global, matches: &ArgMatches<'a>) -> Result<Arguments<'a>, St
             has_echo: is_given(matches, ECHO),
             is_explained: is_given(matches, EXPLAIN),
             is_traced: is_given(matches, TRACE),
-            help: None,
+            has_prompt: false,
         },
     })
 }
@@ -159,7 +159,7 @@ impl<'a> Arguments<'a> {
     /// [`Stop::Usage`] if they are wrong. [`Stop::Memory`] if allocation fails.
     pub fn from_words(
         alloc: Global,
-        program: &Program,
+        program: &Program<'a>,
         words: &'a [String],
     ) -> Result<Arguments<'a>, Stop>
         ensures { IfOk result (IsAskedByWords program.now.name.now (map string_bytes words.entry.now)) }

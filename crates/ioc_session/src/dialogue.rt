@@ -3,10 +3,12 @@ ghost use Rattle.std.specs.Prelude.{◌≡◌, [], OnOk};
 
 use crate::directory::Directory;
 use crate::explanation::Explanation;
-use crate::terminal::{PROMPT, Request};
+use crate::user_line::script_line;
 use ioc_command_line::Reason;
-use ioc_console::{LineBuffer, next_line};
-use ioc_main::{LineFault, PendingOutput, ScriptFault, Session, cut_at};
+use ioc_commands::{Dialect, Help, Request, cut_at};
+use ioc_main::{
+    Answering, LineBuffer, LineFault, PendingOutput, ScriptFault, Session, Then, answer_each,
+};
 use ioc_trace::TraceLog;
 use std::alloc::Global;
 use std::io::{self, BufRead, Write};
@@ -22,15 +24,17 @@ pub struct Dialogue<E: Write + Drop> {
     pub has_echo: bool,
     /// What was traced and isn't printed yet, if events are traced.
     pub trace: Option<TraceLog>,
-    /// What the line `help` prints, if there is a prompt.
-    pub help: Option<&'static str>,
+    /// Whether a user is prompted.
+    pub has_prompt: bool,
 }
 
-// What is to be done after a line.
-#[derive(Clone, Copy)]
-enum Then {
-    More,
-    End,
+// A dialogue with the session whose replies it writes.
+#[derive(Drop)]
+struct Talk<'a, S: Session, W: Write, E: Write + Drop> {
+    alloc: Global,
+    dialogue: &'a mut Dialogue<E>,
+    session: &'a mut S,
+    out: &'a mut W,
 }
 
 // Returns the fault of a write, if it failed.
@@ -41,46 +45,19 @@ fn written(wrote: io::Result<()>) -> Result<(), LineFault> {
     }
 }
 
-// Writes the replies to a line, and forgets them.
-fn write_said<W: Write>(said: &mut PendingOutput, out: &mut W) -> Result<(), LineFault>
-    ensures replies { OnOk result (said.new.replies ≡ []) }
-    ensures more { OnOk result (said.new.more.items ≡ []) }
-{
+// Writes the replies to a line.
+fn write_said<W: Write>(said: &PendingOutput, out: &mut W) -> Result<(), LineFault> {
     written(out.write_all(said.replies.as_slice()))?;
-    written(out.write_all(said.more.as_slice()))?;
-    said.clear();
-    Ok(())
-}
-
-// The line that prints the field VAL of a record.
-fn line_of_value(record: &[u8]) -> LineBuffer {
-    let mut line = LineBuffer::new();
-    line.extend_cut(b"get ");
-    line.extend_cut(record);
-    line.extend_cut(b".VAL");
-    line
+    written(out.write_all(said.more.as_slice()))
 }
 
 impl<E: Write + Drop> Dialogue<E> {
-    // Writes the prompt, if there is one, and reads a line. Returns false at the end of the input.
-    fn read<I: BufRead, W: Write>(
-        &self,
-        input: &mut I,
-        line: &mut LineBuffer,
-        out: &mut W,
-    ) -> Result<bool, ScriptFault> {
-        if self.help.is_some() {
-            written(out.write_all(PROMPT))?;
-            written(out.flush())?;
-        }
-        match next_line(input, line) {
-            Ok(true) => Ok(true),
-            Ok(false) if self.help.is_some() => {
-                written(out.write_all(b"\n"))?;
-                Ok(false)
-            }
-            Ok(false) => Ok(false),
-            Err(error) => Err(ScriptFault::Read(Reason::of(&error))),
+    // Returns who speaks.
+    fn dialect(&self) -> Dialect {
+        if self.has_prompt {
+            Dialect::Prompt
+        } else {
+            Dialect::Script
         }
     }
 
@@ -114,7 +91,7 @@ impl<E: Write + Drop> Dialogue<E> {
         let Some(directory) = &self.directory else {
             return Ok(());
         };
-        if let Some(explanation) = Explanation::of(directory, line, reply) {
+        if let Some(explanation) = Explanation::of(directory, self.dialect(), line, reply)? {
             written(out.flush())?;
             let _written = writeln!(&mut self.errors, "line {number}: {explanation}");
         }
@@ -124,55 +101,37 @@ impl<E: Write + Drop> Dialogue<E> {
     // Answers a line of the script.
     fn answer<S: Session, W: Write>(
         &mut self,
+        alloc: Global,
         number: u64,
         line: &[u8],
         session: &mut S,
         out: &mut W,
-        said: &mut PendingOutput,
-    ) -> Result<(), LineFault>
-        requires replies { said.old.replies ≡ [] }
-        requires more { said.old.more.items ≡ [] }
-        ensures replies { OnOk result (said.new.replies ≡ []) }
-        ensures more { OnOk result (said.new.more.items ≡ []) }
-    {
-        session.answer(line, said)?;
+    ) -> Result<(), LineFault> {
+        let mut said = PendingOutput::new(alloc);
+        session.answer(line, &mut said)?;
         let mut reply = LineBuffer::new();
         reply.extend_cut(cut_at(said.replies.as_slice(), b'\n').0);
         self.tell_traced(out)?;
-        write_said(said, out)?;
+        write_said(&said, out)?;
         self.explain(number, line, reply.as_slice(), out)
     }
 
-    // Does what a line asks for, and returns whether the dialogue goes on.
-    fn carry_out<S: Session, W: Write>(
+    // Does what a line of a user asks for.
+    fn answer_user<S: Session, W: Write>(
         &mut self,
+        alloc: Global,
         number: u64,
         line: &[u8],
         session: &mut S,
         out: &mut W,
-        said: &mut PendingOutput,
-    ) -> Result<Then, LineFault>
-        requires replies { said.old.replies ≡ [] }
-        requires more { said.old.more.items ≡ [] }
-        ensures replies { OnOk result (said.new.replies ≡ []) }
-        ensures more { OnOk result (said.new.more.items ≡ []) }
-    {
-        self.echo(number, line, out)?;
-        let Some(help) = self.help else {
-            self.answer(number, line, session, out, said)?;
-            return Ok(Then::More);
-        };
-        match Request::from_line(line) {
-            Request::Script => self.answer(number, line, session, out, said)?,
-            Request::Value(record) => {
-                let line = line_of_value(record);
-                self.answer(number, line.as_slice(), session, out, said)?;
-            }
-            Request::Help => {
-                written(out.write_all(help.as_bytes()))?;
-                written(out.write_all(b"\n"))?;
-            }
+    ) -> Result<Then, LineFault> {
+        match Request::from_line(Dialect::Prompt, line) {
             Request::Exit => return Ok(Then::End),
+            Request::Help => written(write!(out, "{}", Help(Dialect::Prompt)))?,
+            _ => {
+                let line = script_line(line);
+                self.answer(alloc, number, line.as_slice(), session, out)?;
+            }
         }
         Ok(Then::More)
     }
@@ -190,18 +149,41 @@ impl<E: Write + Drop> Dialogue<E> {
         input: &mut I,
         out: &mut W,
     ) -> Result<(), ScriptFault> {
-        let mut line = LineBuffer::new();
-        let mut said = PendingOutput::new(alloc);
         self.tell_traced(out)?;
-        for number in 1..u64::MAX {
-            if !self.read(input, &mut line, out)? {
-                break;
-            }
-            let then = self.carry_out(number, line.as_slice(), session, out, &mut said)?;
-            if let Then::End = then {
-                break;
-            }
+        let has_prompt = self.has_prompt;
+        let mut talk = Talk {
+            alloc,
+            dialogue: self,
+            session,
+            out,
+        };
+        answer_each(input, has_prompt, &mut talk)
+    }
+}
+
+impl<S: Session, W: Write, E: Write + Drop> Answering for Talk<'_, S, W, E> {
+    type Fault = ScriptFault;
+
+    fn answer(&mut self, number: u64, line: &[u8]) -> Result<Then, ScriptFault> {
+        self.dialogue.echo(number, line, self.out)?;
+        if self.dialogue.has_prompt {
+            let (session, out) = (&mut *self.session, &mut *self.out);
+            return Ok(
+                self.dialogue
+                    .answer_user(self.alloc, number, line, session, out)?,
+            );
         }
-        Ok(())
+        self.dialogue
+            .answer(self.alloc, number, line, self.session, self.out)?;
+        Ok(Then::More)
+    }
+
+    fn show(&mut self, text: &[u8]) -> Result<(), ScriptFault> {
+        written(self.out.write_all(text))?;
+        Ok(written(self.out.flush())?)
+    }
+
+    fn unreadable(&self, reason: Reason) -> ScriptFault {
+        ScriptFault::Read(reason)
     }
 }

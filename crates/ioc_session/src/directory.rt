@@ -1,9 +1,10 @@
 //! The records of a database as it was loaded, by their names.
-use crate::near::Nearest;
 use ioc_fields::field_list::fields;
 use ioc_fields::{FieldNo, RecordType, field, name_of, row_of};
 use ioc_names::Names;
+use ioc_spelling::{Misspelt, nearest};
 use ioc_values::Name;
+use std::alloc::{AllocError, Global};
 
 /// A record of the directory.
 #[derive(Clone, Copy)]
@@ -15,14 +16,19 @@ pub struct Listed {
 /// The records of a database as it was loaded.
 #[derive(Drop)]
 pub struct Directory {
+    pub alloc: Global,
     names: Names,
     records: Vec<Listed>,
 }
 
 impl Directory {
     /// Creates the directory of these records, which are listed by their numbers.
-    pub fn new(names: Names, records: Vec<Listed>) -> Self {
-        Directory { names, records }
+    pub fn new(alloc: Global, names: Names, records: Vec<Listed>) -> Self {
+        Directory {
+            alloc,
+            names,
+            records,
+        }
     }
 
     /// Returns the record that has this name or alias.
@@ -31,24 +37,39 @@ impl Directory {
     }
 
     /// Returns the record's name that may have been meant by this one. Aliases aren't looked at.
-    pub fn nearest<'a>(&'a self, name: &'a [u8]) -> Option<&'a [u8]> {
-        let mut nearest = Nearest::to(name);
+    ///
+    /// # Errors
+    ///
+    /// [`AllocError`] if allocation fails.
+    pub fn nearest(&self, name: &[u8]) -> Result<Option<&[u8]>, AllocError> {
+        let mut misspelt = Misspelt::new(self.alloc, name)?;
+        let mut meant = None;
         for listed in &self.records {
-            nearest.compare(listed.name.as_slice());
+            if misspelt.is_nearer(listed.name.as_slice())? {
+                meant = Some(listed.name.as_slice());
+            }
         }
-        nearest.name()
+        Ok(meant)
     }
 }
 
 /// Returns the field's name of this type that may have been meant by this one.
-pub fn nearest_field<'a>(record_type: RecordType, name: &'a [u8]) -> Option<&'a [u8]> {
-    let mut nearest = Nearest::to(name);
+///
+/// # Errors
+///
+/// [`AllocError`] if allocation fails.
+pub fn nearest_field(
+    alloc: Global,
+    record_type: RecordType,
+    name: &[u8],
+) -> Result<Option<&'static str>, AllocError> {
+    let mut names = Vec::new(alloc);
     for field in fields() {
         if row_of(record_type, *field).is_some() {
-            nearest.compare(name_of(*field).as_bytes());
+            names.push(name_of(*field))?;
         }
     }
-    nearest.name()
+    nearest(alloc, name, names.as_slice())
 }
 
 /// Returns the field of a record by its name.

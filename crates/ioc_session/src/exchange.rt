@@ -1,5 +1,5 @@
 //! A script in the place of a database text.
-use ioc_main::Command;
+use ioc_commands::Command;
 
 /// Returns whether the first line of a text that isn't empty and no comment is one of a script.
 pub fn begins_as_script(text: &[u8]) -> bool {

@@ -2,8 +2,7 @@
 ghost use Rattle.std.specs.Prelude.{◌≡◌, ◌≢◌, ◌+◌, length, option_map, OnOk};
 ghost use Rattle.ioc_session.specs.Expecting.{expected_in};
 
-use crate::quoted::Quoted;
-use ioc_main::cut_at;
+use ioc_commands::{Quoted, cut_at};
 use std::alloc::{AllocError, Global};
 use std::io::{self, Write};
 

@@ -1,12 +1,10 @@
 //! Why a line is bad or refused.
-use crate::bad_line::BadLine;
 use crate::directory::{Directory, Listed, field_of, nearest_field};
 use crate::kinds::Taken;
-use crate::layout::LayoutFault;
-use crate::quoted::{Quoted, Shown};
+use ioc_commands::{BadLine, Command, Dialect, LayoutFault, Quoted, Shown, cut_at};
 use ioc_fields::{FieldKind, RecordType, kind_of};
-use ioc_main::{Command, cut_at};
 use ioc_values::IocError;
+use std::alloc::AllocError;
 use std::fmt;
 
 /// Why a line is bad or refused.
@@ -17,7 +15,7 @@ pub enum Explanation<'a> {
     /// There is no record of the first name. The second may have been meant.
     NoRecord(Quoted<'a>, Option<&'a [u8]>),
     /// Records of this type have no field of the first name. The second may have been meant.
-    NoField(RecordType, Quoted<'a>, Option<&'a [u8]>),
+    NoField(RecordType, Quoted<'a>, Option<&'static str>),
     /// This field is no link.
     NoLink(Subject<'a>),
     /// The link of this text leads to no field of a record.
@@ -114,30 +112,36 @@ fn refusal_in(reply: &[u8]) -> Option<IocError> {
 }
 
 // Why a line has E1. The link that is given to a record may lead to another that there isn't.
-fn no_record<'a>(directory: &'a Directory, subject: &Subject<'a>) -> Explanation<'a> {
-    if directory.find(subject.record).is_none() {
-        return Explanation::NoRecord(Quoted(subject.record), directory.nearest(subject.record));
-    }
+fn no_record<'a>(
+    directory: &'a Directory,
+    subject: &Subject<'a>,
+) -> Result<Explanation<'a>, AllocError> {
     let word = cut_at(subject.text.trim_ascii(), b' ').0;
     let target = cut_at(word, b'.').0;
-    if directory.find(target).is_some() {
-        return Explanation::LeadsNowhere(Quoted(subject.text));
-    }
-    Explanation::NoRecord(Quoted(target), directory.nearest(target))
+    let name = if directory.find(subject.record).is_none() {
+        subject.record
+    } else if directory.find(target).is_none() {
+        target
+    } else {
+        return Ok(Explanation::LeadsNowhere(Quoted(subject.text)));
+    };
+    Ok(Explanation::NoRecord(Quoted(name), directory.nearest(name)?))
 }
 
 // Why a line has E2.
-fn no_field<'a>(listed: &Listed, subject: &Subject<'a>) -> Explanation<'a> {
+fn no_field<'a>(
+    directory: &Directory,
+    listed: &Listed,
+    subject: &Subject<'a>,
+) -> Result<Explanation<'a>, AllocError> {
     if subject.field.is_empty() {
-        return Explanation::NoDevice(Quoted(subject.record));
+        return Ok(Explanation::NoDevice(Quoted(subject.record)));
     }
-    match field_of(listed, subject.field) {
-        Some(_) => Explanation::NoLink(*subject),
-        None => {
-            let meant = nearest_field(listed.record_type, subject.field);
-            Explanation::NoField(listed.record_type, Quoted(subject.field), meant)
-        }
+    if field_of(listed, subject.field).is_some() {
+        return Ok(Explanation::NoLink(*subject));
     }
+    let meant = nearest_field(directory.alloc, listed.record_type, subject.field)?;
+    Ok(Explanation::NoField(listed.record_type, Quoted(subject.field), meant))
 }
 
 // Returns what the field of a line takes.
@@ -153,27 +157,32 @@ fn no_mod<'a>(listed: &Listed, subject: &Subject<'a>) -> Explanation<'a> {
     }
 }
 
+// Why a line has E5.
+fn bad_value<'a>(listed: &Listed, subject: &Subject<'a>) -> Option<Explanation<'a>> {
+    let taken = Taken(kind_in(listed, subject)?);
+    Some(Explanation::BadValue(Quoted(subject.text), *subject, taken))
+}
+
 // Why a line that names a record has this refusal.
 fn by_subject<'a>(
     directory: &'a Directory,
     refused: IocError,
     subject: &Subject<'a>,
-) -> Option<Explanation<'a>> {
+) -> Result<Option<Explanation<'a>>, AllocError> {
     if let IocError::NoRecord = refused {
-        return Some(no_record(directory, subject));
+        return Ok(Some(no_record(directory, subject)?));
     }
-    let listed = directory.find(subject.record)?;
-    match refused {
-        IocError::NoField => Some(no_field(listed, subject)),
+    let Some(listed) = directory.find(subject.record) else {
+        return Ok(None);
+    };
+    Ok(match refused {
+        IocError::NoField => Some(no_field(directory, listed, subject)?),
         IocError::NoMod => Some(no_mod(listed, subject)),
         IocError::PutDisabled => Some(Explanation::PutDisabled(Shown(subject.record))),
-        IocError::BadValue => {
-            let taken = Taken(kind_in(listed, subject)?);
-            Some(Explanation::BadValue(Quoted(subject.text), *subject, taken))
-        }
+        IocError::BadValue => bad_value(listed, subject),
         IocError::BadLink => Some(Explanation::BadLink(Quoted(subject.text))),
         _ => None,
-    }
+    })
 }
 
 // Why the command of a line has this refusal.
@@ -181,27 +190,42 @@ fn by_command<'a>(
     directory: &'a Directory,
     refused: IocError,
     command: &Command<'a>,
-) -> Option<Explanation<'a>> {
-    match (refused, *command) {
-        (IocError::QueueFull, _) => Some(Explanation::TooManyLive),
-        (IocError::Stale, Command::Cancel(number)) => Some(Explanation::NotLive(number)),
+) -> Result<Option<Explanation<'a>>, AllocError> {
+    let explanation = match (refused, *command) {
+        (IocError::QueueFull, _) => Explanation::TooManyLive,
+        (IocError::Stale, Command::Cancel(number)) => Explanation::NotLive(number),
         (IocError::Stale, Command::Done(record, wait, _) | Command::Fault(record, wait)) => {
-            Some(Explanation::NotAwaited(Quoted(record), wait))
+            Explanation::NotAwaited(Quoted(record), wait)
         }
-        _ => by_subject(directory, refused, &Subject::of(command)?),
-    }
+        _ => match Subject::of(command) {
+            Some(subject) => return by_subject(directory, refused, &subject),
+            None => return Ok(None),
+        },
+    };
+    Ok(Some(explanation))
 }
 
 impl<'a> Explanation<'a> {
-    /// Returns why a line has this reply, if it is bad or refused. The reply comes without its line
-    /// feed.
-    pub fn of(directory: &'a Directory, line: &'a [u8], reply: &[u8]) -> Option<Self> {
+    /// Returns why a line of this speaker has this reply, if it is bad or refused. The reply comes
+    /// without its line feed.
+    ///
+    /// # Errors
+    ///
+    /// [`AllocError`] if allocation fails.
+    pub fn of(
+        directory: &'a Directory,
+        dialect: Dialect,
+        line: &'a [u8],
+        reply: &[u8],
+    ) -> Result<Option<Self>, AllocError> {
         if reply == b"bad".as_slice() {
-            return Some(Explanation::Bad(BadLine::of(line)));
+            return Ok(Some(Explanation::Bad(BadLine::of(dialect, line))));
         }
-        let refused = refusal_in(reply)?;
+        let Some(refused) = refusal_in(reply) else {
+            return Ok(None);
+        };
         match LayoutFault::of(line) {
-            Some(fault) => Some(Explanation::Layout(fault)),
+            Some(fault) => Ok(Some(Explanation::Layout(fault))),
             None => by_command(directory, refused, &Command::from_line(line)),
         }
     }
@@ -227,7 +251,7 @@ impl fmt::Display for Explanation<'_> {
             Explanation::LeadsNowhere(link) => write!(f, "E1: the link {link} leads to no field"),
             Explanation::NoField(record_type, name, meant) => {
                 write!(f, "E2: the type {} has no field {name}", record_type.name())?;
-                write_meant(f, *meant)
+                write_meant(f, meant.map(str::as_bytes))
             }
             Explanation::NoLink(field) => write!(f, "E2: {field} is no link"),
             Explanation::NoDevice(name) => write!(f, "E2: {name} owns no device"),

@@ -1,23 +1,19 @@
-//! Dialogues: runs of a script that tell more than the replies. They compare replies with what the
-//! script expects, print each line with its number, explain why a line is refused, and prompt a
-//! user.
+//! Sessions of `ioc-replay`: runs of a script that tell more than the replies. They compare replies
+//! with what the script expects, print each line with its number, explain why a line is refused, and
+//! prompt a user.
 #![tactic(auto)]
 
 mod arguments;
-mod bad_line;
 mod dialogue;
 mod directory;
 mod exchange;
 mod expectation;
 mod explanation;
 mod kinds;
-mod layout;
-mod near;
-mod quoted;
 mod runs;
-mod terminal;
 mod tested;
 mod testing;
+mod user_line;
 mod verdict;
 
 pub use arguments::{Arguments, Manner};

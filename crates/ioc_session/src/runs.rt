@@ -30,7 +30,7 @@ fn listed<K: RecordKind>(alloc: Global, records: &[K]) -> Result<Vec<Listed>, Al
 fn directory_of(alloc: Global, db: &[u8], macros: &Macros) -> Result<Directory, RunFault> {
     let Database { names, records } = load(alloc, db, macros)?;
     let all = listed(alloc, records.as_slice())?;
-    Ok(Directory::new(names, all))
+    Ok(Directory::new(alloc, names, all))
 }
 
 // Returns a log for what is traced, if anything is.
@@ -117,7 +117,7 @@ pub fn run_dialogue<R: Read + Drop, W: Write, E: Write + Drop>(
         directory,
         has_echo: manner.has_echo,
         trace,
-        help: manner.help,
+        has_prompt: manner.has_prompt,
     };
     answer_script(alloc, session, script, out, dialogue, manner)
 }

@@ -2,8 +2,7 @@
 ghost use Rattle.std.specs.Prelude.{◌≡◌};
 
 use crate::expectation::{Expectations, expected_in, last_line};
-use ioc_console::LineBuffer;
-use ioc_main::{PendingOutput, Session};
+use ioc_main::{LineBuffer, PendingOutput, Session};
 use std::alloc::{AllocError, Global};
 
 /// A session that compares its replies with the lines `expect TEXT`, for which nothing is printed.

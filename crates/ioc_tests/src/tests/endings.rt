@@ -9,7 +9,7 @@ use std::io;
 use std::test::Fail;
 
 // A program that takes a database text and a script.
-static PROGRAM: Program = Program {
+static PROGRAM: Program<'static> = Program {
     name: "ioc-replay",
     version: "0.1.0",
     about: "Runs a script.",

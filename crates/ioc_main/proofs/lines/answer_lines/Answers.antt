@@ -1,7 +1,7 @@
 use Rattle.std.proofs.Common.{◌≡◌, ℕ, List, [], ◌++◌, Some, None, sym, ap, subst, ◌∙◌}
 use Rattle.std.specs.Prelude.{option_map}
 use Rattle.std.proofs.lemmas.Result.{err_from_is_err_and}
-use Rattle.ioc_main.specs.Script.{behind}
+use Rattle.ioc_commands.specs.Commands.{behind}
 use Rattle.ioc_main.specs.Coming.{still, to_come}
 use Rattle.ioc_main.specs.Written.{Writes}
 use Rattle.ioc_main.proofs.Cutting.{behind-shorter, none-left, none-there, all-before}

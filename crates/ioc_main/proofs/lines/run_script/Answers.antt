@@ -1,6 +1,6 @@
 use Rattle.std.proofs.Common.{refl, arith, ◌<◌, length}
 use Rattle.std.proofs.lemmas.Result.{err_from_is_err_and}
-use Rattle.ioc_main.specs.Script.{lines_of}
+use Rattle.ioc_commands.specs.Commands.{lines_of}
 use Rattle.ioc_main.specs.Coming.{still}
 use Rattle.ioc_main.proofs.WrittenLemmas.{script_stops}
 use Rattle.ioc_main.proofs.Reading.{starts_unsaid, reads_stop, reads_on, reads_fail, reads_end, reads_end_fails, none_read}

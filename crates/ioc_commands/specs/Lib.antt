@@ -1,0 +1,4 @@
+pub mod Verbs
+pub mod Commands
+pub mod Seen
+pub mod Requests

@@ -1,0 +1,22 @@
+//! The command language of scripts, prompts and the console: how each command is written, what a line
+//! asks for, and what is wrong with a line that asks for nothing.
+#![tactic(auto)]
+
+mod bad_line;
+mod command;
+mod help;
+mod layout;
+mod parts;
+mod quoted;
+mod request;
+mod table;
+mod verb;
+
+pub use bad_line::BadLine;
+pub use command::{Command, words_of_put};
+pub use help::Help;
+pub use layout::LayoutFault;
+pub use parts::{cut_at, split_before};
+pub use quoted::{Quoted, Shown};
+pub use request::{MAX_TICKS_OF_A_LINE, Request};
+pub use verb::{Dialect, Verb};

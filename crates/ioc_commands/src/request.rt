@@ -1,0 +1,127 @@
+//! What a line of a user asks for.
+ghost use Rattle.std.specs.Prelude.{◌≡◌, option_map};
+ghost use Rattle.ioc_commands.specs.Seen.{bytes};
+ghost use Rattle.ioc_commands.specs.Verbs.{verb_named};
+ghost use Rattle.ioc_commands.specs.Commands.{before, behind};
+ghost use Rattle.ioc_commands.specs.Requests.{request_of, by_any, asked_by, seen, ticks_of, listed, shown, alone};
+
+use crate::command::{Command, by_verb};
+use crate::parts::cut_at;
+use crate::verb::{Dialect, Verb};
+use ioc_values::number::decimal;
+
+/// The largest number of ticks of a line.
+pub const MAX_TICKS_OF_A_LINE: u64 = 1_000_000;
+
+/// What a line of a user asks for.
+///
+/// ```rust
+/// // The records whose names begin with `tank:`.
+/// let request = Request::from_line(Dialect::Console, b"dbl tank:*");
+/// ```
+#[derive(Clone, Copy)]
+pub enum Request<'a> {
+    /// What this command of a script asks for.
+    Command(Command<'a>),
+    /// Walks the periods of so many ticks, from 1 to [`MAX_TICKS_OF_A_LINE`].
+    Tick(u64),
+    /// Makes a checkpoint of the journal.
+    Checkpoint,
+    /// Prints the names of the records that this pattern stands for.
+    List(&'a [u8]),
+    /// Prints the fields of the record with this name.
+    Show(&'a [u8]),
+    Help,
+    /// Ends the lines.
+    Exit,
+}
+
+#[tactic(auto, unfolding(crate::specs::Requests::request_of))]
+impl<'a> Request<'a> {
+    /// Returns what a line of a speaker asks for, which comes without its line feed. A record alone
+    /// is its field VAL in gets and puts.
+    pub fn from_line(dialect: Dialect, line: &'a [u8]) -> Self
+        ensures { seen result ≡ request_of dialect line.now }
+    {
+        if line.len() > 1024 {
+            return Request::Command(Command::Bad);
+        }
+        match line {
+            [] => Request::Command(Command::Silent),
+            [b'#', ..] => Request::Command(Command::Silent),
+            [_, ..] => by_first_word(dialect, line),
+        }
+    }
+}
+
+// Returns what a line asks for by its first word.
+fn by_first_word(dialect: Dialect, line: &[u8]) -> Request<'_>
+    ensures { seen result ≡ by_any dialect (verb_named (before 32 line.now)) (behind 32 line.now) }
+{
+    let (word, words) = cut_at(line, b' ');
+    match Verb::from_word(word) {
+        Some(verb) if dialect.knows(verb) => asked_by(verb, words),
+        _ => Request::Command(Command::Bad),
+    }
+}
+
+// Returns what a first word and what is behind it ask for.
+fn asked_by<'a>(verb: Verb, words: Option<&'a [u8]>) -> Request<'a>
+    ensures { seen result ≡ asked_by verb (option_map bytes words.entry) }
+{
+    match verb {
+        Verb::Tick => tick(words),
+        Verb::List => list(words),
+        Verb::Show => show(words),
+        Verb::Checkpoint => alone(words, Request::Checkpoint),
+        Verb::Help => alone(words, Request::Help),
+        Verb::Exit => alone(words, Request::Exit),
+        _ => Request::Command(by_verb(true, verb, words)),
+    }
+}
+
+// Returns this request, if nothing is behind its word.
+fn alone<'a>(words: Option<&'a [u8]>, request: Request<'a>) -> Request<'a>
+    ensures { seen result ≡ alone (option_map bytes words.entry) (seen request.entry) }
+{
+    match words {
+        Some(_) => Request::Command(Command::Bad),
+        None => request,
+    }
+}
+
+fn tick<'a>(words: Option<&'a [u8]>) -> Request<'a>
+    ensures { seen result ≡ ticks_of (option_map bytes words.entry) }
+{
+    let Some(word) = words else {
+        return Request::Tick(1);
+    };
+    match decimal(word) {
+        Some(count) if 1 <= count && count <= MAX_TICKS_OF_A_LINE => Request::Tick(count),
+        _ => Request::Command(Command::Bad),
+    }
+}
+
+fn list<'a>(words: Option<&'a [u8]>) -> Request<'a>
+    ensures { seen result ≡ listed (option_map bytes words.entry) }
+{
+    let Some(words) = words else {
+        return Request::List(b"*");
+    };
+    match cut_at(words, b' ') {
+        ([], _) | (_, Some(_)) => Request::Command(Command::Bad),
+        (pattern, None) => Request::List(pattern),
+    }
+}
+
+fn show<'a>(words: Option<&'a [u8]>) -> Request<'a>
+    ensures { seen result ≡ shown (option_map bytes words.entry) }
+{
+    let Some(words) = words else {
+        return Request::Command(Command::Bad);
+    };
+    match cut_at(words, b' ') {
+        ([], _) | (_, Some(_)) => Request::Command(Command::Bad),
+        (record, None) => Request::Show(record),
+    }
+}
