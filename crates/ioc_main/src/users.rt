@@ -1,5 +1,5 @@
 //! The lines of a user, or of a program that drives one: each is answered before the next is read.
-use crate::reading::{LineBuffer, next_line};
+use crate::line_input::{LineBuffer, next_line};
 use ioc_command_line::Reason;
 use std::io::BufRead;
 

@@ -3,3 +3,4 @@ pub mod Machine
 pub mod SeenMachine
 pub mod Leads
 pub mod Sets
+pub mod Deeds

@@ -13,22 +13,22 @@ ghost use Rattle.ioc_store.specs.World.{World, begun};
 ghost use Rattle.ioc_callback.specs.Serving.{no_items};
 ghost use Rattle.ioc_scan_rules.specs.declared.places.Occasion.TheVariants.{Scanning};
 ghost use Rattle.ioc_scan_rules.specs.FirstLists.{first_lists};
+ghost use Rattle.ioc_sim.specs.Deeds.{event_of};
 ghost use Rattle.ioc_sim.specs.Machine.{first_queue};
 
 use crate::leads::lead_among;
 use crate::scanner::Scanner;
 use crate::scripted::Scripted;
 use crate::settled::{event_leaves_settled, link_change_keeps};
-use crate::tracing::{Traced, run_traced};
+use crate::tracing::{Deed, Traced, run_deed};
 use ioc_dbcommon::{LinkBox, LinkField};
 use ioc_dbfile::{Owners, owners_of, owns_device};
-use ioc_events::{Event, Reply, run_event, run_link, run_put};
+use ioc_events::{Reply, run_link};
 use ioc_fields::FieldNo;
 use ioc_ledger::Tally;
 use ioc_links::Link;
 use ioc_names::{Names, RecordNo};
 use ioc_notify::NotifyId;
-use ioc_record::Given;
 use ioc_scan::Listed;
 use ioc_scan_rules::first_lists::{first_lists, starters};
 use ioc_scan_rules::places::Occasion;
@@ -228,109 +228,21 @@ impl Machine {
         self.scanner.dropped()
     }
 
-    // Puts the value of a text into a field and traces it, without taking what the event sends.
-    #[inline(never)]
-    fn store_traced(&mut self, number: RecordNo, field: FieldNo, text: &[u8]) -> Reply
-        ensures { Gives (stepped_on record_rules (machine_of self.old) (Put number field (input_of text.now)))
-            (machine_of self.new) result }
-    {
-        self.do_traced(&Event::Put {
-            record: number,
-            field,
-            value: Input::from_text(text),
-        })
-    }
-
-    // Puts the value of a text into a field, without taking what the event sends. Nothing is traced.
-    #[tactic(auto, using(crate::proofs::Eventing::closed_on, crate::proofs::Eventing::room_on))]
-    fn store(&mut self, number: RecordNo, field: FieldNo, text: &[u8]) -> Reply
-        ensures { Gives (stepped_on record_rules (machine_of self.old) (Put number field (input_of text.now)))
-            (machine_of self.new) result }
-    {
-        let map = &mut self.map;
-        begin_event(map);
-        run_put(
-            map,
-            &mut self.frames,
-            number,
-            field,
-            Given::Text(text),
-            &mut self.tally,
-        )
-    }
-
-    // Does an event, without taking what it sends. Nothing is traced. It is inlined, so that each
-    // caller knows the kind of its event.
+    // Does an event, without taking what it sends, and traces it if events are traced. It is inlined,
+    // so that each caller knows the kind of its event.
     #[inline(always)]
     #[tactic(auto, using(crate::proofs::Eventing::closed_on, crate::proofs::Eventing::room_on))]
-    fn do_event(&mut self, event: &Event) -> Reply
-        ensures { Gives (stepped_on record_rules (machine_of self.old) event.now) (machine_of self.new) result }
+    fn run(&mut self, deed: &Deed<'_>) -> Reply
+        ensures { Gives (stepped_on record_rules (machine_of self.old) (event_of deed.now)) (machine_of self.new) result }
     {
         begin_event(&mut self.map);
-        run_event(&mut self.map, &mut self.frames, event, &mut self.tally)
-    }
-
-    // Does an event and traces it, without taking what it sends. Not inlined, because most machines
-    // trace nothing.
-    #[inline(never)]
-    #[tactic(auto, using(crate::proofs::Eventing::closed_on, crate::proofs::Eventing::room_on))]
-    fn do_traced(&mut self, event: &Event) -> Reply
-        ensures { Gives (stepped_on record_rules (machine_of self.old) event.now) (machine_of self.new) result }
-    {
-        begin_event(&mut self.map);
-        run_traced(
+        run_deed(
             &mut self.traced,
             &mut self.map,
             &mut self.frames,
-            event,
+            deed,
             &mut self.tally,
         )
-    }
-
-    // Does an event, without taking what it sends, and traces it if events are traced.
-    #[inline(always)]
-    fn do_either(&mut self, event: &Event) -> Reply
-        ensures { Gives (stepped_on record_rules (machine_of self.old) event.now) (machine_of self.new) result }
-    {
-        if self.traced.is_some() {
-            self.do_traced(event)
-        } else {
-            self.do_event(event)
-        }
-    }
-
-    // Requests a record and traces it, without taking what the event sends.
-    #[inline(never)]
-    fn request_traced(&mut self, number: RecordNo) -> Reply
-        ensures { Gives (stepped_on record_rules (machine_of self.old) (Process number)) (machine_of self.new) result }
-    {
-        self.do_traced(&Event::Process { record: number })
-    }
-
-    // Requests a record, without taking what the event sends. The event is written for each case,
-    // since it is in no memory where nothing is traced.
-    #[inline(always)]
-    fn request(&mut self, number: RecordNo) -> Reply
-        ensures { Gives (stepped_on record_rules (machine_of self.old) (Process number)) (machine_of self.new) result }
-    {
-        if self.traced.is_some() {
-            self.request_traced(number)
-        } else {
-            self.do_event(&Event::Process { record: number })
-        }
-    }
-
-    // Puts the value of a text into a field, without taking what the event sends.
-    #[inline(always)]
-    fn put_text(&mut self, number: RecordNo, field: FieldNo, text: &[u8]) -> Reply
-        ensures { Gives (stepped_on record_rules (machine_of self.old) (Put number field (input_of text.now)))
-            (machine_of self.new) result }
-    {
-        if self.traced.is_some() {
-            self.store_traced(number, field, text)
-        } else {
-            self.store(number, field, text)
-        }
     }
 
     // Changes a link, without taking what the change sends.
@@ -376,7 +288,7 @@ impl Machine {
         ensures { IfOk result (λ reply. Gives (done record_rules (machine_of self.old) (Process number))
             (machine_of self.new) reply) }
     {
-        let reply = self.request(number);
+        let reply = self.run(&Deed::Process(number));
         self.send()?;
         Ok(reply)
     }
@@ -404,7 +316,7 @@ impl Machine {
         ensures { IfOk result (λ reply. Gives (done record_rules (machine_of self.old) (Put number field (input_of text.now)))
             (machine_of self.new) reply) }
     {
-        let reply = self.put_text(number, field, text);
+        let reply = self.run(&Deed::Put(number, field, text));
         self.send()?;
         Ok(reply)
     }
@@ -423,11 +335,7 @@ impl Machine {
         ensures { IfOk result (λ reply. Gives (done record_rules (machine_of self.old) (Complete number wait finished))
             (machine_of self.new) reply) }
     {
-        let reply = self.do_either(&Event::Complete {
-            record: number,
-            wait,
-            finished,
-        });
+        let reply = self.run(&Deed::Complete(number, wait, finished));
         self.send()?;
         Ok(reply)
     }
@@ -474,12 +382,7 @@ impl Machine {
             (machine_of self.new) reply) }
     {
         let notification = NotifyId::new(self.next);
-        let reply = self.do_either(&Event::Notify {
-            record: number,
-            notification,
-            field,
-            value: given,
-        });
+        let reply = self.run(&Deed::Notify(number, notification, field, given));
         self.send()?;
         if !matches!(reply, Reply::Refused(_)) {
             self.next = self.next.saturating_add(1);
@@ -496,7 +399,7 @@ impl Machine {
         ensures { IfOk result (λ reply. Gives (given_up record_rules (machine_of self.old) notification)
             (machine_of self.new) reply) }
     {
-        let reply = self.do_either(&Event::Cancel { notification });
+        let reply = self.run(&Deed::Cancel(notification));
         self.send()?;
         Ok(reply)
     }
