@@ -331,7 +331,7 @@ class Case:
         """The words of a run of ioc, and its journal."""
         journal = self.runner.path(f"{kind}.journal")
         pathlib.Path(journal).unlink(missing_ok=True)
-        return ["--workers", str(self.generator.choice([1, 1, 2, 3, 8])), "--journal", journal, *self.macros], journal
+        return ["--workers", str(self.generator.choice([1, 1, 2, 3, 8])), "--overwrite", "--journal", journal, *self.macros], journal
 
     def ticks(self, plain):
         words, journal = self.begin("ticks")
@@ -528,8 +528,8 @@ class Case:
             ["ioc-replay", self.database, self.runner.path("script"), *self.macros],
             ["ioc-replay", "--test", "--echo", "--explain", "--trace", self.database, self.runner.path("script"), *self.macros],
             ["ioc-check", self.database, *self.macros, *self.generator.choice([[], ["--sets"], ["--dot"], ["--write", out]])],
-            ["ioc", self.database, "--ticks", "5", "--workers", "1", "--journal", journal, *self.macros],
-            ["ioc", self.database, "--console", "--workers", "1", "--journal", journal, *self.macros],
+            ["ioc", self.database, "--ticks", "5", "--workers", "1", "--overwrite", "--journal", journal, *self.macros],
+            ["ioc", self.database, "--console", "--workers", "1", "--overwrite", "--journal", journal, *self.macros],
         ]
         kept = self.runner.path("console.journal")
         if os.path.exists(kept):

@@ -54,7 +54,7 @@ def runs(folder, ticks):
         "1 worker": ioc(ticks, "1"),
         "2 workers": ioc(ticks, "2"),
         "4 workers": ioc(ticks, "4"),
-        "1 worker, with a journal": (*ioc(ticks, "1"), "--journal", journal),
+        "1 worker, with a journal": (*ioc(ticks, "1"), "--overwrite", "--journal", journal),
         "audit of this journal": (BIN / "ioc-audit", text, journal),
         "plain, start": (plain, "1", "1", "10", "scan"),
         "plain, 1 worker": (plain, ticks, "1", "10", "scan"),

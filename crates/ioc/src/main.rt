@@ -12,7 +12,7 @@ use ioc_engine::{Database, LoadError, SystemClock, load};
 use std::alloc::{Alloc, Global};
 use std::env;
 use std::fs::{File, Files};
-use std::io::{self, BufReader, IsTerminal, Print, Read, Write};
+use std::io::{self, BufReader, ErrorKind, IsTerminal, Print, Read, Write};
 use std::process::ExitCode;
 use std::sync::Wait;
 use std::thread::Threads;
@@ -36,7 +36,8 @@ fn loaded<R: Files + Alloc<A = Global>>(rt: &R, args: &Args<'_>) -> Result<Datab
     }
 }
 
-// Creates the file of the journal, if it is kept.
+// Creates the file of the journal, if it is kept. A file that is there already is written over only if
+// that is asked for.
 fn journal_of<R: Files + Alloc<A = Global>>(
     rt: &R,
     args: &Args<'_>,
@@ -44,9 +45,23 @@ fn journal_of<R: Files + Alloc<A = Global>>(
     let Some(path) = args.journal else {
         return Ok(None);
     };
-    match File::create(rt, path) {
+    let created = if args.overwrites {
+        File::create(rt, path)
+    } else {
+        File::create_new(rt, path)
+    };
+    match created {
         Ok(file) => Ok(Some(file)),
+        Err(error) if error.kind() == ErrorKind::AlreadyExists => Err(exists(rt.alloc(), path)),
         Err(error) => Err(unwritable(rt.alloc(), path, Reason::of(&error))),
+    }
+}
+
+// Returns why the program stops if the journal's file is there already.
+fn exists(alloc: Global, path: &str) -> Stop {
+    match String::from_str(alloc, path) {
+        Ok(path) => Stop::Exists(path),
+        Err(_) => Stop::Memory(Stage::Loading),
     }
 }
 

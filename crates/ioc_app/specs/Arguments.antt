@@ -2,10 +2,10 @@
 use Rattle.std.specs.Prelude.{◌≡◌, ◌≤◌, ℕ, true, false, List, [], Some, codes, option_map}
 use Rattle.std.specs.Str.Parse.{digits_value, without_leading_plus}
 use Rattle.clap.specs.Words.{App, Row, Rule, Text, first_of, matches_of, new_rule, with_rule}
-use Rattle.clap.specs.declared.builder.action.ArgAction.TheVariants.{SetTrue}
 use Rattle.clap.specs.declared.builder.value_parser.ValueParser.TheVariants.{Unsigned}
 use Rattle.ioc_command_line.specs.CommandLine.{definitions_in, definitions_rule, file_rule, macros_rule, program_app}
 use Rattle.ioc_command_line.specs.Definitions.{all_defined}
+use Rattle.ioc_command_line.specs.Flags.{flag_rule, is_true}
 use Rattle.ioc_app.specs.declared.arguments.Args.{Args}
 use Rattle.ioc_app.specs.declared.arguments.Mode.{Mode}
 use Rattle.ioc_app.specs.declared.arguments.Mode.TheVariants.{Console, Ticks}
@@ -18,10 +18,6 @@ number_rule name most = record (new_rule name) { long = Some name; value_names =
 abbrev pub ticks_rule : Rule
 ticks_rule = record (number_rule (codes "ticks") 1000000) { is_free = false }
 
--- The flag of the console.
-abbrev pub console_rule : Rule
-console_rule = record (new_rule (codes "console")) { long = Some (codes "console"); action = Some SetTrue }
-
 -- The option of the workers.
 abbrev pub workers_rule : Rule
 workers_rule = record (number_rule (codes "workers") 64) { required = true }
@@ -33,9 +29,9 @@ file_option_rule name = record (new_rule name) { long = Some name; value_names =
 -- The arguments of the program.
 unfoldable pub ioc_words : App
 ioc_words =
-    with_rule (with_rule (with_rule (with_rule (with_rule (with_rule (with_rule (program_app (codes "ioc"))
-    (file_rule (codes "DB"))) ticks_rule) console_rule) workers_rule)
-    (file_option_rule (codes "journal"))) definitions_rule) macros_rule
+    with_rule (with_rule (with_rule (with_rule (with_rule (with_rule (with_rule (with_rule (program_app (codes "ioc"))
+    (file_rule (codes "DB"))) ticks_rule) (flag_rule (codes "console"))) workers_rule)
+    (file_option_rule (codes "journal"))) (flag_rule (codes "overwrite"))) definitions_rule) macros_rule
 
 -- The number that the first value of an option has, which lies between 1 and `most`.
 pub record IsNumber (rows : List Row) (id : Text) (most : ℕ) (number : ℕ) : Type 0 where
@@ -56,6 +52,7 @@ pub record IsAskedBy (rows : List Row) (args : Args) : Type 0 where
   pub mode : IsMode rows args.mode
   pub workers : IsNumber rows (codes "workers") 64 args.workers
   pub journal : first_of (codes "journal") rows ≡ option_map (λ s. s.now) args.journal
+  pub overwrites : args.overwrites ≡ is_true (first_of (codes "overwrite") rows)
   pub macros : all_defined [] (definitions_in rows) ≡ Some args.macros
 
 -- The same of the words, by what the program makes of them.

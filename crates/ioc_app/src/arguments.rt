@@ -3,13 +3,14 @@ ghost use Rattle.std.specs.Prelude.{◌≡◌, ◌≤◌, ℕ, true, false, map,
 ghost use Rattle.std.specs.String.{string_bytes};
 ghost use Rattle.clap.specs.Words.{app_of, found_of, rows_of, rule_of};
 ghost use Rattle.ioc_command_line.specs.CommandLine.{program_app};
-ghost use Rattle.ioc_app.specs.Arguments.{IsNumber, IsMode, IsAskedBy, IsAskedByWords, ioc_words, number_rule, ticks_rule, console_rule, workers_rule, file_option_rule};
+ghost use Rattle.ioc_app.specs.Arguments.{IsNumber, IsMode, IsAskedBy, IsAskedByWords, ioc_words, number_rule, ticks_rule, workers_rule, file_option_rule};
 ghost use Rattle.ioc_app.specs.declared.arguments.Mode.TheVariants.{Ticks};
 
 use clap::builder::ValueParser;
-use clap::{Arg, ArgAction, ArgMatches, Command};
+use clap::{Arg, ArgMatches, Command};
 use ioc_command_line::{
-    Program, Stop, UsageFault, definitions_argument, file_argument, macros_in, macros_option, parse,
+    Program, Stop, UsageFault, definitions_argument, file_argument, flag, is_given, macros_in,
+    macros_option, parse,
 };
 use ioc_dblex::Macros;
 use std::alloc::{AllocError, Global};
@@ -51,6 +52,8 @@ const CONSOLE: &str = "console";
 
 const JOURNAL: &str = "journal";
 
+const OVERWRITE: &str = "overwrite";
+
 /// What the program does with the records.
 #[derive(Clone, Copy, Debug, PartialEq, Eq)]
 pub enum Mode {
@@ -76,6 +79,8 @@ pub struct Args<'a> {
     pub workers: u64,
     /// The path of the file to which the journal is written.
     pub journal: Option<&'a str>,
+    /// Whether a file that is there already may be written over.
+    pub overwrites: bool,
 }
 
 // Returns the option of a number from 1 to `most`.
@@ -98,17 +103,6 @@ fn ticks_option<'a>(alloc: Global) -> Result<Arg<'a>, AllocError>
     number_option(alloc, TICKS, MAX_TICKS, "how many ticks")
         .required_unless_present(CONSOLE)?
         .conflicts_with(CONSOLE)
-}
-
-// Returns the flag of the console.
-fn console_flag<'a>(alloc: Global) -> Arg<'a>
-    ensures rule { rule_of result ≡ console_rule }
-    ensures local { result.global ≡ false }
-{
-    Arg::new(alloc, CONSOLE)
-        .long(CONSOLE)
-        .action(ArgAction::SetTrue)
-        .help("answers the lines of standard input, in place of ticks")
 }
 
 // Returns the option of the workers.
@@ -140,9 +134,14 @@ fn command<'a>(alloc: Global) -> Result<Command<'a>, AllocError>
         .command(alloc)
         .arg(file_argument(alloc, DATABASE, "the database text"))?
         .arg(ticks_option(alloc)?)?
-        .arg(console_flag(alloc))?
+        .arg(flag(
+            alloc,
+            CONSOLE,
+            "answers the lines of standard input, in place of ticks",
+        ))?
         .arg(workers_option(alloc))?
-        .arg(file_option(alloc, JOURNAL, "the journal is written to this file"))?
+        .arg(file_option(alloc, JOURNAL, "the journal is written to this new file"))?
+        .arg(flag(alloc, OVERWRITE, "the journal's file may be there already"))?
         .arg(definitions_argument(alloc))?
         .arg(macros_option(alloc))
 }
@@ -186,11 +185,12 @@ fn read<'a>(alloc: Global, matches: &ArgMatches<'a>) -> Result<Args<'a>, Stop>
         mode,
         workers,
         journal: matches.get_str(JOURNAL),
+        overwrites: is_given(matches, OVERWRITE),
     })
 }
 
 /// Reads the words of a command line, of which the first is the program's name: DB, `--ticks N` or
-/// `--console`, `--workers W`, `--journal FILE`, and definitions of macros, as `NAME=VALUE`, `P=a,R=b`, or with
+/// `--console`, `--workers W`, `--journal FILE`, `--overwrite`, and definitions of macros, as `NAME=VALUE`, `P=a,R=b`, or with
 /// `-m` before them.
 ///
 /// # Errors

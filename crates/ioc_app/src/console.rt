@@ -39,6 +39,7 @@ struct Answerer<E: Write + Drop> {
 #[derive(Drop)]
 struct Talk<
     'a,
+    's,
     'e,
     E: Write + Drop,
     B: EngineName<D>,
@@ -50,7 +51,7 @@ struct Talk<
 > {
     answerer: &'a mut Answerer<E>,
     caller: Caller<'e, B, D, C, R>,
-    streams: &'a mut Streams<W, J>,
+    streams: &'s mut Streams<W, J>,
     // The reply to a line.
     said: Vec<u8>,
 }
@@ -357,7 +358,7 @@ impl<
     W: Write + Drop,
     J: Write + Drop,
     R: Wait,
-> Answering for Talk<'_, '_, E, B, D, C, W, J, R> {
+> Answering for Talk<'_, '_, '_, E, B, D, C, W, J, R> {
     type Fault = RunFault;
 
     fn answer(&mut self, number: u64, line: &[u8]) -> Result<Then, RunFault> {
@@ -365,16 +366,14 @@ impl<
         self.said.clear();
         let (caller, streams) = (&mut self.caller, &mut *self.streams);
         let then = self.answerer.answer(caller, line, &mut self.said, streams)?;
+        let Caller {
+            rt,
+            engine,
+            desk,
+            ..
+        } = &mut self.caller;
+        self.streams.write_new(*rt, *engine, desk)?;
         self.streams.write(self.said.as_slice())?;
-        if let Then::More = then {
-            let Caller {
-                rt,
-                engine,
-                desk,
-                ..
-            } = &mut self.caller;
-            self.streams.write_new(*rt, *engine, desk)?;
-        }
         Ok(then)
     }
 

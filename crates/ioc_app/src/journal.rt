@@ -1,5 +1,6 @@
 //! The journal's file.
 use crate::fault::RunFault;
+use crate::running::PLACES;
 use ioc_command_line::Reason;
 use ioc_engine::{Desk, Device, Engine, EngineName, Excerpt, JournalEntry, Report};
 use ioc_journal_file::{add_entries, add_entry};
@@ -10,10 +11,11 @@ use std::sync::Wait;
 // How many bytes of lines are written at once.
 const BYTES_AT_ONCE: usize = 65_536;
 
-// How many entries are copied at once, while calls wait, and how often after each tick.
+// How many entries are copied at once, while calls wait.
 const ENTRIES_AT_ONCE: usize = 64;
 
-const COPIES: usize = 1_024;
+// How often entries are copied at most: as many as a journal has in memory.
+const COPIES: u64 = PLACES / 64;
 
 /// Writes the entries of a journal as lines, in the order of their places.
 #[derive(Drop)]
@@ -129,8 +131,9 @@ impl<J: Write + Drop> JournalWriter<J> {
         self.flush()
     }
 
-    /// Writes the entries that an engine has beyond those before, and has it drop them if there are
-    /// many.
+    /// Writes the entries that an engine has beyond those before, all that were in its journal when
+    /// this was called among them, and has it drop them if there are many. What a line tells of a call
+    /// may be written once its entry is.
     ///
     /// # Errors
     ///
@@ -146,6 +149,7 @@ impl<J: Write + Drop> JournalWriter<J> {
                 break;
             }
         }
+        self.flush()?;
         if self.place.saturating_sub(self.kept) > self.most {
             self.checkpoint(rt, engine, desk)?;
         }

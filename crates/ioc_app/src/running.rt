@@ -13,8 +13,8 @@ use std::marker::Brand;
 use std::sync::Wait;
 use std::thread::{self, Threads};
 
-// The number of calls that a journal can take.
-const PLACES: u64 = 4_194_304;
+/// The number of calls that a journal can take.
+pub(crate) const PLACES: u64 = 4_194_304;
 
 // The number of requests that can wait at the same time.
 const MAX_WAITING: usize = 7_000;

@@ -1,8 +1,8 @@
 -- What a command line with two files says, by its matches.
-use Rattle.std.proofs.Common.{◌≡◌, ◌∙◌, ℕ, List, [], Option, refl, sym, ap, subst, inl, inr, map}
+use Rattle.std.proofs.Common.{◌≡◌, ◌∙◌, ℕ, List, [], Option, Some, refl, sym, ap, subst, inl, inr, map}
 use Rattle.std.specs.Prelude.{unwrap_or, option_map}
 use Rattle.std.specs.Borrow.{Bor}
-use Rattle.clap.specs.Words.{App, HasMatchesOf, Text, first_of, first_value, found_of, matched_of, raw_values, rows_of}
+use Rattle.clap.specs.Words.{App, HasMatchesOf, Rule, Text, first_of, first_value, found_of, matched_of, raw_values, rows_of, with_rule}
 use Rattle.clap.specs.declared.error.kind.ErrorKind.TheVariants.{OutOfMemory}
 use Rattle.clap.specs.declared.parser.matches.ArgMatches.{ArgMatches}
 use Rattle.clap.proofs.WalkLemmas.{first_value-rows, raw_values-rows}
@@ -23,6 +23,15 @@ values_are m id o is = ap (λ (v : Option (List Text)). unwrap_or v []) (sym (ra
 pub first_is : (m : ArgMatches) (id : Text) (o : Option (Bor (List ℕ))) → option_map (λ s. s.now) o ≡ first_value (found_of m) id
     → first_of id (rows_of (found_of m)) ≡ option_map (λ s. s.now) o
 first_is m id o is = sym (is ∙ first_value-rows (found_of m) id)
+
+-- The same, where it has one.
+pub first_some : (m : ArgMatches) (id : Text) (o : Option (Bor (List ℕ))) (s : Bor (List ℕ)) → option_map (λ s. s.now) o ≡ first_value (found_of m) id
+    → o ≡ Some s → first_of id (rows_of (found_of m)) ≡ Some s.now
+first_some m id o s is some = first_is m id o is ∙ ap (option_map (λ s. s.now)) some
+
+-- An argument more.
+pub more : (app : App) (old : App) (rule known : Rule) (new : App) → new ≡ with_rule app rule → app ≡ old → rule ≡ known → new ≡ with_rule old known
+more app old rule known new is same_app same_rule = is ∙ ap (λ a. with_rule a rule) same_app ∙ ap (with_rule old) same_rule
 
 pub reads_words : (app : App) (words : List Text) (other : Text) (m : ArgMatches) (files : TwoFiles) → HasMatchesOf app words m → Reads (rows_of (found_of m)) other files → ReadsWords app other words files
 unfolding ReadsWords

@@ -14,7 +14,7 @@ use Rattle.ioc_command_line.specs.declared.ending.FileRole.TheVariants.{Database
 use Rattle.ioc_command_line.specs.declared.ending.UsageFault.{UsageFault}
 use Rattle.ioc_command_line.specs.declared.ending.UsageFault.TheVariants.{NoDefinition, NoArgument, NotText}
 use Rattle.ioc_command_line.specs.declared.ending.Stop.{Stop}
-use Rattle.ioc_command_line.specs.declared.ending.Stop.TheVariants.{Shown, Refused, Usage, Unreadable, Unwritable, BadDb, Write, Memory}
+use Rattle.ioc_command_line.specs.declared.ending.Stop.TheVariants.{Shown, Refused, Usage, Unreadable, Unwritable, Exists, BadDb, Write, Memory}
 use Rattle.ioc_command_line.specs.declared.ending.Ending.{Ending}
 use Rattle.ioc_command_line.specs.declared.ending.Stream.{Stream}
 use Rattle.ioc_command_line.specs.declared.ending.Stream.TheVariants as stream
@@ -68,6 +68,7 @@ status_of (Refused text) = 2
 status_of (Usage fault) = 2
 status_of (Unreadable role path reason) = 3
 status_of (Unwritable role path reason) = 3
+status_of (Exists path) = 3
 status_of (Write reason) = 3
 status_of (Memory stage) = 4
 
@@ -78,6 +79,7 @@ stop_text (Refused text) = string_bytes text
 stop_text (Usage fault) = usage_text fault ++ codes " (--help tells what it takes)"
 stop_text (Unreadable role path reason) = codes "cannot read " ++ role_text role ++ codes " '" ++ string_bytes path ++ codes "': " ++ reason_text reason
 stop_text (Unwritable role path reason) = codes "cannot write " ++ role_text role ++ codes " '" ++ string_bytes path ++ codes "': " ++ reason_text reason
+stop_text (Exists path) = string_bytes path ++ codes " is there already: name another file, or --overwrite"
 stop_text (BadDb fault) = db_fault_text fault
 stop_text (Write reason) = codes "cannot write the replies: " ++ reason_text reason
 stop_text (Memory Loading) = codes "out of memory while loading"

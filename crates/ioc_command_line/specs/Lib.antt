@@ -2,3 +2,4 @@ pub mod CommandLine
 pub mod Definitions
 pub mod Endings
 pub mod Files
+pub mod Flags

@@ -59,6 +59,8 @@ pub enum Stop {
     Unreadable(FileRole, String, Reason),
     /// The file of this path could not be created or written.
     Unwritable(FileRole, String, Reason),
+    /// The file of this path, which is to be new, is there already.
+    Exists(String),
     /// The database text is invalid.
     BadDb(DbFault),
     /// What the program says could not be written.
@@ -111,7 +113,7 @@ impl Stop {
             Stop::Shown(_) => 0,
             Stop::BadDb(_) => 1,
             Stop::Refused(_) | Stop::Usage(_) => 2,
-            Stop::Unreadable(..) | Stop::Unwritable(..) | Stop::Write(_) => 3,
+            Stop::Unreadable(..) | Stop::Unwritable(..) | Stop::Exists(_) | Stop::Write(_) => 3,
             Stop::Memory(_) => 4,
         }
     }
@@ -205,6 +207,12 @@ impl fmt::Display for Stop {
             }
             Stop::Unwritable(role, path, reason) => {
                 write!(f, "cannot write {role} '{path}': {reason}")
+            }
+            Stop::Exists(path) => {
+                write!(
+                    f,
+                    "{path} is there already: name another file, or --overwrite"
+                )
             }
             Stop::BadDb(fault) => fault.fmt(f),
             Stop::Write(reason) => write!(f, "cannot write the replies: {reason}"),

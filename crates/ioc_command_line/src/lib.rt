@@ -6,6 +6,7 @@ mod command_line;
 mod definitions;
 mod ending;
 mod files;
+mod flags;
 mod reason;
 mod two_files;
 
@@ -13,5 +14,6 @@ pub use command_line::{Program, definitions_argument, file_argument, given, macr
 pub use definitions::{define, defined};
 pub use ending::{Ending, FileRole, Stage, Stop, Stream, UsageFault, unreadable};
 pub use files::{open, read_whole, show};
+pub use flags::{flag, is_given};
 pub use reason::{Reason, is_out_of_memory};
 pub use two_files::{TwoFiles, macros_in};

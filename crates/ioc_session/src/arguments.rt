@@ -1,13 +1,13 @@
 //! The command line of `ioc-replay`.
-ghost use Rattle.std.specs.Prelude.{◌≡◌, false, map, IfOk};
+ghost use Rattle.std.specs.Prelude.{◌≡◌, map, IfOk};
 ghost use Rattle.std.specs.String.{string_bytes};
-ghost use Rattle.clap.specs.Words.{app_of, first_of, found_of, rows_of, rule_of};
-ghost use Rattle.ioc_session.specs.Arguments.{IsAskedBy, IsAskedByWords, flag_rule, is_true, words_of};
+ghost use Rattle.clap.specs.Words.{app_of, found_of, rows_of};
+ghost use Rattle.ioc_session.specs.Arguments.{IsAskedBy, IsAskedByWords, words_of};
 
-use clap::{Arg, ArgAction, ArgMatches, Command};
+use clap::{ArgMatches, Command};
 use ioc_command_line::{
-    Program, Stop, TwoFiles, UsageFault, definitions_argument, file_argument, macros_in,
-    macros_option, parse,
+    Program, Stop, TwoFiles, UsageFault, definitions_argument, file_argument, flag, is_given,
+    macros_in, macros_option, parse,
 };
 use std::alloc::{AllocError, Global};
 
@@ -75,17 +75,6 @@ impl Manner {
     }
 }
 
-// Returns a flag.
-fn flag<'a>(alloc: Global, name: &'a str, help: &'a str) -> Arg<'a>
-    ensures rule { rule_of result ≡ flag_rule name.entry.now }
-    ensures local { result.global ≡ false }
-{
-    Arg::new(alloc, name)
-        .long(name)
-        .action(ArgAction::SetTrue)
-        .help(help)
-}
-
 // Returns the command of the program.
 fn command<'a>(alloc: Global, program: &Program<'a>) -> Result<Command<'a>, AllocError>
     ensures { IfOk result (λ c. app_of c ≡ words_of program.now.name.now) }
@@ -110,16 +99,6 @@ fn command<'a>(alloc: Global, program: &Program<'a>) -> Result<Command<'a>, Allo
             TRACE,
             "prints what each line makes records do before its replies",
         ))
-}
-
-// Returns whether a flag is given.
-fn is_given(matches: &ArgMatches<'_>, name: &str) -> bool
-    ensures { result ≡ is_true (first_of name.now (rows_of (found_of matches.now))) }
-{
-    match matches.get_str(name) {
-        Some(word) => word.as_bytes() == b"true".as_slice(),
-        None => false,
-    }
 }
 
 // Returns what the matches ask for.

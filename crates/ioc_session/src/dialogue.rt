@@ -30,11 +30,11 @@ pub struct Dialogue<E: Write + Drop> {
 
 // A dialogue with the session whose replies it writes.
 #[derive(Drop)]
-struct Talk<'a, S: Session, W: Write, E: Write + Drop> {
+struct Talk<'d, 's, 'o, S: Session, W: Write, E: Write + Drop> {
     alloc: Global,
-    dialogue: &'a mut Dialogue<E>,
-    session: &'a mut S,
-    out: &'a mut W,
+    dialogue: &'d mut Dialogue<E>,
+    session: &'s mut S,
+    out: &'o mut W,
 }
 
 // Returns the fault of a write, if it failed.
@@ -161,7 +161,7 @@ impl<E: Write + Drop> Dialogue<E> {
     }
 }
 
-impl<S: Session, W: Write, E: Write + Drop> Answering for Talk<'_, S, W, E> {
+impl<S: Session, W: Write, E: Write + Drop> Answering for Talk<'_, '_, '_, S, W, E> {
     type Fault = ScriptFault;
 
     fn answer(&mut self, number: u64, line: &[u8]) -> Result<Then, ScriptFault> {

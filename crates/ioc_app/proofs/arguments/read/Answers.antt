@@ -8,5 +8,6 @@ returns c = record {
   mode = c.in_ok-mode.ensures;
   workers = c.in_ok-workers.ensures;
   journal = first_is c.args.matches.now (codes "journal") c.get_str-2.result c.get_str-2.ensures;
+  overwrites = c.is_given.ensures;
   macros = c.in_ok-macros.ensures.ok;
 }

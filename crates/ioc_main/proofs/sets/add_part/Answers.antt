@@ -1,4 +1,5 @@
 use Rattle.std.proofs.Common.{◌+◌, sym, arith}
+use Rattle.std.proofs.lemmas.Result.{on_ok_weaker}
 use Rattle.rec_types.specs.Record.{record_rules}
 use Rattle.ioc_store.specs.OneMap.{world_of}
 use Rattle.ioc_graph.specs.Members.{members_from}
@@ -21,9 +22,10 @@ pub loop-number-preserved : goal.loop-number-preserved
 loop-number-preserved c =
     let i = c.loop-number.invariant in
     let s = follow_step c.args.next.now c.loop-number.number i.0 i.1 c.loop-number-test.true in
-    (s.0, s.3, names_step record_rules (world_of c.args.map.now) c.loop-number.line.items c.add_to_set.new.line.items _ i.0 s.0 c.loop-number.number (rw (sym c.name_of-2.ensures) c.in_ok-add_to_set.ensures) s.1 i.2)
+    (s.0, s.3, names_step record_rules (world_of c.args.map.now) c.loop-number.line.items c.add_to_set.new.line.items _ i.0 s.0 c.loop-number.number (rw (sym c.name_of-in-loop-number.ensures) c.in_ok-add_to_set.ensures) s.1 i.2)
 
 pub returns : goal.returns
 returns c =
     let i = c.loop-number.invariant in
-    names_end record_rules (world_of c.args.map.now) c.loop-number.line.items c.push.new.self.items _ i.0 c.in_ok-push.ensures.items (follow_end c.args.next.now c.loop-number.number i.0 i.1 c.loop-number-test.false) i.2
+    let ends = follow_end c.args.next.now c.loop-number.number i.0 i.1 c.loop-number-test.false in
+    on_ok_weaker c.end_set.result (λ e. names_end record_rules (world_of c.args.map.now) c.loop-number.line.items c.end_set.new.line.items _ i.0 e ends i.2) c.end_set.ensures

@@ -1,7 +1,7 @@
 use Rattle.std.proofs.lemmas.Result.{IfOk-weaker}
 use Rattle.ioc_command_line.specs.CommandLine.{two_files_app}
 use Rattle.ioc_session.specs.Arguments.{words_of}
-use Rattle.ioc_session.proofs.Asking.{more}
+use Rattle.ioc_command_line.proofs.Matching.{more}
 use Rattle.ioc_session.proofs.arguments.command.Goals as goal
 
 pub returns : goal.returns

@@ -1,5 +1,5 @@
 use Rattle.std.proofs.Common.{rules, codes}
-use Rattle.ioc_session.proofs.Asking.{first_some}
+use Rattle.ioc_command_line.proofs.Matching.{first_some}
 use Rattle.ioc_session.proofs.arguments.read.Goals as goal
 
 pub returns : goal.returns
@@ -13,5 +13,5 @@ returns c = record {
   echo = c.is_given-2.ensures;
   explained = c.is_given-3.ensures;
   traced = c.is_given-4.ensures;
-  help = search rules;
+  prompt = search rules;
 }

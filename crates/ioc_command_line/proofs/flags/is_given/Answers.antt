@@ -1,9 +1,8 @@
 use Rattle.std.proofs.Common.{rules, ◌≡◌, ◌∙◌, Option, None, Some, ap, sym}
 use Rattle.std.specs.Prelude.{option_map}
-use Rattle.ioc_command_line.proofs.Matching.{first_is}
-use Rattle.ioc_session.specs.Arguments.{is_true}
-use Rattle.ioc_session.proofs.Asking.{first_some}
-use Rattle.ioc_session.proofs.arguments.is_given.Goals as goal
+use Rattle.ioc_command_line.proofs.Matching.{first_is, first_some}
+use Rattle.ioc_command_line.specs.Flags.{is_true}
+use Rattle.ioc_command_line.proofs.flags.is_given.Goals as goal
 
 pub returns-in-Some : goal.returns-in-Some
 returns-in-Some c =
