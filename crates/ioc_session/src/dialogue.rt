@@ -91,11 +91,15 @@ impl<E: Write + Drop> Dialogue<E> {
         let Some(directory) = &self.directory else {
             return Ok(());
         };
-        if let Some(explanation) = Explanation::of(directory, self.dialect(), line, reply)? {
-            written(out.flush())?;
-            let _written = writeln!(&mut self.errors, "line {number}: {explanation}");
+        match Explanation::of(directory, self.dialect(), line, reply) {
+            Ok(Some(explanation)) => {
+                written(out.flush())?;
+                let _written = writeln!(&mut self.errors, "line {number}: {explanation}");
+                Ok(())
+            }
+            Ok(None) => Ok(()),
+            Err(_) => Err(LineFault::Memory),
         }
-        Ok(())
     }
 
     // Answers a line of the script.
