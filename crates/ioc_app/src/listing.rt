@@ -1,11 +1,10 @@
 //! The records of a database by their names, and the replies of several lines.
 use crate::pattern::matches;
+use ioc_commands::{add_to_set, begin_set, begin_sets, end_set, end_sets};
 use ioc_dbfile::Database;
 use ioc_events::Reply;
 use ioc_fields::{FieldNo, RecordType, name_of};
-use ioc_main::{
-    LineReply, add_to_set, begin_set, begin_sets, count_line, end_set, end_sets, say_reply,
-};
+use ioc_main::{LineReply, count_line, say_reply};
 use ioc_names::RecordNo;
 use ioc_record::RecordKind;
 use ioc_values::Name;

@@ -64,9 +64,7 @@ fn run<R: BufRead, W: Write>(
         Err(fault) => return Err(stop_of(alloc, fault, words.journal)),
     };
     let mut said = Vec::new(alloc);
-    if let Audited::Agree(count) = &audited {
-        add_shown(alloc, words, &found, auditor.map(), *count, &mut said)?;
-    }
+    add_shown(alloc, words, &found, auditor.map(), &audited, &mut said)?;
     match out.write_all(said.as_slice()) {
         Ok(()) => Ok(told_of(alloc, words.journal, audited)?),
         Err(e) => Err(Stop::Write(Reason::of(&e))),

@@ -4,7 +4,7 @@ use ioc_command_line::Stop;
 use ioc_dbfile::Database;
 use ioc_dblex::split_at_byte;
 use ioc_fields::{FieldNo, field};
-use ioc_journal_audit::{PlayedMap, add_sets};
+use ioc_journal_audit::{Audited, PlayedMap, add_sets};
 use ioc_names::RecordNo;
 use ioc_record::{RecordKind, text_of};
 use ioc_store::Store;
@@ -104,6 +104,18 @@ fn add_field(
     Ok(())
 }
 
+// Appends how many entries agree, and whether the line behind them is cut off.
+fn add_count(out: &mut String, count: u64, is_cut_off: bool) -> Result<(), AllocError> {
+    if is_cut_off {
+        write!(out, "line {} is cut off; ", count.saturating_add(1))?;
+    }
+    if count == 1 {
+        writeln!(out, "1 entry agrees")
+    } else {
+        writeln!(out, "{count} entries agree")
+    }
+}
+
 /// Appends the lines of what was asked for, and how many entries agree.
 ///
 /// # Errors
@@ -114,9 +126,14 @@ pub fn add_shown(
     words: &Words<'_>,
     found: &Found,
     map: &PlayedMap<Record>,
-    count: u64,
+    audited: &Audited,
     out: &mut Vec<u8>,
 ) -> Result<(), AllocError> {
+    let (count, is_cut_off) = match audited {
+        Audited::Agree(count) => (*count, false),
+        Audited::CutOff(count) => (*count, true),
+        Audited::Differs(..) | Audited::NoEntry(_) => return Ok(()),
+    };
     for (word, place) in words.shown.iter().zip(found.shown.iter()) {
         add_field(map, word, place, out)?;
     }
@@ -124,6 +141,6 @@ pub fn add_shown(
         add_sets(alloc, map.records(), out)?;
     }
     let mut text = String::new(alloc);
-    writeln!(text, "{count} entries agree")?;
+    add_count(&mut text, count, is_cut_off)?;
     out.extend_from_slice(text.as_bytes())
 }

@@ -67,7 +67,7 @@ pub fn told_of(alloc: Global, journal: &str, audited: Audited) -> Result<Telling
     let name = PROGRAM.name;
     let mut text = String::new(alloc);
     match audited {
-        Audited::Agree(_) => return Ok(Telling::Agreement),
+        Audited::Agree(_) | Audited::CutOff(_) => return Ok(Telling::Agreement),
         Audited::Differs(line, difference) => {
             write!(text, "{name}: journal '{journal}' line {line}: ")?;
             add_difference(alloc, &mut text, &difference)?;

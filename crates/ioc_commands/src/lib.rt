@@ -1,5 +1,5 @@
 //! The command language of scripts, prompts and the console: how each command is written, what a line
-//! asks for, and what is wrong with a line that asks for nothing.
+//! asks for, what is wrong with a line that asks for nothing, and the line of lock sets.
 #![tactic(auto)]
 
 mod bad_line;
@@ -9,6 +9,7 @@ mod layout;
 mod parts;
 mod quoted;
 mod request;
+mod sets_line;
 mod table;
 mod verb;
 
@@ -19,4 +20,5 @@ pub use layout::LayoutFault;
 pub use parts::{cut_at, split_before};
 pub use quoted::{Quoted, Shown};
 pub use request::{MAX_TICKS_OF_A_LINE, Request};
+pub use sets_line::{add_to_set, begin_set, begin_sets, end_set, end_sets};
 pub use verb::{Dialect, Verb};

@@ -6,7 +6,9 @@ use Rattle.std.proofs.Common.{◌⊎◌, inl, inr}
 use Rattle.std.proofs.lemmas.Bool.Decides.{Decides-eqb}
 use Rattle.std.specs.Io.BufRead.{DropsThrough}
 use Rattle.ioc_journal_audit.specs.declared.difference.Difference.{Difference}
-use Rattle.ioc_journal_audit.specs.Journal.{Differed, Ended, AllAgreed, IsNoEntry}
+use Rattle.ioc_journal_audit.specs.Journal.{Differed, Ended, AllAgreed, IsNoEntry, IsCutOff, IsEnd, IsWhole, Finds}
+use Rattle.ioc_journal_audit.specs.declared.journal.Audited.{Audited}
+use Rattle.ioc_journal_audit.specs.declared.journal.Audited.TheVariants.{Agree, Differs, NoEntry, CutOff}
 use Rattle.std.specs.Io.BufRead.{take_through, drop_through}
 use Rattle.ioc_device.specs.declared.Answer.{Answer}
 use Rattle.ioc_events.specs.declared.event.Call.{Call}
@@ -149,10 +151,24 @@ finds_difference a m b (Some text) left new line some count n difference so read
     let read : ReadsLine so.0 some line new = subst (λ (o : Option (List ℕ)). IfSome o (λ rest. ReadsLine rest some line new)) so.1.0 reads in
     (count, (is, found_differed a m b text so.0 line count difference so.1.1 read.first checks))
 
-pub finds_no_entry : (a m : Auditor) (bytes left new : Option (List ℕ)) (line : List ℕ) (some : Bool) (count n : ℕ) → ReadSoFar a bytes m left count → IfSome left (λ rest. ReadsLine rest some line new) → some ≡ true
-    → IsNoEntry line → n ≡ suc count → IfSome bytes (λ text. (k : ℕ) × ((n ≡ suc k) × Ended a text k))
-finds_no_entry a m None left new line some count n so reads more none is = tt
-finds_no_entry a m (Some text) left new line some count n so reads more none is =
+-- A line that no entry has ends the audit, whole or cut off.
+pub finds_ended : (a m b : Auditor) (bytes left new : Option (List ℕ)) (line : List ℕ) (some : Bool) (most count : ℕ) (found : Audited) → ReadSoFar a bytes m left count
+    → IfSome left (λ rest. ReadsLine rest some line new) → some ≡ true → IsNoEntry line × (b ≡ m) → IsEnd count line found → IfSome bytes (λ text. Finds a text most b found)
+finds_ended a m b None left new line some most count found so reads more none end = tt
+finds_ended a m b (Some text) left new line some most count (Agree n) so reads more none end = absurd end
+finds_ended a m b (Some text) left new line some most count (Differs n difference) so reads more none end = absurd end
+finds_ended a m b (Some text) left new line some most count (NoEntry n) so reads more none end =
     let read : ReadsLine so.0 some line new = subst (λ (o : Option (List ℕ)). IfSome o (λ rest. ReadsLine rest some line new)) so.1.0 reads in
     let there : ReadsLine so.0 true line new = subst (λ (b : Bool). ReadsLine so.0 b line new) more read in
-    (count, (is, found_ended a m text so.0 line new count so.1.1 there none))
+    (count, (end.0, found_ended a m text so.0 line new count so.1.1 there none.0))
+finds_ended a m b (Some text) left new line some most count (CutOff n) so reads more none end =
+    let read : ReadsLine so.0 some line new = subst (λ (o : Option (List ℕ)). IfSome o (λ rest. ReadsLine rest some line new)) so.1.0 reads in
+    let there : ReadsLine so.0 true line new = subst (λ (b : Bool). ReadsLine so.0 b line new) more read in
+    let is : IsCutOff a text m count = record {
+      rest = so.0;
+      agreed = so.1.1;
+      some = not_empty so.0 line new there;
+      none = subst (λ (l : List ℕ). IsNoEntry l) read.first none.0;
+      cut = λ whole. end.1 (subst (λ (l : List ℕ). IsWhole l) (sym read.first) whole);
+    } in
+    subst (λ (k : ℕ). IsCutOff a text b k) (sym end.0) (subst (λ (x : Auditor). IsCutOff a text x count) (sym none.1) is)

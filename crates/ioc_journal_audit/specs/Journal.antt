@@ -1,5 +1,5 @@
 -- What an audit finds in the text of a journal.
-use Rattle.std.specs.Prelude.{◌≡◌, ◌≢◌, ◌⊎◌, ℕ, suc, List, [], ◌∷◌, ◌++◌, length, Bool, not, ◌==◌, Option, Some, None}
+use Rattle.std.specs.Prelude.{◌≡◌, ◌≢◌, ◌⊎◌, ⊥, ℕ, suc, List, [], ◌∷◌, ◌++◌, length, Bool, not, ◌==◌, Option, Some, None}
 use Rattle.std.specs.Io.BufRead.{take_through, drop_through}
 use Rattle.ioc_device.specs.declared.Answer.{Answer}
 use Rattle.ioc_events.specs.declared.event.Call.{Call}
@@ -12,7 +12,7 @@ use Rattle.ioc_journal_audit.specs.declared.difference.Difference.{Difference}
 use Rattle.ioc_journal_audit.specs.declared.journal.Step.{Step}
 use Rattle.ioc_journal_audit.specs.declared.journal.Step.TheVariants.{Agrees as Agrees-step, Differs as Differs-step, NoEntry as NoEntry-step}
 use Rattle.ioc_journal_audit.specs.declared.journal.Audited.{Audited}
-use Rattle.ioc_journal_audit.specs.declared.journal.Audited.TheVariants.{Agree, Differs, NoEntry}
+use Rattle.ioc_journal_audit.specs.declared.journal.Audited.TheVariants.{Agree, Differs, NoEntry, CutOff}
 use Rattle.ioc_journal_audit.specs.Audit.{HasAudited, ChecksNext}
 use Rattle.ioc_journal_audit.specs.Legal.{IsLegal}
 use Rattle.ioc_store.specs.World.{World}
@@ -57,7 +57,7 @@ pub record Checks (before : Auditor) (text : List ℕ) (after : Auditor) (differ
 abbrev pub Steps : Auditor → List ℕ → Auditor → Step → Type 0
 Steps before text after Agrees-step = Checks before text after None
 Steps before text after (Differs-step difference) = Checks before text after (Some difference)
-Steps before text after NoEntry-step = IsNoEntry text
+Steps before text after NoEntry-step = IsNoEntry text × (after ≡ before)
 
 -- The text begins with these entries, which agree.
 pub record Agreed (before : Auditor) (text : List ℕ) (after : Auditor) (rest : List ℕ) (count : ℕ) : Type 0 where
@@ -87,6 +87,25 @@ pub record Ended (before : Auditor) (text : List ℕ) (count : ℕ) : Type 0 whe
   pub some : rest ≢ []
   pub none : IsNoEntry (take_through 10 rest)
 
+-- Holds if a line ends with a line feed.
+abbrev pub IsWhole : List ℕ → Type 0
+IsWhole line = (front : List ℕ) × (line ≡ front ++ 10 ∷ [])
+
+-- What is found where a line behind so many entries is none: whether it is whole.
+abbrev pub IsEnd : ℕ → List ℕ → Audited → Type 0
+IsEnd count line (Agree n) = ⊥
+IsEnd count line (Differs n difference) = ⊥
+IsEnd count line (NoEntry n) = (n ≡ suc count) × IsWhole line
+IsEnd count line (CutOff n) = (n ≡ count) × (IsWhole line → ⊥)
+
+-- The text begins with these entries, which agree, and then has a last line that isn't whole, and that no entry has.
+pub record IsCutOff (before : Auditor) (text : List ℕ) (after : Auditor) (count : ℕ) : Type 0 where
+  pub rest : List ℕ
+  pub agreed : Agreed before text after rest count
+  pub some : rest ≢ []
+  pub none : IsNoEntry (take_through 10 rest)
+  pub cut : IsWhole (take_through 10 rest) → ⊥
+
 -- The text begins with so many entries that agree, and these are all, or as many as were asked for.
 pub record AllAgreed (before : Auditor) (text : List ℕ) (most : ℕ) (after : Auditor) (count : ℕ) : Type 0 where
   pub rest : List ℕ
@@ -98,3 +117,4 @@ abbrev pub Finds : Auditor → List ℕ → ℕ → Auditor → Audited → Type
 Finds before text most after (Agree count) = AllAgreed before text most after count
 Finds before text most after (Differs n difference) = (count : ℕ) × ((n ≡ suc count) × Differed before text count)
 Finds before text most after (NoEntry n) = (count : ℕ) × ((n ≡ suc count) × Ended before text count)
+Finds before text most after (CutOff count) = IsCutOff before text after count

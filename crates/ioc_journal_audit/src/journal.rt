@@ -1,6 +1,7 @@
 //! Audits of journals, read line by line.
 ghost use Rattle.std.specs.Prelude.{IfOk, IfSome};
-ghost use Rattle.ioc_journal_audit.specs.Journal.{ReadsLine, Steps, Finds};
+ghost use Rattle.std.specs.Prelude.{◌<◌};
+ghost use Rattle.ioc_journal_audit.specs.Journal.{IsEnd, ReadsLine, Steps, Finds};
 
 use crate::auditor::Auditor;
 use crate::changes::Trace;
@@ -39,6 +40,9 @@ pub enum Audited {
     Differs(u64, Difference),
     /// This line, from 1 on, is no entry.
     NoEntry(u64),
+    /// So many entries agree, and the line behind them lacks its line feed: it is the last one, and
+    /// wasn't written to its end.
+    CutOff(u64),
 }
 
 // What comes of a line of a journal.
@@ -60,6 +64,17 @@ fn check_line(alloc: Global, auditor: &mut Auditor, text: &[u8]) -> Result<Step,
         },
         Err(LineError::NotALine) => Ok(Step::NoEntry),
         Err(LineError::NoMemory) => Err(AuditFault::Memory),
+    }
+}
+
+// What is found where the line behind so many entries that agree is no entry.
+fn ended(count: u64, text: &[u8]) -> Audited
+    requires { count < 18446744073709551615 }
+    ensures { IsEnd count text.now result }
+{
+    match text {
+        [.., b'\n'] => Audited::NoEntry(count + 1),
+        _ => Audited::CutOff(count),
     }
 }
 
@@ -121,7 +136,7 @@ pub fn audit<R: BufRead, W: Write>(
         match check_line(alloc, auditor, text.as_slice())? {
             Step::Agrees => {}
             Step::Differs(difference) => return Ok(Audited::Differs(count + 1, difference)),
-            Step::NoEntry => return Ok(Audited::NoEntry(count + 1)),
+            Step::NoEntry => return Ok(ended(count, text.as_slice())),
         }
         trace_line(alloc, auditor, trace, text.as_slice(), out)?;
         count += 1;

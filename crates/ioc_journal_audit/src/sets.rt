@@ -1,4 +1,5 @@
 //! The lock sets of a database.
+use ioc_commands::{add_to_set, begin_set, begin_sets, end_set, end_sets};
 use ioc_fields::FieldNo;
 use ioc_graph::{Edge, are_below, followers, parts_of_all};
 use ioc_names::RecordNo;
@@ -43,19 +44,20 @@ fn add_set(
     next: &[usize],
     first: usize,
 ) -> Result<(), AllocError> {
-    let mut before = b" {".as_slice();
     let mut number = first;
     for _ in records {
         let (Some(record), Some(follower)) = (records.get(number), next.get(number)) else {
             break;
         };
-        out.extend_from_slice(before)?;
-        out.extend_from_slice(record.common().name.as_slice())?;
-        before = b" ".as_slice();
+        let name = record.common().name.as_slice();
+        if number == first {
+            begin_set(out, name)?;
+        } else {
+            add_to_set(out, name)?;
+        }
         number = *follower;
     }
-    out.push(b'}')?;
-    Ok(())
+    end_set(out)
 }
 
 /// Appends a line with the sets of records that are joined by links, in the order of their first
@@ -66,7 +68,7 @@ fn add_set(
 /// [`AllocError`] if allocation fails.
 pub fn add_sets(alloc: Global, records: &[Record], out: &mut Vec<u8>) -> Result<(), AllocError> {
     let edges = edges_of(alloc, records)?;
-    out.extend_from_slice(b"sets")?;
+    begin_sets(out)?;
     if are_below(edges.as_slice(), records.len()) {
         let numbers = parts_of_all(alloc, edges.as_slice(), records.len())?;
         let next = followers(alloc, numbers.as_slice())?;
@@ -76,6 +78,5 @@ pub fn add_sets(alloc: Global, records: &[Record], out: &mut Vec<u8>) -> Result<
             }
         }
     }
-    out.push(b'\n')?;
-    Ok(())
+    end_sets(out)
 }

@@ -24,5 +24,4 @@ pub use replay::Replay;
 pub use reply_line::{LineReply, say_refusal, say_reply};
 pub use runs::run;
 pub use session::{PendingOutput, Session};
-pub use sets::{add_to_set, begin_set, begin_sets, end_set, end_sets};
 pub use users::{Answering, PROMPT, Then, answer_each};

@@ -7,6 +7,7 @@ ghost use Rattle.ioc_graph.specs.Members.{AreFirsts, AreFollowers};
 ghost use Rattle.ioc_sim.specs.SeenMachine.{machine_of};
 ghost use Rattle.ioc_main.specs.Sets.{name_at, part_words, parts_words, sets_line};
 
+use ioc_commands::{add_to_set, begin_set, begin_sets, end_set, end_sets};
 use ioc_graph::followers;
 use ioc_names::RecordNo;
 use ioc_record::RecordKind;
@@ -14,63 +15,6 @@ use ioc_sim::{Machine, Scripted};
 use ioc_store::{OneMap, Store};
 use rec_types::Record;
 use std::alloc::{AllocError, Global};
-
-/// Appends the beginning of the line `sets`.
-///
-/// # Errors
-///
-/// [`AllocError`] if allocation fails.
-pub fn begin_sets(line: &mut Vec<u8>) -> Result<(), AllocError>
-    ensures { OnOk result (line.new.items ≡ line.old.items ++ codes "sets") }
-{
-    line.extend_from_slice(b"sets")
-}
-
-/// Appends the name of the first record of a set.
-///
-/// # Errors
-///
-/// [`AllocError`] if allocation fails; a part may have been appended then.
-pub fn begin_set(line: &mut Vec<u8>, name: &[u8]) -> Result<(), AllocError>
-    ensures { OnOk result (line.new.items ≡ line.old.items ++ codes " {" ++ name.now) }
-{
-    line.extend_from_slice(b" {")?;
-    line.extend_from_slice(name)
-}
-
-/// Appends the name of another record of a set.
-///
-/// # Errors
-///
-/// [`AllocError`] if allocation fails; a part may have been appended then.
-pub fn add_to_set(line: &mut Vec<u8>, name: &[u8]) -> Result<(), AllocError>
-    ensures { OnOk result (line.new.items ≡ line.old.items ++ codes " " ++ name.now) }
-{
-    line.extend_from_slice(b" ")?;
-    line.extend_from_slice(name)
-}
-
-/// Appends the end of a set.
-///
-/// # Errors
-///
-/// [`AllocError`] if allocation fails.
-pub fn end_set(line: &mut Vec<u8>) -> Result<(), AllocError>
-    ensures { OnOk result (line.new.items ≡ line.old.items ++ codes "}") }
-{
-    line.extend_from_slice(b"}")
-}
-
-/// Appends the end of the line `sets`, a line feed.
-///
-/// # Errors
-///
-/// [`AllocError`] if allocation fails.
-pub fn end_sets(line: &mut Vec<u8>) -> Result<(), AllocError>
-    ensures { OnOk result (line.new.items ≡ line.old.items ++ 10 ∷ []) }
-{
-    line.extend_from_slice(b"\n")
-}
 
 // Returns the name of a record.
 fn name_of(map: &OneMap<Record, Scripted>, number: usize) -> &[u8]

@@ -2,7 +2,7 @@
 ghost use Rattle.std.specs.Prelude.{◌≡◌, [], OnOk};
 
 use crate::directory::Directory;
-use crate::explanation::Explanation;
+use crate::explanation::explained;
 use crate::user_line::script_line;
 use ioc_command_line::Reason;
 use ioc_commands::{Dialect, Help, Request, cut_at};
@@ -91,15 +91,11 @@ impl<E: Write + Drop> Dialogue<E> {
         let Some(directory) = &self.directory else {
             return Ok(());
         };
-        match Explanation::of(directory, self.dialect(), line, reply) {
-            Ok(Some(explanation)) => {
-                written(out.flush())?;
-                let _written = writeln!(&mut self.errors, "line {number}: {explanation}");
-                Ok(())
-            }
-            Ok(None) => Ok(()),
-            Err(_) => Err(LineFault::Memory),
+        if let Some(explanation) = explained(directory, self.dialect(), line, reply)? {
+            written(out.flush())?;
+            let _written = writeln!(&mut self.errors, "line {number}: {explanation}");
         }
+        Ok(())
     }
 
     // Answers a line of the script.

@@ -231,6 +231,24 @@ impl<'a> Explanation<'a> {
     }
 }
 
+/// Returns the words that say why a line of this speaker has this reply, if it is bad or refused.
+///
+/// # Errors
+///
+/// [`AllocError`] if allocation fails.
+pub fn explained<'a>(
+    directory: &'a Directory,
+    dialect: Dialect,
+    line: &'a [u8],
+    reply: &[u8],
+) -> Result<Option<String>, AllocError> {
+    match Explanation::of(directory, dialect, line, reply) {
+        Ok(Some(explanation)) => Ok(Some(format!(in directory.alloc; "{explanation}")?)),
+        Ok(None) => Ok(None),
+        Err(error) => Err(error),
+    }
+}
+
 // Writes the name that may have been meant.
 fn write_meant<W: fmt::Write>(f: &mut fmt::Formatter<W>, meant: Option<&[u8]>) -> fmt::Result {
     match meant {
