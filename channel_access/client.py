@@ -1,0 +1,109 @@
+"""A small client, with which one can try a server where EPICS isn't installed: connects, reads one channel after another, prints."""
+import socket
+import struct
+import sys
+import time
+from typing import Iterable, Iterator, NamedTuple, Tuple
+
+from . import protocol
+from .protocol import Base, Command, Message, Status, Style
+from .values import EPICS_EPOCH
+
+PATIENCE = 2.0
+_SEVERITIES = "NO_ALARM MINOR MAJOR INVALID".split()
+
+
+class Refused(Exception):
+    """The server has refused a request, or doesn't answer."""
+
+
+class Shown(NamedTuple):
+    """A channel's value as a text, its severity, and its time stamp in seconds since 1970."""
+
+    text: str
+    severity: int
+    time: float
+
+
+class Client:
+    """A circuit to a server."""
+
+    def __init__(self, address: str, port: int) -> None:
+        self._socket = socket.create_connection((address, port), PATIENCE)
+        self._input = b""
+        self._last = 0
+        self.send(protocol.pack(Command.VERSION, count=protocol.MINOR_VERSION))
+
+    def close(self) -> None:
+        self._socket.close()
+
+    def send(self, message: bytes) -> None:
+        """Sends a message."""
+        self._socket.sendall(message)
+
+    def replies(self) -> Iterator[Message]:
+        """Yields messages as they come. Refused if none comes in time."""
+        while True:
+            message, offset = protocol.take_message(self._input, 0)
+            if message is not None:
+                self._input = self._input[offset:]
+                yield message
+                continue
+            try:
+                data = self._socket.recv(65536)
+            except OSError as fault:
+                raise Refused(f"no answer: {fault}") from None
+            if not data:
+                raise Refused("the server has ended the circuit")
+            self._input += data
+
+    def _reply(self, command: int) -> Message:
+        """The next reply to this command."""
+        for message in self.replies():
+            if message.command == command:
+                return message
+            if message.command == Command.CREATE_FAILED:
+                raise Refused("no such channel")
+            if message.command == Command.ERROR:
+                raise Refused(message.body[16:].split(b"\0")[0].decode("latin-1"))
+        raise AssertionError
+
+    def channel(self, name: str) -> Tuple[int, int, int]:
+        """Opens a channel. Returns its number at the server, what it is served as, and how many elements it has."""
+        self._last += 1
+        self.send(protocol.pack(Command.CREATE_CHANNEL, name.encode("latin-1") + b"\0", first=self._last, second=protocol.MINOR_VERSION))
+        reply = self._reply(Command.CREATE_CHANNEL)
+        return reply.second, reply.form, reply.count
+
+    def read(self, name: str) -> Shown:
+        """Reads a channel, its value as a text."""
+        number, base, count = self.channel(name)
+        form = 7 * Style.TIME + (Base.CHAR if base == Base.CHAR and count > 1 else Base.STRING)
+        self.send(protocol.pack(Command.READ_NOTIFY, b"", form, 0, number, self._last))
+        reply = self._reply(Command.READ_NOTIFY)
+        if reply.first != Status.NORMAL:
+            raise Refused(f"status {reply.first}")
+        _, severity, seconds, nanoseconds = struct.unpack_from(">hhII", reply.body)
+        text = reply.body[15 if form % 7 == Base.CHAR else 12 :].split(b"\0")[0]
+        return Shown(text.decode("utf-8", "replace"), severity, seconds + EPICS_EPOCH + nanoseconds / 1e9 if seconds else 0)
+
+
+def get(address: str, port: int, names: Iterable[str]) -> int:
+    """Prints channels: name, value, severity, time stamp in UTC. Returns the status, 1 if one couldn't be read."""
+    status = 0
+    try:
+        client = Client(address, port)
+    except OSError as fault:
+        print(f"ioc-ca: no server at {address}:{port}: {fault.strerror or fault}", file=sys.stderr)
+        return 1
+    for name in names:
+        try:
+            shown = client.read(name)
+        except Refused as fault:
+            print(f"{name}: {fault}", file=sys.stderr)
+            status = 1
+            continue
+        stamp = time.strftime("%Y-%m-%dT%H:%M:%S", time.gmtime(shown.time)) + f".{int(shown.time % 1 * 1000):03}Z"
+        print(f"{name} {shown.text} {_SEVERITIES[shown.severity]} {stamp}")
+    client.close()
+    return status
