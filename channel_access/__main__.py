@@ -5,7 +5,7 @@ import os
 import pathlib
 import signal
 import sys
-from typing import List, Sequence
+from typing import Sequence
 
 from .child import ChildError, Console, lack_of_live, survey
 from .client import get
@@ -22,8 +22,7 @@ def _arguments() -> argparse.ArgumentParser:
         "allowed. docs/CHANNEL_ACCESS.md is the manual.",
     )
     parser.add_argument("database", metavar="DB", nargs="?", help="the file with the database text")
-    parser.add_argument("macros", metavar="NAME=VALUE", nargs="*", help="macros of the database text")
-    parser.add_argument("-m", dest="definitions", metavar="NAME=VALUE", action="append", default=[], help="as the words do")
+    parser.add_argument("-m", dest="macros", metavar="NAME=VALUE", action="append", default=[], help="a macro of the database text")
     parser.add_argument("--allow-write", metavar="PATTERN", action="append", default=[], help="records, or REC.F, that may be written")
     parser.add_argument("--allow-links", action="store_true", help="their link fields may be written too")
     parser.add_argument("--journal", metavar="FILE", help="the journal is written to this file")
@@ -76,11 +75,10 @@ def _child(options: argparse.Namespace) -> Console:
         raise ChildError(f"there is no program {options.ioc}: run ./build", USAGE_FAULT)
     if options.drivers:
         raise ChildError(f"--drivers {options.drivers}: {lack_of_live(options.ioc)}", USAGE_FAULT)
-    macros: List[str] = [*options.definitions, *options.macros]
     words = [options.ioc, options.database, "--console", "--workers", options.workers]
     words += ["--journal", options.journal] if options.journal else []
-    words += [word for macro in macros for word in ("-m", macro)]
-    return Console(words, survey(options.ioc, options.database, macros), bool(options.journal))
+    words += [word for macro in options.macros for word in ("-m", macro)]
+    return Console(words, survey(options.ioc, options.database, options.macros), bool(options.journal))
 
 
 def main(words: Sequence[str]) -> int:

@@ -29,17 +29,17 @@ class Client:
     """A circuit to a server."""
 
     def __init__(self, address: str, port: int) -> None:
-        self._socket = socket.create_connection((address, port), PATIENCE)
+        self.connection = socket.create_connection((address, port), PATIENCE)
         self._input = b""
         self._last = 0
         self.send(protocol.pack(Command.VERSION, count=protocol.MINOR_VERSION))
 
     def close(self) -> None:
-        self._socket.close()
+        self.connection.close()
 
     def send(self, message: bytes) -> None:
         """Sends a message."""
-        self._socket.sendall(message)
+        self.connection.sendall(message)
 
     def replies(self) -> Iterator[Message]:
         """Yields messages as they come. Refused if none comes in time."""
@@ -50,7 +50,7 @@ class Client:
                 yield message
                 continue
             try:
-                data = self._socket.recv(65536)
+                data = self.connection.recv(65536)
             except OSError as fault:
                 raise Refused(f"no answer: {fault}") from None
             if not data:
