@@ -13,6 +13,8 @@ from typing import Callable, List, Optional, Sequence, Tuple
 TOP = pathlib.Path(__file__).resolve().parent.parent.parent
 BIN = TOP / "bin"
 PATIENCE = 10.0
+# What programs are started with: libca's tests change the environment of this process.
+ENVIRONMENT = {**os.environ, "PYTHONPATH": str(TOP)}
 
 DATABASE = """
 record(longin, "li") { field(VAL, "42") field(HIGH, 50) field(HSV, MINOR) field(HIHI, 90) field(HHSV, MAJOR) field(EGU, "mm")
@@ -81,7 +83,7 @@ class Front:
         words = [sys.executable, "-m", "channel_access", str(self.database), "--port", str(self.port), *options]
         words += ["--repeater-port", str(repeater or free_ports(1)[0])]
         words += ["--journal", str(self.journal)] if has_journal else []
-        self.process = subprocess.Popen(words, stdout=subprocess.PIPE, stderr=self._errors, env={**os.environ, "PYTHONPATH": str(TOP)})
+        self.process = subprocess.Popen(words, stdout=subprocess.PIPE, stderr=self._errors, env=ENVIRONMENT)
         assert self.process.stdout is not None
         self.ready = self.process.stdout.readline().decode()
 

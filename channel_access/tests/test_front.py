@@ -12,14 +12,14 @@ import sys
 import tempfile
 import time
 import unittest
-from typing import Dict, Iterator, List, Optional, Tuple
+from typing import Iterator, List, Tuple
 
 from .. import channels, protocol, server
 from ..child.survey import kind_of
 from ..client import Client, Refused
 from ..interface import Kind
 from ..protocol import Base, Command, Message, Status, pack
-from .support import BIN, DATABASE, TOP, Front, audit, free_ports, replay, until
+from .support import BIN, ENVIRONMENT, TOP, Front, audit, free_ports, replay, until
 
 LONG_TIME = 7 * 2 + Base.LONG
 WHOLE_MASK = struct.pack(">12xH2x", 5)
@@ -28,9 +28,7 @@ RANDOM_MESSAGES = 100_000
 
 def command(*words: str) -> "subprocess.CompletedProcess[str]":
     """Runs the package's command line to its end."""
-    return subprocess.run(
-        [sys.executable, "-m", "channel_access", *words], capture_output=True, text=True, timeout=30, env={**os.environ, "PYTHONPATH": str(TOP)}
-    )
+    return subprocess.run([sys.executable, "-m", "channel_access", *words], capture_output=True, text=True, timeout=30, env=ENVIRONMENT)
 
 
 def answer(client: Client, *commands: int) -> Message:
@@ -377,7 +375,7 @@ class Rubbish(WithFront):
                     tcp.sendall(b"".join(burst) + pack(Command.ECHO, b"the last"))
                     udp.sendto(burst[-1][: chance.randrange(1, 1400)], ("127.0.0.1", self.front.port))
                     data = b""
-                    while b"the last" not in data[-1000:]:
+                    while b"the last" not in data:
                         data += tcp.recv(1 << 16) or b"the last"
                     answered += sum(1 for _ in protocol.messages(data))
                 except OSError:
