@@ -5,9 +5,9 @@ import struct
 from typing import TYPE_CHECKING, Callable, Dict, List, NamedTuple, Optional
 
 from . import protocol
-from .interface import Given, Reading
+from .interface import Reading
 from .monitors import Subscription
-from .protocol import CLASS_NAME, PUT_ACKS, PUT_ACKT, STSACK_STRING, Command, Message, MessageError, Status
+from .protocol import CLASS_NAME, PUT_ACKS, PUT_ACKT, STSACK_STRING, Command, Message, MessageError, Status, pack
 from .values import NO_VALUE, Served, empty_payload, extent_of, given_value, payload
 
 if TYPE_CHECKING:
@@ -17,7 +17,8 @@ if TYPE_CHECKING:
 MOST_REQUESTS = 500
 MOST_UNSENT = 65536
 MOST_CHANNELS = MOST_SUBSCRIPTIONS = 20_000
-# The limit of channels, and of subscriptions, of all circuits.
+# The limit of circuits, and those of channels and of subscriptions of all circuits.
+MOST_CIRCUITS = 400
 MOST_IN_ALL = 200_000
 
 
@@ -27,10 +28,6 @@ class Channel(NamedTuple):
     client_number: int
     served: Served
     may_write: bool
-
-    @property
-    def name(self) -> str:
-        return f"{self.served.record.name.decode('latin-1')}.{self.served.field.name}"
 
 
 class Circuit(asyncio.Protocol):
@@ -42,8 +39,8 @@ class Circuit(asyncio.Protocol):
         self._server = server
         self.user = self.host = b""
         self.peer = ""
-        self.channels: Dict[int, Channel] = {}
-        self.subscriptions: Dict[int, Subscription] = {}
+        self._channels: Dict[int, Channel] = {}
+        self._subscriptions: Dict[int, Subscription] = {}
         self._kept: Dict[int, Subscription] = {}
         self._input = b""
         self._out: List[bytes] = []
@@ -54,10 +51,9 @@ class Circuit(asyncio.Protocol):
 
     def connection_made(self, transport: asyncio.BaseTransport) -> None:
         assert isinstance(transport, asyncio.Transport)
-        self._transport = transport
-        self._loop = asyncio.get_running_loop()
+        self._transport, self._loop = transport, asyncio.get_running_loop()
         self.peer = "%s:%d" % transport.get_extra_info("peername")[:2]
-        if not self._server.has_room(self):
+        if len(self._server.circuits) >= MOST_CIRCUITS:
             return transport.abort()
         connection = transport.get_extra_info("socket")
         connection.setsockopt(socket.IPPROTO_TCP, socket.TCP_NODELAY, 1)
@@ -65,17 +61,16 @@ class Circuit(asyncio.Protocol):
         connection.setsockopt(socket.SOL_SOCKET, socket.SO_SNDBUF, MOST_UNSENT)  # what the kernel keeps is old when it is read
         transport.set_write_buffer_limits(high=MOST_UNSENT)
         self._server.circuits[self] = None
-        self._send(protocol.pack(Command.VERSION, count=protocol.MINOR_VERSION))
+        self._send(pack(Command.VERSION, count=protocol.MINOR_VERSION))
 
     def connection_lost(self, error: Optional[Exception]) -> None:
         self._is_closed = True
         self._server.circuits.pop(self, None)
-        for subscription in list(self.subscriptions.values()):
+        for subscription in list(self._subscriptions.values()):
             self._unsubscribe(subscription)
         self._server.puts.give_up(self)
-        self._server.channel_count -= len(self.channels)
-        self.channels.clear()
-        self._input = b""
+        self._server.channel_count -= len(self._channels)
+        self._channels.clear()
 
     def abort(self) -> None:
         """Ends the connection."""
@@ -108,13 +103,11 @@ class Circuit(asyncio.Protocol):
                     break
                 action = _ACTIONS.get(message.command)
                 if action is None:
-                    raise MessageError(f"no command {message.command}", message.header)
+                    raise MessageError(Status.INTERNAL, f"no command {message.command}", message.header)
                 action(self, message)
         except MessageError as fault:
-            status = Status.TOO_LARGE if "body" in str(fault) else Status.INTERNAL
-            self._send(protocol.error(fault.header, status, str(fault)))
+            self._send(protocol.error(fault.header, fault.status, str(fault)))
             self._flush()
-            self._input = b""
             return self._transport.close()
         self._input = data[offset:]
         if self._is_full():
@@ -122,17 +115,12 @@ class Circuit(asyncio.Protocol):
         else:
             self._transport.resume_reading()
 
-    def _begin(self) -> None:
-        self._requests += 1
-
-    def _end(self) -> None:
+    def _end_request(self) -> None:
         self._requests -= 1
         if self._requests == MOST_REQUESTS // 2:
             self._loop.call_soon(self._go_on)
 
     def _send(self, message: bytes) -> None:
-        if self._is_closed:
-            return
         if not self._out:
             self._loop.call_soon(self._flush)
         self._out.append(message)
@@ -142,14 +130,11 @@ class Circuit(asyncio.Protocol):
             self._transport.write(b"".join(self._out))
         self._out.clear()
 
-    def _refuse(self, message: Message, status: int, words: str, channel: Optional[Channel] = None) -> None:
-        self._send(protocol.error(message.header, status, words, channel.client_number if channel else protocol.NO_ADDRESS))
-
-    def _channel(self, number: int, message: Message) -> Channel:
+    def _channel(self, message: Message) -> Channel:
         """The channel of a request. A client that gives the number of none is out of step, and its circuit ends."""
-        channel = self.channels.get(number)
+        channel = self._channels.get(message.first)
         if channel is None:
-            raise MessageError(f"no channel {number}", message.header)
+            raise MessageError(Status.INTERNAL, f"no channel {message.first}", message.header)
         return channel
 
     # Names and channels.
@@ -164,158 +149,135 @@ class Circuit(asyncio.Protocol):
         self.host = message.text()[:60]
 
     def _echo(self, message: Message) -> None:
-        self._send(protocol.pack(Command.ECHO, message.body, message.form, message.count, message.first, message.second))
+        self._send(pack(Command.ECHO, message.body, message.form, message.elements, message.first, message.second))
 
     def _search(self, message: Message) -> None:
-        self._begin()
-
         def found(served: Optional[Served]) -> None:
-            self._end()
+            self._end_request()
             if served is not None:
                 self._send(protocol.found(self._server.port, message.first))
 
+        self._requests += 1
         self._server.find(message.text(), found)
 
     def _create(self, message: Message) -> None:
-        self._begin()
-
         def found(served: Optional[Served]) -> None:
-            self._end()
+            self._end_request()
             if self._is_closed:
                 return
-            if served is None or len(self.channels) >= MOST_CHANNELS or self._server.channel_count >= MOST_IN_ALL:
-                return self._send(protocol.pack(Command.CREATE_FAILED, first=message.first))
+            if served is None or len(self._channels) >= MOST_CHANNELS or self._server.channel_count >= MOST_IN_ALL:
+                return self._send(pack(Command.CREATE_FAILED, first=message.first))
             self._last_channel += 1
-            channel = Channel(message.first, served, self._server.may_write(served))
-            self.channels[self._last_channel] = channel
             self._server.channel_count += 1
+            channel = self._channels[self._last_channel] = Channel(message.first, served, self._server.rights.may_write(served))
             rights = protocol.MAY_READ | (protocol.MAY_WRITE if channel.may_write else 0)
-            self._send(protocol.pack(Command.ACCESS_RIGHTS, first=message.first, second=rights))
-            self._send(protocol.pack(Command.CREATE_CHANNEL, b"", served.base, served.count, message.first, self._last_channel))
+            self._send(pack(Command.ACCESS_RIGHTS, first=message.first, second=rights))
+            self._send(pack(Command.CREATE_CHANNEL, b"", served.base, served.elements, message.first, self._last_channel))
 
+        self._requests += 1
         self._server.find(message.text(), found)
 
     def _clear(self, message: Message) -> None:
-        self._channel(message.first, message)
-        del self.channels[message.first]
+        self._channel(message)
+        del self._channels[message.first]
         self._server.channel_count -= 1
-        for subscription in [one for one in self.subscriptions.values() if one.server_number == message.first]:
+        for subscription in [one for one in self._subscriptions.values() if one.server_number == message.first]:
             self._unsubscribe(subscription)
-        self._send(protocol.pack(Command.CLEAR_CHANNEL, b"", message.form, message.count, message.first, message.second))
+        self._send(pack(Command.CLEAR_CHANNEL, b"", message.form, message.elements, message.first, message.second))
 
     # Gets.
 
-    def _refusal(self, message: Message, channel: Channel, most_form: int) -> Optional[Status]:
+    @staticmethod
+    def _refusal(message: Message, channel: Channel, most_form: int) -> Optional[Status]:
         """Why a value in the form and count of a message can't be given."""
         if message.form > most_form or message.form in (PUT_ACKT, PUT_ACKS):
             return Status.BAD_TYPE
-        return Status.BAD_COUNT if message.count > channel.served.count else None
+        return Status.BAD_COUNT if message.elements > channel.served.elements else None
 
-    def _read_notify(self, message: Message) -> None:
-        self._get(message, lambda status: protocol.pack(Command.READ_NOTIFY, bytes(8), message.form, message.count, status, message.second))
+    def _get(self, message: Message) -> None:
+        channel = self._channel(message)
+        is_old = message.command == Command.READ
 
-    def _read(self, message: Message) -> None:
-        client_number = self._channel(message.first, message).client_number
-        self._get(message, lambda status: protocol.error(message.header, status, "no value", client_number))
-
-    def _get(self, message: Message, refused: Callable[[int], bytes]) -> None:
-        channel = self._channel(message.first, message)
-        refusal = self._refusal(message, channel, CLASS_NAME)
-        if refusal is not None:
-            return self._send(refused(refusal))
-        self._begin()
-        first = Status.NORMAL if message.command == Command.READ_NOTIFY else channel.client_number
+        def refuse(status: Status) -> None:
+            if is_old:
+                self._send(protocol.error(message.header, status, "no value", channel.client_number))
+            else:
+                self._send(pack(Command.READ_NOTIFY, bytes(8), message.form, message.elements, status, message.second))
 
         def got(reading: Optional[Reading]) -> None:
-            self._end()
-            if self._is_closed:
-                return
+            self._end_request()
             try:
                 if reading is None:
                     raise ValueError
-                body, count = payload(channel.served, message.form, message.count, reading)
+                body, count = payload(channel.served, message.form, message.elements, reading)
             except NO_VALUE:
-                return self._send(refused(Status.GET_FAILED))
-            self._send(protocol.pack(message.command, body, message.form, count, first, message.second))
+                return refuse(Status.GET_FAILED)
+            self._send(pack(message.command, body, message.form, count, channel.client_number if is_old else Status.NORMAL, message.second))
 
+        refusal = self._refusal(message, channel, CLASS_NAME)
+        if refusal is not None:
+            return refuse(refusal)
+        self._requests += 1
         self._server.ioc.read(channel.served.record, channel.served.field, extent_of(message.form), got)
 
     # Puts.
 
-    def _write(self, message: Message) -> None:
-        channel = self._channel(message.first, message)
+    def _put(self, message: Message) -> None:
+        channel = self._channel(message)
+        record, field = channel.served.record, channel.served.field
+        has_callback = message.command == Command.WRITE_NOTIFY
 
-        def done(status: int, words: str) -> None:
-            if status != Status.NORMAL:
-                self._refuse(message, status, words, channel)
-
-        given = self._given(message, channel, done)
-        if given is None:
-            return
-        self._begin()
-
-        def put(refusal: Optional[str]) -> None:
-            self._end()
-            self._put_done(channel, given, refusal, done)
-
-        self._server.ioc.put(channel.served.record, channel.served.field, given, put)
-
-    def _write_notify(self, message: Message) -> None:
-        channel = self._channel(message.first, message)
-
-        def done(status: int, words: str) -> None:
-            self._send(protocol.pack(Command.WRITE_NOTIFY, b"", message.form, message.count, status, message.second))
-
-        given = self._given(message, channel, done)
-        if given is None:
-            return
+        def done(status: Status, words: str) -> None:
+            if has_callback:
+                self._send(pack(Command.WRITE_NOTIFY, b"", message.form, message.elements, status, message.second))
+            elif status is not Status.NORMAL:
+                self._send(protocol.error(message.header, status, f"{field.name}: {words}", channel.client_number))
 
         def put(refusal: Optional[str]) -> None:
-            self._put_done(channel, given, refusal, done)
+            if not has_callback:
+                self._end_request()
+            self._server.log_put(self, channel.served, given, refusal)
+            done(Status.NORMAL if refusal is None else Status.PUT_FAILED, refusal or "")
 
-        if not self._server.puts.begin(self, channel.served.record, channel.served.field, given, put):
-            self._put_done(channel, given, "too many put callbacks wait", done)
-
-    def _given(self, message: Message, channel: Channel, done: Callable[[int, str], None]) -> Optional[Given]:
-        """The value of a put that may be done; of any other `done` is told."""
         if not channel.may_write:
-            done(Status.NO_WRITE_ACCESS, channel.name)
-            return None
+            return done(Status.NO_WRITE_ACCESS, "it may not be written")
         try:
-            return given_value(channel.served, message.form, message.count, message.body)
+            given = given_value(channel.served, message.form, message.elements, message.body)
         except NO_VALUE:
-            done(Status.PUT_FAILED, f"{channel.name}: no value")
-            return None
-
-    def _put_done(self, channel: Channel, given: Given, refusal: Optional[str], done: Callable[[int, str], None]) -> None:
-        self._server.log_put(self, channel.served, given, refusal)
-        done(Status.NORMAL if refusal is None else Status.PUT_FAILED, f"{channel.name}: {refusal}")
+            return done(Status.PUT_FAILED, "no value")
+        if not has_callback:
+            self._requests += 1
+            self._server.ioc.put(record, field, given, put)
+        elif not self._server.puts.begin(self, record, field, given, put):
+            put("too many put callbacks wait")
 
     # Subscriptions.
 
     def _subscribe(self, message: Message) -> None:
-        channel = self._channel(message.first, message)
+        channel = self._channel(message)
         refusal = self._refusal(message, channel, STSACK_STRING)
         if len(message.body) < 16:
             refusal = Status.BAD_COUNT
-        elif len(self.subscriptions) >= MOST_SUBSCRIPTIONS or self._server.subscription_count >= MOST_IN_ALL or message.second in self.subscriptions:
+        elif len(self._subscriptions) >= MOST_SUBSCRIPTIONS or self._server.subscription_count >= MOST_IN_ALL:
             refusal = Status.NO_MEMORY
+        elif message.second in self._subscriptions:
+            refusal = Status.INTERNAL
         if refusal is not None:
-            return self._refuse(message, refusal, channel.name, channel)
-        (mask,) = struct.unpack_from(">H", message.body, 12)
-        subscription = Subscription(self, channel.served, message.first, message.second, message.form, message.count, mask)
-        self.subscriptions[message.second] = subscription
+            return self._send(protocol.error(message.header, refusal, "no subscription", channel.client_number))
+        mask = struct.unpack_from(">H", message.body, 12)[0]
+        subscription = Subscription(self, channel.served, message.first, message.second, message.form, message.elements, mask)
+        self._subscriptions[message.second] = subscription
         self._server.subscription_count += 1
         self._server.monitors.subscribe(subscription)
 
     def _cancel_subscription(self, message: Message) -> None:
-        subscription = self.subscriptions.get(message.second)
+        subscription = self._subscriptions.get(message.second)
         if subscription is not None:
             self._unsubscribe(subscription)
-            self._send(protocol.pack(Command.EVENT_ADD, b"", message.form, message.count, message.first, message.second))
+            self._send(pack(Command.EVENT_ADD, b"", message.form, message.elements, message.first, message.second))
 
     def _unsubscribe(self, subscription: Subscription) -> None:
-        del self.subscriptions[subscription.number]
+        del self._subscriptions[subscription.number]
         self._server.subscription_count -= 1
         self._kept.pop(subscription.number, None)
         self._server.monitors.cancel(subscription)
@@ -330,15 +292,19 @@ class Circuit(asyncio.Protocol):
     def _resend(self) -> None:
         kept, self._kept = self._kept, {}
         for subscription in kept.values():
-            subscription.resend()
+            if subscription.kept is not None:
+                subscription.post(subscription.kept)
 
     def may_send(self) -> bool:
+        """Whether the client takes values now. If not, those that are kept are sent when it does."""
         return not self._is_unread and not self._are_events_off
 
     def keep(self, subscription: Subscription) -> None:
+        """Notes that a subscription has a value that couldn't be sent."""
         self._kept[subscription.number] = subscription
 
     def send_value(self, subscription: Subscription, reading: Optional[Reading]) -> None:
+        """Sends a value of a subscription, or that there is none."""
         form, count, status = subscription.form, subscription.count, Status.NORMAL
         try:
             if reading is None:
@@ -346,23 +312,23 @@ class Circuit(asyncio.Protocol):
             body, count = payload(subscription.channel, form, count, reading)
         except NO_VALUE:
             body, status = empty_payload(subscription.channel, form, count), Status.GET_FAILED
-        self._send(protocol.pack(Command.EVENT_ADD, body, form, count, status, subscription.number))
+        self._send(pack(Command.EVENT_ADD, body, form, count, status, subscription.number))
 
 
 _ACTIONS: Dict[int, Callable[[Circuit, Message], None]] = {
     Command.VERSION: Circuit._ignore,
     Command.EVENT_ADD: Circuit._subscribe,
     Command.EVENT_CANCEL: Circuit._cancel_subscription,
-    Command.READ: Circuit._read,
-    Command.WRITE: Circuit._write,
+    Command.READ: Circuit._get,
+    Command.WRITE: Circuit._put,
     Command.SEARCH: Circuit._search,
     Command.EVENTS_OFF: Circuit._events_off,
     Command.EVENTS_ON: Circuit._events_on,
     Command.READ_SYNC: Circuit._ignore,
     Command.CLEAR_CHANNEL: Circuit._clear,
-    Command.READ_NOTIFY: Circuit._read_notify,
+    Command.READ_NOTIFY: Circuit._get,
     Command.CREATE_CHANNEL: Circuit._create,
-    Command.WRITE_NOTIFY: Circuit._write_notify,
+    Command.WRITE_NOTIFY: Circuit._put,
     Command.CLIENT_NAME: Circuit._client_name,
     Command.HOST_NAME: Circuit._host_name,
     Command.ECHO: Circuit._echo,

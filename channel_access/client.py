@@ -3,10 +3,10 @@ import socket
 import struct
 import sys
 import time
-from typing import Iterable, Iterator, NamedTuple, Tuple
+from typing import Iterable, Iterator, Tuple
 
 from . import protocol
-from .protocol import Base, Command, Message, Status, Style
+from .protocol import WITH_TIME, Base, Command, Message, Status, pack
 from .values import EPICS_EPOCH
 
 PATIENCE = 2.0
@@ -17,25 +17,13 @@ class Refused(Exception):
     """The server has refused a request, or doesn't answer."""
 
 
-class Shown(NamedTuple):
-    """A channel's value as a text, its severity, and its time stamp in seconds since 1970."""
-
-    text: str
-    severity: int
-    time: float
-
-
 class Client:
-    """A circuit to a server."""
+    """A circuit to a server. OSError if there is none."""
 
     def __init__(self, address: str, port: int) -> None:
         self.connection = socket.create_connection((address, port), PATIENCE)
-        self._input = b""
-        self._last = 0
-        self.send(protocol.pack(Command.VERSION, count=protocol.MINOR_VERSION))
-
-    def close(self) -> None:
-        self.connection.close()
+        self._input, self._last = b"", 0
+        self.send(pack(Command.VERSION, count=protocol.MINOR_VERSION))
 
     def send(self, message: bytes) -> None:
         """Sends a message."""
@@ -57,35 +45,33 @@ class Client:
                 raise Refused("the server has ended the circuit")
             self._input += data
 
-    def _reply(self, command: int) -> Message:
-        """The next reply to this command."""
+    def reply(self, *commands: int) -> Message:
+        """Returns the next reply to one of these commands. Refused if a request is refused in place of it."""
         for message in self.replies():
-            if message.command == command:
+            if message.command in commands:
                 return message
             if message.command == Command.CREATE_FAILED:
                 raise Refused("no such channel")
-            if message.command == Command.ERROR:
-                raise Refused(message.body[16:].split(b"\0")[0].decode("latin-1"))
-        raise AssertionError
+        raise Refused("no reply")
 
     def channel(self, name: str) -> Tuple[int, int, int]:
         """Opens a channel. Returns its number at the server, what it is served as, and how many elements it has."""
         self._last += 1
-        self.send(protocol.pack(Command.CREATE_CHANNEL, name.encode("latin-1") + b"\0", first=self._last, second=protocol.MINOR_VERSION))
-        reply = self._reply(Command.CREATE_CHANNEL)
-        return reply.second, reply.form, reply.count
+        self.send(pack(Command.CREATE_CHANNEL, name.encode("latin-1") + b"\0", 0, 0, self._last, protocol.MINOR_VERSION))
+        reply = self.reply(Command.CREATE_CHANNEL)
+        return reply.second, reply.form, reply.elements
 
-    def read(self, name: str) -> Shown:
-        """Reads a channel, its value as a text."""
+    def read(self, name: str) -> Tuple[str, int, float]:
+        """Returns a channel's value as a text, its severity, and its time stamp in seconds since 1970."""
         number, base, count = self.channel(name)
-        form = 7 * Style.TIME + (Base.CHAR if base == Base.CHAR and count > 1 else Base.STRING)
-        self.send(protocol.pack(Command.READ_NOTIFY, b"", form, 0, number, self._last))
-        reply = self._reply(Command.READ_NOTIFY)
+        form = WITH_TIME + (Base.CHAR if base == Base.CHAR and count > 1 else Base.STRING)
+        self.send(pack(Command.READ_NOTIFY, b"", form, 0, number, self._last))
+        reply = self.reply(Command.READ_NOTIFY)
         if reply.first != Status.NORMAL:
             raise Refused(f"status {reply.first}")
         _, severity, seconds, nanoseconds = struct.unpack_from(">hhII", reply.body)
-        text = reply.body[15 if form % 7 == Base.CHAR else 12 :].split(b"\0")[0]
-        return Shown(text.decode("utf-8", "replace"), severity, seconds + EPICS_EPOCH + nanoseconds / 1e9 if seconds else 0)
+        text = reply.body[15 if form == WITH_TIME + Base.CHAR else 12 :].split(b"\0")[0]
+        return text.decode("utf-8", "replace"), severity, seconds + EPICS_EPOCH + nanoseconds / 1e9 if seconds else 0
 
 
 def get(address: str, port: int, names: Iterable[str]) -> int:
@@ -98,12 +84,12 @@ def get(address: str, port: int, names: Iterable[str]) -> int:
         return 1
     for name in names:
         try:
-            shown = client.read(name)
-        except Refused as fault:
-            print(f"{name}: {fault}", file=sys.stderr)
+            text, severity, seconds = client.read(name)
+        except Refused as refused:
+            print(f"{name}: {refused}", file=sys.stderr)
             status = 1
             continue
-        stamp = time.strftime("%Y-%m-%dT%H:%M:%S", time.gmtime(shown.time)) + f".{int(shown.time % 1 * 1000):03}Z"
-        print(f"{name} {shown.text} {_SEVERITIES[shown.severity]} {stamp}")
-    client.close()
+        stamp = time.strftime("%Y-%m-%dT%H:%M:%S", time.gmtime(seconds)) + f".{int(seconds % 1 * 1000):03}Z"
+        print(f"{name} {text} {_SEVERITIES[severity]} {stamp}")
+    client.connection.close()
     return status

@@ -14,10 +14,11 @@ from .interface import Ask, DeviceAnswers
 
 Value = Union[int, float, str]
 T = TypeVar("T")
+Talk = Callable[[asyncio.StreamReader, asyncio.StreamWriter], Awaitable[T]]
 
 
 class Driver(Protocol):
-    """What a file of drivers gives for each name. Values come and go as texts: a state or menu is its number."""
+    """What a file of drivers gives for each name. A value to be written comes as a text: a state or menu as its number."""
 
     async def read(self, words: str) -> Value:
         """Reads what the words behind the driver's name say."""
@@ -42,10 +43,9 @@ class Line:
         self._lock: Optional[asyncio.Lock] = None
         self._streams: Optional[Tuple[asyncio.StreamReader, asyncio.StreamWriter]] = None
 
-    async def exchange(self, talk: Callable[[asyncio.StreamReader, asyncio.StreamWriter], Awaitable[T]]) -> T:
+    async def exchange(self, talk: Talk[T]) -> T:
         """Waits until the line is free, and talks over it."""
-        if self._lock is None:
-            self._lock = asyncio.Lock()
+        self._lock = self._lock or asyncio.Lock()  # of the loop that runs
         async with self._lock:
             try:
                 return await asyncio.wait_for(self._talk(talk), self._timeout)
@@ -57,23 +57,37 @@ class Line:
                     raise DeviceFault(f"no answer in {self._timeout} seconds") from None
                 raise
 
-    async def _talk(self, talk: Callable[[asyncio.StreamReader, asyncio.StreamWriter], Awaitable[T]]) -> T:
+    async def _talk(self, talk: Talk[T]) -> T:
         if self._streams is None or self._streams[0].at_eof():  # the instrument may have closed an idle line
             self._streams = await asyncio.open_connection(*self._place)
         return await talk(*self._streams)
 
 
-# What a conversion of an answer matches, and the value of what it matched.
-_CONVERSIONS: Dict[str, Tuple[str, Callable[[str], Value]]] = {
+# What a conversion of an answer matches, and the value of what it matched; what a conversion of a question makes of a value.
+_ANSWERED: Dict[str, Tuple[str, Callable[[str], Value]]] = {
     "d": (r"\s*([+-]?\d+)", int),
     "x": (r"\s*(?:0[xX])?([0-9a-fA-F]+)", lambda text: int(text, 16)),
     "f": (r"\s*([+-]?(?:\d+\.?\d*|\.\d+)(?:[eE][+-]?\d+)?)", float),
     "s": (r"\s*(\S+)", str),
     "c": (r"(.*)", str),
-    "%": ("%", str),
 }
+_SENT: Dict[str, Callable[[str], str]] = {"d": lambda text: str(int(text)), "x": lambda text: f"{int(text):X}", "f": str, "s": str}
 _CONVERSION = re.compile(r"%([a-zA-Z%])")
-_WRITTEN: Dict[str, Callable[[str], str]] = {"d": lambda text: str(int(text)), "x": lambda text: f"{int(text):X}", "f": str, "s": str}
+
+
+def converted(answer: str, pattern: str) -> Value:
+    """Returns the value that the conversion of a pattern finds in an answer, which has to match the whole; an empty text for no conversion."""
+    expression, convert = "", None
+    for at, part in enumerate(_CONVERSION.split(pattern)):
+        if at % 2 and part != "%":
+            part, convert = _ANSWERED[part]
+            expression += part
+        else:
+            expression += re.escape(part)
+    found = re.fullmatch(expression, answer)
+    if found is None:
+        raise DeviceFault(f"the answer {answer!r} isn't {pattern!r}")
+    return convert(found[1]) if convert is not None else ""
 
 
 class Stream:
@@ -89,46 +103,31 @@ class Stream:
         self, address: str, port: int, commands: Mapping[str, Tuple[str, Optional[str]]], out_terminator: str = "\n",
         in_terminator: str = "\n", timeout: float = 2.0,
     ) -> None:  # fmt: skip
-        self._line = Line(address, port, timeout)
-        self._commands = commands
+        self._line, self._commands = Line(address, port, timeout), commands
         self._out_terminator, self._in_terminator = out_terminator.encode("latin-1"), in_terminator.encode("latin-1")
 
     async def read(self, words: str) -> Value:
-        return await self._ask(words, None)
+        return await self._ask(words, "")
 
     async def write(self, words: str, value: str) -> None:
         await self._ask(words, value)
 
-    async def _ask(self, words: str, value: Optional[str]) -> Value:
-        """Sends the question of the words, and returns the value in its answer; an empty text if it has none."""
+    async def _ask(self, words: str, value: str) -> Value:
+        """Sends the question of the words, and returns the value in its answer."""
         name, *further = words.split() or [""]
         if name not in self._commands:
             raise DeviceFault(f"there is no command {name!r}")
         question, pattern = self._commands[name]
         for number, word in enumerate(further, 1):
             question = question.replace(f"${number}", word)
-        sent = _CONVERSION.sub(lambda found: "%" if found[1] == "%" else _WRITTEN[found[1]](value or ""), question)
+        sent = _CONVERSION.sub(lambda found: "%" if found[1] == "%" else _SENT[found[1]](value), question)
 
         async def talk(reader: asyncio.StreamReader, writer: asyncio.StreamWriter) -> str:
             writer.write(sent.encode("latin-1") + self._out_terminator)
-            if pattern is None:
-                return ""
-            return (await reader.readuntil(self._in_terminator))[: -len(self._in_terminator)].decode("latin-1")
+            answer = b"" if pattern is None else await reader.readuntil(self._in_terminator)
+            return answer[: -len(self._in_terminator)].decode("latin-1")
 
-        answer = await self._line.exchange(talk)
-        return "" if pattern is None else converted(answer, pattern)
-
-
-def converted(answer: str, pattern: str) -> Value:
-    """Returns the value that the conversion of a pattern finds in an answer, which has to match the whole; an empty text for no conversion."""
-    expression, convert = "", None
-    for at, part in enumerate(_CONVERSION.split(pattern)):
-        expression += _CONVERSIONS[part][0] if at % 2 else re.escape(part)
-        convert = _CONVERSIONS[part][1] if at % 2 and part != "%" else convert
-    found = re.fullmatch(expression, answer)
-    if found is None:
-        raise DeviceFault(f"the answer {answer!r} isn't {pattern!r}")
-    return convert(found[1]) if convert is not None else ""
+        return converted(await self._line.exchange(talk), pattern or "")
 
 
 class Modbus:
@@ -143,30 +142,25 @@ class Modbus:
     def __init__(self, address: str, port: int = 502, unit: int = 1, timeout: float = 2.0) -> None:
         self._line, self._unit, self._number = Line(address, port, timeout), unit, 0
 
-    async def read(self, words: str) -> int:
-        table, place, is_signed = self._place(words, self._READ)
-        answer = await self._ask(struct.pack(">BHH", self._READ[table], place, 1))
-        if table in ("coil", "discrete"):
-            return answer[2] & 1
-        return int(struct.unpack_from(">h" if is_signed else ">H", answer, 2)[0])
+    async def read(self, words: str) -> Value:
+        function, place, letter = self._place(words, self._READ)
+        answer = await self._ask(struct.pack(">BHH", function, place, 1))
+        return answer[2] & 1 if function < 3 else int(struct.unpack_from(letter, answer, 2)[0])
 
     async def write(self, words: str, value: str) -> None:
-        table, place, is_signed = self._place(words, self._WRITE)
-        number = int(value)
-        if table == "coil":
-            number = 0xFF00 if number else 0
-        await self._ask(struct.pack(">BHh" if is_signed else ">BHH", self._WRITE[table], place, number))
+        function, place, letter = self._place(words, self._WRITE)
+        number = int(value) if function == 6 else 0xFF00 * (int(value) != 0)
+        await self._ask(struct.pack(">BH", function, place) + struct.pack(letter, number))
 
     @staticmethod
-    def _place(words: str, tables: Mapping[str, int]) -> Tuple[str, int, bool]:
+    def _place(words: str, functions: Mapping[str, int]) -> Tuple[int, int, str]:
         table, place, *form = words.split()
-        if table not in tables or form not in ([], ["int16"]):
+        if table not in functions or form not in ([], ["int16"]):
             raise DeviceFault(f"there is no {words!r} to read or write")
-        return table, int(place), bool(form)
+        return functions[table], int(place), ">h" if form else ">H"
 
     async def _ask(self, request: bytes) -> bytes:
-        self._number = self._number + 1 & 0xFFFF
-        number = self._number
+        number = self._number = self._number + 1 & 0xFFFF
 
         async def talk(reader: asyncio.StreamReader, writer: asyncio.StreamWriter) -> bytes:
             writer.write(struct.pack(">HHHB", number, 0, len(request) + 1, self._unit) + request)
@@ -182,18 +176,18 @@ class Modbus:
         return answer
 
 
-def load_drivers(path: str) -> Dict[str, Driver]:
+def load_drivers(path: str) -> Mapping[str, Driver]:
     """Returns `DRIVERS` of a Python file: drivers by the first words of device links."""
     spec = importlib.util.spec_from_file_location("site_drivers", path)
     assert spec is not None and spec.loader is not None
     module: Any = importlib.util.module_from_spec(spec)
     spec.loader.exec_module(module)
-    drivers: Dict[str, Driver] = module.DRIVERS
+    drivers: Mapping[str, Driver] = module.DRIVERS
     return drivers
 
 
 class Desk:
-    """Hands what records ask to drivers, and their answers back. A driver's `interrupt`, if it has one, requests I/O Intr records."""
+    """Hands what records ask to drivers, and their answers back."""
 
     def __init__(self, drivers: Mapping[str, Driver], answers: DeviceAnswers) -> None:
         self._drivers, self._answers = drivers, answers
@@ -207,13 +201,12 @@ class Desk:
 
     async def _serve(self, ask: Ask) -> None:
         name, _, words = ask.text.partition(" ")
+        value: Value = ""
         try:
-            driver = self._drivers[name]
-            value: Value = ""
             if ask.value is None:
-                value = await driver.read(words)
+                value = await self._drivers[name].read(words)
             else:
-                await driver.write(words, ask.value)
+                await self._drivers[name].write(words, ask.value)
         except Exception as fault:  # whatever a driver raises is a fault of its device
             print(f"{ask.record.decode('latin-1')}: @{ask.text}: {fault!r}", file=sys.stderr)
             self._answers.fault(ask.record, ask.number)

@@ -21,24 +21,19 @@ class Subscription:
 
     def post(self, reading: Reading) -> None:
         """Sends a value, or keeps it in place of one that was kept before."""
-        if self.circuit.may_send():
-            self.kept = None
+        self.kept = None if self.circuit.may_send() else reading
+        if self.kept is None:
             self.circuit.send_value(self, reading)
         else:
-            self.kept = reading
             self.circuit.keep(self)
-
-    def resend(self) -> None:
-        """Sends what was kept."""
-        if self.kept is not None:
-            self.post(self.kept)
 
 
 class _Shared:
     """A field with its subscriptions. The first value of each is read for it."""
 
+    watch: Watch
+
     def __init__(self) -> None:
-        self.watch: Optional[Watch] = None
         self.subscriptions: List[Subscription] = []
 
     def told(self, mask: int, reading: Reading) -> None:
@@ -56,20 +51,18 @@ class Monitors:
 
     def subscribe(self, subscription: Subscription) -> None:
         """Adds a subscription: its first value comes, and then each change that its mask has."""
-        channel = subscription.channel
-        shared = self._fields.setdefault((channel.record.name, channel.field.name), _Shared())
-        shared.subscriptions.append(subscription)
-        if shared.watch is None:
-            shared.watch = self._ioc.watch(channel.record, channel.field, shared.told)
+        record, field = subscription.channel.record, subscription.channel.field
+        shared = self._fields.get((record.name, field.name))
+        if shared is None:
+            shared = self._fields[record.name, field.name] = _Shared()
+            shared.watch = self._ioc.watch(record, field, shared.told)
+        subscriptions = shared.subscriptions
+        subscriptions.append(subscription)
 
         def first(reading: Optional[Reading]) -> None:
-            if subscription not in shared.subscriptions:
-                return
-            subscription.has_begun = True
-            if reading is None:
-                subscription.circuit.send_value(subscription, None)
-            else:
-                subscription.post(reading)
+            if subscription in subscriptions:
+                subscription.has_begun = True
+                subscription.post(reading) if reading is not None else subscription.circuit.send_value(subscription, None)
 
         self._ioc.look(shared.watch, first)
 
@@ -78,7 +71,6 @@ class Monitors:
         key = subscription.channel.record.name, subscription.channel.field.name
         shared = self._fields[key]
         shared.subscriptions.remove(subscription)
-        subscription.kept = None
-        if not shared.subscriptions and shared.watch is not None:
+        if not shared.subscriptions:
             self._ioc.unwatch(shared.watch)
             del self._fields[key]

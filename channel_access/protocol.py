@@ -1,38 +1,24 @@
 """The bytes of Channel Access 4.13: messages, commands, statuses, forms of values."""
 import enum
 import struct
-from typing import Iterator, List, NamedTuple, Optional, Tuple
+from typing import Iterator, NamedTuple, Optional, Tuple
 
 MINOR_VERSION = 13
 MOST_PAYLOAD = 16384
 NO_ADDRESS = 0xFFFFFFFF
+MAY_READ, MAY_WRITE = 1, 2
 _HEADER = struct.Struct(">HHHHII")
 _LONG_HEADER = struct.Struct(">II")
-HEADER_SIZE = _HEADER.size
 
 
 class Command(enum.IntEnum):
     """What a message asks for or answers."""
 
-    VERSION = 0
-    EVENT_ADD = 1
-    EVENT_CANCEL = 2
-    READ = 3
-    WRITE = 4
+    VERSION, EVENT_ADD, EVENT_CANCEL, READ, WRITE = range(5)
     SEARCH = 6
-    EVENTS_OFF = 8
-    EVENTS_ON = 9
-    READ_SYNC = 10
-    ERROR = 11
-    CLEAR_CHANNEL = 12
-    BEACON = 13
+    EVENTS_OFF, EVENTS_ON, READ_SYNC, ERROR, CLEAR_CHANNEL, BEACON = range(8, 14)
     READ_NOTIFY = 15
-    CREATE_CHANNEL = 18
-    WRITE_NOTIFY = 19
-    CLIENT_NAME = 20
-    HOST_NAME = 21
-    ACCESS_RIGHTS = 22
-    ECHO = 23
+    CREATE_CHANNEL, WRITE_NOTIFY, CLIENT_NAME, HOST_NAME, ACCESS_RIGHTS, ECHO = range(18, 24)
     CREATE_FAILED = 26
 
 
@@ -48,34 +34,18 @@ class Status(enum.IntEnum):
     PUT_FAILED = 160
     BAD_COUNT = 176
     NO_WRITE_ACCESS = 376
-    BAD_CHANNEL = 410
 
 
 class Base(enum.IntEnum):
-    """What a value of a form is: the first seven forms are it alone."""
+    """What the value of a form is."""
 
-    STRING = 0
-    SHORT = 1
-    FLOAT = 2
-    ENUM = 3
-    CHAR = 4
-    LONG = 5
-    DOUBLE = 6
+    STRING, SHORT, FLOAT, ENUM, CHAR, LONG, DOUBLE = range(7)
 
 
-class Style(enum.IntEnum):
-    """What stands beside the value in each seven forms: nothing, an alarm, also a time stamp, units and limits, control limits."""
-
-    PLAIN = 0
-    STATUS = 1
-    TIME = 2
-    GRAPHIC = 3
-    CONTROL = 4
-
-
-# The forms behind the 35 of bases and styles; those for alarms to be acknowledged can't be put here.
+# The first forms with an alarm beside the value, with a time stamp too, with units and limits, and with control limits; before them come
+# the bases alone. Then four forms of one base each, of which two put what isn't kept here.
+WITH_ALARM, WITH_TIME, WITH_UNITS, WITH_CONTROL = 7, 14, 21, 28
 PUT_ACKT, PUT_ACKS, STSACK_STRING, CLASS_NAME = 35, 36, 37, 38
-MAY_READ, MAY_WRITE = 1, 2
 
 
 class Message(NamedTuple):
@@ -83,7 +53,7 @@ class Message(NamedTuple):
 
     command: int
     form: int
-    count: int
+    elements: int
     first: int
     second: int
     body: bytes
@@ -95,11 +65,11 @@ class Message(NamedTuple):
 
 
 class MessageError(Exception):
-    """Bytes that are no message: nothing behind them can be read. `header` is what was read of it."""
+    """Bytes behind which nothing can be read: the status of the refusal, its words, and the header of the message."""
 
-    def __init__(self, words: str, header: bytes) -> None:
+    def __init__(self, status: Status, words: str, header: bytes) -> None:
         super().__init__(words)
-        self.header = header
+        self.status, self.header = status, header
 
 
 def pack(command: int, body: bytes = b"", form: int = 0, count: int = 0, first: int = 0, second: int = 0) -> bytes:
@@ -113,34 +83,33 @@ def take_message(data: bytes, offset: int) -> Tuple[Optional[Message], int]:
 
     MessageError if its body is too large, or no multiple of eight bytes.
     """
-    begin = offset + HEADER_SIZE
+    begin = offset + _HEADER.size
     if len(data) < begin:
         return None, offset
-    command, size, form, count, first, second = _HEADER.unpack_from(data, offset)
-    if size == 0xFFFF and count == 0:
+    command, size, form, elements, first, second = _HEADER.unpack_from(data, offset)
+    if size == 0xFFFF and elements == 0:
         if len(data) < begin + _LONG_HEADER.size:
             return None, offset
-        size, count = _LONG_HEADER.unpack_from(data, begin)
+        size, elements = _LONG_HEADER.unpack_from(data, begin)
         begin += _LONG_HEADER.size
-    header = data[offset : offset + HEADER_SIZE]
+    header = data[offset : offset + _HEADER.size]
     if size > MOST_PAYLOAD or size % 8:
-        raise MessageError(f"a body of {size} bytes", header)
+        raise MessageError(Status.TOO_LARGE, f"a body of {size} bytes", header)
     if len(data) < begin + size:
         return None, offset
-    return Message(command, form, count, first, second, data[begin : begin + size], header), begin + size
+    return Message(command, form, elements, first, second, data[begin : begin + size], header), begin + size
 
 
 def messages(data: bytes) -> Iterator[Message]:
     """Yields the messages of a datagram, up to the first that isn't whole."""
     offset = 0
-    while True:
-        try:
+    try:
+        message, offset = take_message(data, offset)
+        while message is not None:
+            yield message
             message, offset = take_message(data, offset)
-        except MessageError:
-            return
-        if message is None:
-            return
-        yield message
+    except MessageError:
+        return
 
 
 def error(header: bytes, status: int, words: str, channel: int = NO_ADDRESS) -> bytes:
@@ -151,12 +120,6 @@ def error(header: bytes, status: int, words: str, channel: int = NO_ADDRESS) -> 
 def found(port: int, client_number: int) -> bytes:
     """Returns the answer to the search for a name that is served at the sender's address and this port."""
     return pack(Command.SEARCH, struct.pack(">H6x", MINOR_VERSION), port, 0, NO_ADDRESS, client_number)
-
-
-def datagrams(version: bytes, answers: List[bytes]) -> Iterator[bytes]:
-    """Yields the datagrams of answers to searches, each begun by its version and short of 1,024 bytes."""
-    for begin in range(0, len(answers), 40):
-        yield version + b"".join(answers[begin : begin + 40])
 
 
 def beacon(port: int, number: int) -> bytes:

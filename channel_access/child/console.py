@@ -7,11 +7,11 @@ import asyncio
 import re
 import sys
 from collections import deque
-from typing import Callable, Deque, Dict, Iterable, List, Mapping, NamedTuple, Optional, Sequence, Tuple
+from typing import Callable, Deque, Dict, List, Mapping, NamedTuple, Optional, Sequence, Tuple
 
 from ..interface import (
-    ALARM, LOG, PROPERTIES, PROPERTY, VALUE, Done, Extent, Field, Given, GotReading, Ioc, Kind, PutCallback, Reading, Record, Told, Watch, is_record_name,
-    state_texts,
+    ALARM, LOG, PROPERTIES, PROPERTY, VALUE, Done, Extent, Field, Given, GotReading, Ioc, Kind, PutCallback, Reading, Record, Told, Watch,
+    is_record_name, state_texts,
 )  # fmt: skip
 from .survey import SEVERITIES, STATUSES, ChildError
 
@@ -32,36 +32,26 @@ Replied = Callable[[List[bytes]], None]
 GotReadings = Callable[[Optional[List[Reading]]], None]
 
 
-class _Call:
-    """Lines that were sent, and their replies so far."""
-
-    __slots__ = "count", "done", "got"
-
-    def __init__(self, count: int, done: Replied) -> None:
-        self.count, self.done = count, done
-        self.got: List[bytes] = []
-
-
 class _Known(NamedTuple):
-    """What was read last of a record: the texts of its properties and its deadbands, and when."""
+    """What was read last of a record, and when: the texts of its properties, and its deadbands."""
 
     properties: Mapping[str, bytes]
     deadbands: Mapping[str, int]
-    has_states: bool
     when: float
 
 
 class _Batch(NamedTuple):
     """The lines of a reading, in which NUL stands for the record's name, how many, and which properties and deadbands they ask for."""
 
-    lines: bytes
-    count: int
+    text: bytes
+    lines: int
     known: Tuple[str, ...]
 
 
 class _Watch(Watch):
-    """A watch, with the numbers that were told last by each deadband."""
+    """A watch, with what was read last and the numbers that were told last by each deadband."""
 
+    last: Optional[Reading] = None
     told_value: Optional[int] = None
     told_log: Optional[int] = None
     has_ended = False
@@ -75,7 +65,7 @@ class _Watch(Watch):
         mask = ALARM if now.status != last.status or now.severity != last.severity else 0
         if now.properties is not last.properties:
             mask |= PROPERTY
-        if self.field.name != "VAL" or now.number is None or not deadbands:
+        if self.field.name != "VAL" or not deadbands:
             return mask | (VALUE | LOG if now.text != last.text else 0)
         if _is_beyond(now, last, self.told_value, deadbands["MDEL"]):
             mask, self.told_value = mask | VALUE, now.number
@@ -103,23 +93,20 @@ def _spelling(number: int, texts: Sequence[bytes]) -> bytes:
     return text
 
 
-def _number(field: Field, text: bytes, properties: Mapping[str, bytes]) -> Optional[int]:
-    """Returns the number behind a text. ValueError if it is of a state that isn't known any more."""
-    if field.kind in (Kind.TEXT, Kind.LINK):
-        return None
-    texts: Sequence[bytes] = state_texts(properties) if field.kind is Kind.STATES else field.choices
-    return texts.index(text) if text and text in texts else int(text)
-
-
 def _asked(field: Field) -> str:
     """The field that is asked for this one: RTYP is no field of the IOC."""
     return field.name if field.name != "RTYP" else "NAME"
 
 
 def _reading(record: Record, field: Field, text: bytes, status: int, severity: int, time: int, properties: Mapping[str, bytes]) -> Reading:
+    """The reading of a field that shows a text. ValueError if that is of a state which isn't known any more."""
+    number: Optional[int] = None
     if field.name == "RTYP":
         text = record.type.encode()
-    return Reading(text, _number(field, text, properties), status, severity, time, properties)
+    elif field.kind not in (Kind.TEXT, Kind.LINK):
+        texts = state_texts(properties) if field.kind is Kind.STATES else field.choices
+        number = texts.index(text) if text and text in texts else int(text)
+    return Reading(text, number, status, severity, time, properties)
 
 
 class Console(Ioc, asyncio.SubprocessProtocol):
@@ -127,27 +114,32 @@ class Console(Ioc, asyncio.SubprocessProtocol):
 
     most_live_puts = 256
 
-    def __init__(self, words: Sequence[str], records: Dict[bytes, Record], has_journal: bool) -> None:
-        self.words, self.records, self.has_journal = words, records, has_journal
-        self.last_line = b""
-        self._calls: Deque[_Call] = deque()
+    def __init__(self, words: Sequence[str], records: Dict[bytes, Record], workers: str, journal: Optional[str]) -> None:
+        self._words = [*words, "--console", "--workers", workers, *(("--journal", journal) if journal else ())]
+        self.records, self._has_journal, self.last_line = records, bool(journal), b""
+        # What was asked, by its number of lines, and what was replied to the first of it so far.
+        self._calls: Deque[Tuple[int, Replied]] = deque()
+        self._got: List[bytes] = []
         self._out: List[bytes] = []
         self._rest: Dict[int, bytes] = {1: b"", 2: b""}
         self._names: Dict[bytes, Optional[Record]] = {}
-        self._lookups = self._ticks = self._polls = self._ticks_open = 0
+        self._lookups = self._ticks = self._polls = 0
         self._known: Dict[bytes, _Known] = {}
         self._batches: Dict[Tuple[str, Tuple[Field, ...], bool], _Batch] = {}
         self._live: Dict[int, Done] = {}
         self._watched: Dict[bytes, List[_Watch]] = {}
         self._fault: Optional[str] = None
 
+    # The process.
+
     async def start(self) -> None:
         """Starts the program, in a session of its own so that Ctrl-C reaches the front alone, and its clock."""
         self._loop = asyncio.get_running_loop()
         self.ended: "asyncio.Future[int]" = self._loop.create_future()
-        self._process, _ = await self._loop.subprocess_exec(lambda: self, *self.words, start_new_session=True)
-        self._stdin = self._process.get_pipe_transport(0)
-        self._begun = self._loop.time()
+        self._process, _ = await self._loop.subprocess_exec(lambda: self, *self._words, start_new_session=True)
+        stdin = self._process.get_pipe_transport(0)
+        assert isinstance(stdin, asyncio.WriteTransport)
+        self._stdin, self._begun = stdin, self._loop.time()
         self._clock = self._loop.call_later(_PERIOD, self._tick)
 
     def close(self) -> None:
@@ -156,47 +148,42 @@ class Console(Ioc, asyncio.SubprocessProtocol):
         self._flush()
         self._stdin.close()
 
-    # The process.
-
     def pipe_data_received(self, fd: int, data: bytes) -> None:
         *lines, self._rest[fd] = (self._rest[fd] + data).split(b"\n")
-        if fd == 2:
-            for line in lines:
-                if not _TOLD.match(line):
-                    print("ioc:", line.decode("utf-8", "replace"), file=sys.stderr, flush=True)
-            return
         for line in lines:
-            if line.startswith(b"ended "):
+            if fd == 2:
+                if not _TOLD.match(line):
+                    print("ioc:", line.decode("utf-8", "replace"), file=sys.stderr)
+            elif line.startswith(b"ended "):
                 done = self._live.pop(int(line[6:]), None)
                 if done is not None:
                     done(None)
             elif self._calls:
-                call = self._calls[0]
-                call.got.append(line)
-                if len(call.got) == call.count:
-                    self._calls.popleft()
-                    call.done(call.got)
+                self._got.append(line)
+                if len(self._got) == self._calls[0][0]:
+                    got, self._got = self._got, []
+                    self._calls.popleft()[1](got)
             else:
                 self.last_line = line
 
     def connection_lost(self, error: Optional[Exception]) -> None:
         self._clock.cancel()
-        status = self._process.get_returncode()
+        status = self._process.get_returncode() or 0
         if self._fault is not None:
             self.ended.set_exception(ChildError(self._fault, 1))
         else:
             self.ended.set_result(status if status >= 0 else 128 - status)
 
-    def _out_of_step(self, got: Iterable[bytes]) -> None:
+    def _out_of_step(self, got: List[bytes]) -> None:
         """Nothing more is right if a reply is none of its line's."""
-        self._fault = f"replies of ioc are out of step: {list(got)[:9]}"
+        self._fault = f"replies of ioc are out of step: {got[:9]}"
         self._process.kill()
 
-    def _ask(self, lines: bytes, count: int, done: Replied) -> None:
-        self._calls.append(_Call(count, done))
+    def _ask(self, text: bytes, lines: int, done: Replied) -> None:
+        self._calls.append((lines, done))
         if not self._out:
             self._loop.call_soon(self._flush)
-        self._out.append(lines)
+        self._out.append(text)
 
     def _flush(self) -> None:
         if not self._stdin.is_closing():
@@ -206,33 +193,26 @@ class Console(Ioc, asyncio.SubprocessProtocol):
     def _tick(self) -> None:
         self._ticks += 1
         self._clock = self._loop.call_at(max(self._begun + (self._ticks + 1) * _PERIOD, self._loop.time()), self._tick)
-        if self._ticks_open < 100:
-            self._ticks_open += 1
-            self._ask(b"tick\n", 1, self._ticked)
-        if self._ticks % 10 == 0 and not self.has_journal:
+        self._ask(b"tick\n", 1, lambda got: None)
+        if self._ticks % 10 == 0 and not self._has_journal:
             self._ask(b"checkpoint\n", 1, lambda got: None)  # each get is an entry of the journal
         if self._polls == 0:
             for watches in self._watched.values():
                 self._poll(watches[0].record, self._ticks % 10 == 0)
 
-    def _ticked(self, got: List[bytes]) -> None:
-        self._ticks_open -= 1
-
     # Records and readings.
 
     def find(self, name: bytes, done: Callable[[Optional[Record]], None]) -> None:
-        record = self.records.get(name)
-        if record is not None or name in self._names:
-            return done(record or self._names[name])
-        if not is_record_name(name) or self._lookups >= _MOST_LOOKUPS:
-            return done(None)
+        record = self.records.get(name) or self._names.get(name)
+        if record is not None or name in self._names or not is_record_name(name) or self._lookups >= _MOST_LOOKUPS:
+            return done(record)
 
         def replied(got: List[bytes]) -> None:
             self._lookups -= 1
             if len(self._names) >= _MOST_NAMES:
                 self._names.clear()
-            self._names[name] = found = self._named(got[0][2:]) if got[0].startswith(b"= ") else None
-            done(found)
+            self._names[name] = self._named(got[0][2:]) if got[0].startswith(b"= ") else None
+            done(self._names[name])
 
         self._lookups += 1
         self._ask(b"get %b.NAME\n" % name, 1, replied)
@@ -258,22 +238,21 @@ class Console(Ioc, asyncio.SubprocessProtocol):
         def replied(got: List[bytes]) -> None:
             if got[0] != got[-1] or got[1] != got[-2]:
                 return again()
-            try:
-                status, severity, time = _STATUS[got[-2]], _SEVERITY[got[-3]], int(got[0][2:])
-            except (KeyError, ValueError):
-                return self._out_of_step(got)
             texts = [reply[2:] for reply in got[2:-3] if reply.startswith(b"= ")]
-            if len(texts) != batch.count - 5:
+            try:
+                status, severity, time = _STATUS[got[-2]], _SEVERITY[got[-3]], int(got[0][2:] if len(texts) == batch.lines - 5 else b"")
+            except (KeyError, ValueError):
                 return self._out_of_step(got)
             if with_properties:
                 self._learn(record, dict(zip(batch.known, texts[len(fields) :])))
             properties = self._known[record.name].properties
             try:
-                done([_reading(record, *pair, status, severity, time, properties) for pair in zip(fields, texts)])
+                readings = [_reading(record, field, text, status, severity, time, properties) for field, text in zip(fields, texts)]
             except ValueError:
-                again()
+                return again()
+            done(readings)
 
-        self._ask(batch.lines.replace(b"\0", record.name), batch.count, replied)
+        self._ask(batch.text.replace(b"\0", record.name), batch.lines, replied)
 
     def _batch(self, record: Record, fields: Tuple[Field, ...], with_properties: bool) -> _Batch:
         """The lines for a reading, the same for all records of a type."""
@@ -288,7 +267,7 @@ class Console(Ioc, asyncio.SubprocessProtocol):
     def _is_stale(self, record: Record) -> bool:
         """Whether the record's properties have to be read: the number of a state stands on texts of the last second."""
         known = self._known.get(record.name)
-        return known is None or known.has_states and known.when < self._loop.time() - 1
+        return known is None or (record.fields["VAL"].kind is Kind.STATES and known.when < self._loop.time() - 1)
 
     def _learn(self, record: Record, texts: Mapping[str, bytes]) -> None:
         """Keeps what was read of a record. Properties that haven't changed stay the same object."""
@@ -296,8 +275,7 @@ class Console(Ioc, asyncio.SubprocessProtocol):
         last = self._known.get(record.name)
         if last is not None and last.properties == properties:
             properties = last.properties
-        deadbands = {name: int(texts[name]) for name in _DEADBANDS if name in texts}
-        self._known[record.name] = _Known(properties, deadbands, record.fields["VAL"].kind is Kind.STATES, self._loop.time())
+        self._known[record.name] = _Known(properties, {name: int(texts[name]) for name in _DEADBANDS if name in texts}, self._loop.time())
 
     def read(self, record: Record, field: Field, extent: Extent, done: GotReading) -> None:
         if extent is not Extent.FIELD or self._is_stale(record):
@@ -315,55 +293,41 @@ class Console(Ioc, asyncio.SubprocessProtocol):
 
     # Puts.
 
-    def _line(self, verb: bytes, record: Record, field: Field, given: Given) -> Optional[bytes]:
-        """The line of a put, if the value can stand in one."""
+    def _put(self, verb: bytes, record: Record, field: Field, given: Given, replied: Callable[[str], None]) -> None:
+        """Sends a put; `replied` is told the reply, or why the value can't stand in a line."""
         if isinstance(given, int):
             known = self._known.get(record.name)
-            states = state_texts(known.properties) if known is not None and field.kind is Kind.STATES else ()
-            given = _spelling(given, states)
+            given = _spelling(given, state_texts(known.properties) if known is not None and field.kind is Kind.STATES else ())
         if b"\n" in given or len(given) > _MOST_TEXT:
-            return None
-        return b"%b %b.%b %b\n" % (b"link" if field.kind is Kind.LINK else verb, record.name, field.name.encode(), given)
-
-    def _send_put(self, verb: bytes, record: Record, field: Field, given: Given, done: Done, done_ok: Callable[[bytes], None]) -> None:
-        line = self._line(verb, record, field, given)
-        if line is None:
-            self._loop.call_soon(done, "a line feed, or too long")
+            self._loop.call_soon(replied, "a line feed, or too long")
             return
-
-        def replied(got: List[bytes]) -> None:
-            if got[0].startswith(b"ok"):
-                done_ok(got[0])
-            else:
-                done(got[0].decode("latin-1"))
-
-        self._ask(line, 1, replied)
-        if _is_known(field.name) and record.name in self._watched:
-            self._poll(record, True)
-        elif _is_known(field.name):
+        if field.kind is Kind.LINK:
+            verb = b"link"
+        line = b"%b %b.%b %b\n" % (verb, record.name, field.name.encode(), given)
+        self._ask(line, 1, lambda got: replied(got[0].decode("latin-1")))
+        if _is_known(field.name):
             self._known.pop(record.name, None)
+            if record.name in self._watched:
+                self._poll(record, True)
 
     def put(self, record: Record, field: Field, given: Given, done: Done) -> None:
-        self._send_put(b"put", record, field, given, done, lambda reply: done(None))
+        self._put(b"put", record, field, given, lambda reply: done(None if reply.startswith("ok") else reply))
 
     def notify(self, record: Record, field: Field, given: Given, done: Done) -> PutCallback:
         begun = PutCallback()
 
-        def ended(words: Optional[str]) -> None:
-            if begun.freed is not None:
+        def replied(reply: str) -> None:
+            if reply.startswith("ok notify "):
+                begun.number = int(reply[10:])
+                self._live[begun.number] = done
+                if begun.freed is not None:
+                    self.cancel(begun, begun.freed)
+            elif begun.freed is not None:
                 begun.freed()
-            else:
-                done(words)
+            else:  # a link change has ended with its reply
+                done(None if reply.startswith("ok") else reply)
 
-        def accepted(reply: bytes) -> None:
-            if not reply.startswith(b"ok notify "):
-                return ended(None)  # a link change has ended with its reply
-            begun.number = int(reply[10:])
-            self._live[begun.number] = done
-            if begun.freed is not None:
-                self.cancel(begun, begun.freed)
-
-        self._send_put(b"notify", record, field, given, ended, accepted)
+        self._put(b"notify", record, field, given, replied)
         return begun
 
     def cancel(self, begun: PutCallback, freed: Callable[[], None]) -> None:
@@ -380,8 +344,6 @@ class Console(Ioc, asyncio.SubprocessProtocol):
         return watch
 
     def look(self, watch: Watch, first: GotReading) -> None:
-        assert isinstance(watch, _Watch)
-
         def read(readings: Optional[List[Reading]]) -> None:
             self._tell((watch,), readings or ())
             first(readings[0] if readings else None)
@@ -407,8 +369,9 @@ class Console(Ioc, asyncio.SubprocessProtocol):
         self._polls += 1
         self._read_moment(record, tuple(watch.field for watch in watches), with_properties, read)
 
-    def _tell(self, watches: Sequence[_Watch], readings: Sequence[Reading]) -> None:
+    def _tell(self, watches: Sequence[Watch], readings: Sequence[Reading]) -> None:
         for watch, reading in zip(watches, readings):
+            assert isinstance(watch, _Watch)
             if not watch.has_ended:
                 mask = watch.due(reading, self._known[watch.record.name].deadbands)
                 if mask:

@@ -52,7 +52,8 @@ def until(is_done: Callable[[], object], seconds: float = PATIENCE, pause: float
 
 def free_ports(count: int) -> List[int]:
     """Returns ports of loopback that are free for TCP and UDP."""
-    held, ports = [], []
+    held: List[socket.socket] = []
+    ports: List[int] = []
     while len(ports) < count:
         tcp, udp = socket.socket(), socket.socket(socket.AF_INET, socket.SOCK_DGRAM)
         held += [tcp, udp]

@@ -36,9 +36,6 @@ class Answers(DeviceAnswers):
     def fault(self, record: bytes, number: int) -> None:
         self.told.append(("fault", record, number, ""))
 
-    def interrupt(self, word: str) -> None:
-        self.told.append(("interrupt", b"", 0, word))
-
 
 class Patterns(unittest.TestCase):
     def test_answers(self) -> None:

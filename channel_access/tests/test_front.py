@@ -14,7 +14,7 @@ import time
 import unittest
 from typing import Iterator, List, Tuple
 
-from .. import channels, protocol, server
+from .. import channels, protocol
 from ..child.survey import kind_of
 from ..client import Client, Refused
 from ..interface import Kind
@@ -29,11 +29,6 @@ RANDOM_MESSAGES = 100_000
 def command(*words: str) -> "subprocess.CompletedProcess[str]":
     """Runs the package's command line to its end."""
     return subprocess.run([sys.executable, "-m", "channel_access", *words], capture_output=True, text=True, timeout=30, env=ENVIRONMENT)
-
-
-def answer(client: Client, *commands: int) -> Message:
-    """The next reply to one of these commands."""
-    return next(message for message in client.replies() if message.command in commands)
 
 
 def is_ended(client: Client) -> bool:
@@ -55,7 +50,7 @@ class WithFront(unittest.TestCase):
 
     def client(self) -> Client:
         client = Client("127.0.0.1", self.front.port)
-        self.addCleanup(client.close)
+        self.addCleanup(client.connection.close)
         return client
 
 
@@ -78,12 +73,12 @@ class Starts(unittest.TestCase):
     def test_macros(self) -> None:
         front = Front("-m", "NAME=tank", "-m", "HIGH=7", database='record(longin, "$(NAME):level") { field(HIGH, $(HIGH)) }')
         self.addCleanup(front.clean)
-        self.assertEqual(Client("127.0.0.1", front.port).read("tank:level.HIGH").text, "7")
+        self.assertEqual(Client("127.0.0.1", front.port).read("tank:level.HIGH")[0], "7")
 
     def test_wrong_words(self) -> None:
         database = str(TOP / "examples" / "plant.db")
-        for words in ([], ["--port"], [database, "--nothing"], [database, "--ioc", "/nowhere/ioc"]):
-            self.assertEqual(command(*words).returncode, 2, words)
+        for words in ("", "--port", f"{database} --nothing", f"{database} --ioc /nowhere/ioc"):
+            self.assertEqual(command(*words.split()).returncode, 2, words)
         with socket.socket() as taken:
             taken.bind(("127.0.0.1", 0))
             run = command(database, "--port", str(taken.getsockname()[1]))
@@ -108,7 +103,7 @@ class Ends(WithFront):
         client = self.client()
         number, _, _ = client.channel("n1")
         client.send(pack(Command.WRITE_NOTIFY, struct.pack(">i4x", 9), Base.LONG, 1, number, 3))
-        self.assertEqual(answer(client, Command.WRITE_NOTIFY).first, Status.NORMAL)
+        self.assertEqual(client.reply(Command.WRITE_NOTIFY).first, Status.NORMAL)
 
     def is_in_the_journal(self) -> None:
         status, told = audit(self.front.database, self.front.journal, "--trace", "n1")
@@ -148,9 +143,9 @@ class SafeByDefault(WithFront):
         number, _, _ = client.channel("n1")
         for request in (Command.WRITE, Command.WRITE_NOTIFY):
             client.send(pack(request, struct.pack(">i4x", 9), Base.LONG, 1, number, 3))
-            refused = answer(client, Command.WRITE_NOTIFY, Command.ERROR)
+            refused = client.reply(Command.WRITE_NOTIFY, Command.ERROR)
             self.assertIn(Status.NO_WRITE_ACCESS, (refused.first, refused.second))
-        self.assertEqual(client.read("n1").text, "0")
+        self.assertEqual(client.read("n1")[0], "0")
 
     def test_it_is_bound_to_loopback(self) -> None:
         place = f"0100007F:{self.front.port:04X}"
@@ -196,10 +191,10 @@ class Names(WithFront):
     def test_a_search_over_tcp(self) -> None:
         client = self.client()
         client.send(pack(Command.SEARCH, b"li\0", 5, protocol.MINOR_VERSION, 8, 8))
-        self.assertEqual(answer(client, Command.SEARCH).second, 8)
+        self.assertEqual(client.reply(Command.SEARCH).second, 8)
 
     def test_an_alias_of_a_long_name(self) -> None:
-        self.assertEqual(self.client().read("short.RTYP").text, "longin")
+        self.assertEqual(self.client().read("short.RTYP")[0], "longin")
 
     def test_beacons(self) -> None:
         with socket.socket(socket.AF_INET, socket.SOCK_DGRAM) as repeater:
@@ -208,7 +203,7 @@ class Names(WithFront):
             front = Front(repeater=repeater.getsockname()[1])
             self.addCleanup(front.clean)
             beacons = [next(protocol.messages(repeater.recv(100))) for _ in range(4)]
-        self.assertEqual([(one.command, one.count, one.first) for one in beacons], [(Command.BEACON, front.port, number) for number in range(4)])
+        self.assertEqual([(one.command, one.elements, one.first) for one in beacons], [(Command.BEACON, front.port, number) for number in range(4)])
 
     def test_kinds_are_those_of_the_rules(self) -> None:
         """The kinds that the front's table has are compared with those that `ioc-replay` names when it refuses a value."""
@@ -216,7 +211,7 @@ class Names(WithFront):
         client = self.client()
         compared = 0
         for name in ("li", "lo", "i6", "o6", "b", "bo", "mi", "mo", "si", "so", "ev", "fan"):
-            record_type = client.read(name + ".RTYP").text
+            record_type = client.read(name + ".RTYP")[0]
             shown = subprocess.run([BIN / "ioc", self.front.database, "--console", "--workers", "1"], input=f"dbpr {name}\n", text=True, capture_output=True)
             fields = re.findall(r"^(\w+): ", shown.stdout.split("\nok ")[0], re.M)
             explained = replay(self.front.database, [f"put {name}.{field} x!" for field in fields], "--explain")
@@ -236,27 +231,27 @@ class Limits(WithFront):
             client = self.client()
             client.send(message)
             self.assertTrue(is_ended(client))
-        self.assertEqual(self.client().read("li").text, "42")
+        self.assertEqual(self.client().read("li")[0], "42")
 
     def test_requests_that_are_refused(self) -> None:
         client = self.client()
         number, _, _ = client.channel("n1")
         for form, count in ((35, 1), (36, 1), (39, 1), (Base.LONG, 2)):
             client.send(pack(Command.READ_NOTIFY, b"", form, count, number, 5))
-            self.assertIn(answer(client, Command.READ_NOTIFY).first, (Status.BAD_TYPE, Status.BAD_COUNT))
+            self.assertIn(client.reply(Command.READ_NOTIFY).first, (Status.BAD_TYPE, Status.BAD_COUNT))
             client.send(pack(Command.EVENT_ADD, WHOLE_MASK, form, count, number, 5))
-            self.assertIn(answer(client, Command.ERROR).second, (Status.BAD_TYPE, Status.BAD_COUNT))
+            self.assertIn(client.reply(Command.ERROR).second, (Status.BAD_TYPE, Status.BAD_COUNT))
             client.send(pack(Command.WRITE_NOTIFY, bytes(8), form if form > 6 else 7, 1, number, 5))
-            self.assertEqual(answer(client, Command.WRITE_NOTIFY).first, Status.PUT_FAILED)
+            self.assertEqual(client.reply(Command.WRITE_NOTIFY).first, Status.PUT_FAILED)
         client.send(pack(Command.READ, b"", Base.LONG, 1, number, 5))
-        self.assertEqual(answer(client, Command.READ).body, bytes(8), "an old client gets its value")
+        self.assertEqual(client.reply(Command.READ).body, bytes(8), "an old client gets its value")
 
     def test_circuits(self) -> None:
-        held = [self.client() for _ in range(server.MOST_CIRCUITS)]
-        self.assertEqual(held[-1].read("li").text, "42")
+        held = [self.client() for _ in range(channels.MOST_CIRCUITS)]
+        self.assertEqual(held[-1].read("li")[0], "42")
         self.assertTrue(is_ended(self.client()))
         for client in held:
-            client.close()
+            client.connection.close()
         self.assertTrue(until(lambda: not is_ended_soon(self.client())))
 
     def test_channels_and_subscriptions(self) -> None:
@@ -264,10 +259,10 @@ class Limits(WithFront):
         create = b"".join(pack(Command.CREATE_CHANNEL, b"li\0", 0, 0, at, protocol.MINOR_VERSION) for at in range(channels.MOST_CHANNELS))
         client.send(create)
         client.send(pack(Command.CREATE_CHANNEL, b"li\0", 0, 0, 7, protocol.MINOR_VERSION))
-        self.assertEqual(answer(client, Command.CREATE_FAILED).first, 7)
+        self.assertEqual(client.reply(Command.CREATE_FAILED).first, 7)
         for _ in range(2):
             client.send(pack(Command.EVENT_ADD, WHOLE_MASK, Base.LONG, 1, 1, 5))
-        self.assertEqual(answer(client, Command.ERROR).second, Status.NO_MEMORY)
+        self.assertEqual(client.reply(Command.ERROR).second, Status.INTERNAL)
 
     def test_requests_of_one_client(self) -> None:
         """More requests at once than may be under way: all are answered, in their order."""
@@ -294,7 +289,7 @@ class Limits(WithFront):
             except BlockingIOError:
                 refused += 1
             other.send(pack(Command.WRITE_NOTIFY, struct.pack(">i4x", value), Base.LONG, 1, target, value))
-            self.assertEqual(answer(other, Command.WRITE_NOTIFY).first, Status.NORMAL)
+            self.assertEqual(other.reply(Command.WRITE_NOTIFY).first, Status.NORMAL)
         deaf.connection.settimeout(5)
         time.sleep(0.3)
         self.assertGreater(refused, 100, "the front reads no further")
@@ -306,23 +301,23 @@ class Limits(WithFront):
         client, other = self.client(), self.client()
         number, _, _ = client.channel("n5")
         client.send(pack(Command.EVENT_ADD, WHOLE_MASK, Base.LONG, 1, number, 1))
-        answer(client, Command.EVENT_ADD)
+        client.reply(Command.EVENT_ADD)
         client.send(pack(Command.EVENTS_OFF))
         target, _, _ = other.channel("n5")
         for value in range(1, 4):
             other.send(pack(Command.WRITE, struct.pack(">i4x", value), Base.LONG, 1, target, 0))
             time.sleep(0.25)
         client.send(pack(Command.ECHO))
-        self.assertEqual(answer(client, Command.EVENT_ADD, Command.ECHO).command, Command.ECHO)
+        self.assertEqual(client.reply(Command.EVENT_ADD, Command.ECHO).command, Command.ECHO)
         client.send(pack(Command.EVENTS_ON))
-        self.assertEqual(struct.unpack_from(">i", answer(client, Command.EVENT_ADD).body)[0], 3, "the latest alone")
+        self.assertEqual(struct.unpack_from(">i", client.reply(Command.EVENT_ADD).body)[0], 3, "the latest alone")
 
     def test_a_user_cant_forge_the_log(self) -> None:
         client = self.client()
         client.send(pack(Command.CLIENT_NAME, b"me\n2026 put n1.VAL 5 by\0") + pack(Command.HOST_NAME, b"\x1b[2J\0"))
         number, _, _ = client.channel("so")
         client.send(pack(Command.WRITE_NOTIFY, b"a\r\x1b\xff".ljust(40, b"\0"), Base.STRING, 1, number, 3))
-        self.assertEqual(answer(client, Command.WRITE_NOTIFY).first, Status.NORMAL)
+        self.assertEqual(client.reply(Command.WRITE_NOTIFY).first, Status.NORMAL)
         self.assertTrue(until(lambda: "put so.VAL" in self.front.errors()))
         line = self.front.errors()
         self.assertEqual((line.count("\n"), "\x1b" in line), (1, False))
@@ -383,7 +378,7 @@ class Rubbish(WithFront):
             sent += len(burst)
         udp.close()
         self.assertGreater(answered, RANDOM_MESSAGES // 4)
-        self.assertEqual(self.client().read("mi").text, "Two")
+        self.assertEqual(self.client().read("mi")[0], "Two")
         self.assertLess(self.front.memory(), 120 << 20)
         self.assertNotIn("Traceback", self.front.errors())
         self.assertEqual(self.front.end(), 0)

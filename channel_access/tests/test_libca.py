@@ -1,4 +1,5 @@
 """The front against libca itself."""
+import ctypes
 import signal
 import struct
 import time
@@ -50,6 +51,8 @@ class WithLibrary(unittest.TestCase):
 
     front: Front
     ca: Library
+    port: int
+    repeater: int
 
     @classmethod
     def setUpClass(cls) -> None:
@@ -98,7 +101,8 @@ class WithLibrary(unittest.TestCase):
         channel = self.ca.channel("li")
         for base, letter, offset in ((SHORT, "h", 12), (LONG, "i", 12), (CHAR, "B", 12)):
             wants = [100, -100 % 256 if base == CHAR else -100, 90, 50, 0, 0]
-            for form, more in ((21 + base, []), (28 + base, wants[:2])):
+            for form in (21 + base, 28 + base):
+                more = wants[:2] if form >= 28 else []
                 data = self.ca.get(channel, form)
                 assert data is not None
                 self.assertEqual((data[4:6], list(struct.unpack_from(f"<{6 + len(more)}{letter}", data, offset))), (b"mm", wants + more))
@@ -269,7 +273,7 @@ class WithLibrary(unittest.TestCase):
         channels = self.ca.channels(names, 10)
         assert channels is not None
         data = [bytearray(4) for _ in names]
-        buffers = [(libca.C.c_char * 4).from_buffer(one) for one in data]
+        buffers = [(ctypes.c_char * 4).from_buffer(one) for one in data]
         for channel, buffer in zip(channels, buffers):
             self.ca.ca.ca_array_get(LONG, 1, channel, buffer)
         self.assertEqual(self.ca.ca.ca_pend_io(10.0), NORMAL)

@@ -90,7 +90,7 @@ class LateFront(unittest.TestCase):
 
     def client(self) -> Client:
         client = Client("127.0.0.1", self.front.port)
-        self.addCleanup(client.close)
+        self.addCleanup(client.connection.close)
         return client
 
     def begin(self, client: Client, name: str, count: int) -> None:
@@ -100,7 +100,7 @@ class LateFront(unittest.TestCase):
 
     def shows(self, name: str, want: int) -> bool:
         client = self.client()
-        return until(lambda: client.read(name).text == str(want))
+        return until(lambda: client.read(name)[0] == str(want))
 
     def release(self, count: int) -> None:
         client = self.client()
@@ -115,7 +115,7 @@ class LateFront(unittest.TestCase):
         client = self.client()
         self.begin(client, "late:a", 3)
         self.assertTrue(self.shows("late:live", 3))
-        self.assertEqual(client.read("n1").text, "0", "other requests don't wait")
+        self.assertEqual(client.read("n1")[0], "0", "other requests don't wait")
         self.release(3)
         self.assertEqual(self.ended(client, 3), [None] * 3)
 
@@ -134,6 +134,6 @@ class LateFront(unittest.TestCase):
         client = self.client()
         self.begin(client, "late:a", 300)
         self.assertTrue(self.shows("late:live", 128))
-        client.close()
+        client.connection.close()
         self.assertTrue(self.shows("late:live", 0))
         self.assertTrue(self.shows("late:cancelled", 128))
