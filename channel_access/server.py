@@ -17,7 +17,7 @@ from .values import Served, served
 
 MOST_NAMES_IN_A_DATAGRAM = 256
 _FIRST_BEACON, _LONGEST_BEACON = 0.02, 15.0
-_CHANNEL_NAME = re.compile(rb"([!-~]{1,60}?)(?:\.([A-Z0-9]{1,8}))?(\$?)\Z")
+_CHANNEL_NAME = re.compile(rb"([^.]+?)(?:\.([A-Z0-9]{1,8}))?(\$?)\Z")
 
 
 class Rights:

@@ -229,15 +229,15 @@ class Console(Ioc, asyncio.SubprocessProtocol):
         with_properties = with_properties or self._is_stale(record)
         batch = self._batch(record, fields, with_properties)
 
-        def again() -> None:
+        def again(with_properties: bool) -> None:
             if tries < _MOST_TRIES:
-                self._read_moment(record, fields, True, done, tries + 1)
+                self._read_moment(record, fields, with_properties, done, tries + 1)
             else:
                 done(None)
 
         def replied(got: List[bytes]) -> None:
             if got[0] != got[-1] or got[1] != got[-2]:
-                return again()
+                return again(with_properties)
             texts = [reply[2:] for reply in got[2:-3] if reply.startswith(b"= ")]
             try:
                 status, severity, time = _STATUS[got[-2]], _SEVERITY[got[-3]], int(got[0][2:] if len(texts) == batch.lines - 5 else b"")
@@ -249,7 +249,7 @@ class Console(Ioc, asyncio.SubprocessProtocol):
             try:
                 readings = [_reading(record, field, text, status, severity, time, properties) for field, text in zip(fields, texts)]
             except ValueError:
-                return again()
+                return again(True)
             done(readings)
 
         self._ask(batch.text.replace(b"\0", record.name), batch.lines, replied)

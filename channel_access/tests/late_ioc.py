@@ -1,9 +1,11 @@
 #!/usr/bin/env python3
 """A stand-in for `ioc DB --console`, which runs bin/ioc behind it: puts with notification to records `late*` end only when that is asked for.
 
-`put late:release N` ends N of them, the oldest first; `late:live` and `late:cancelled` show how many are live and were cancelled.
+`put late:release N` ends N of them, the oldest first; `late:live` and `late:cancelled` show how many are live and were cancelled. The record
+`torn` is processed again and again while its fields are read, and `off` is disabled and enabled.
 """
 import pathlib
+import random
 import subprocess
 import sys
 from typing import List
@@ -19,6 +21,7 @@ class Stand:
         self.ioc = subprocess.Popen([IOC, *words], stdin=subprocess.PIPE, stdout=subprocess.PIPE, stderr=subprocess.DEVNULL)
         self.live: List[int] = []
         self.number = self.cancelled = 0
+        self.is_high, self.chance = False, random.Random(7)
 
     def ask(self, line: bytes) -> List[bytes]:
         """The replies of the program to a line."""
@@ -56,6 +59,11 @@ class Stand:
             count = int(words.split(b" ")[1])
             ended, self.live = self.live[:count], self.live[count:]
             return [b"ok processed", *(b"ended %d" % number for number in ended)]
+        if line.startswith((b"get torn.", b"get off.")) and self.chance.random() < 1 / 30:
+            self.is_high = not self.is_high
+            self.ask(b"put torn.VAL %d" % (500 if self.is_high else 5))
+            self.ask(b"put off.DISA %d" % self.is_high)
+            self.ask(b"process off")
         if line == b"get late:live.VAL":
             return [b"= %d" % len(self.live)]
         if line == b"get late:cancelled.VAL":

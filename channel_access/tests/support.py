@@ -84,7 +84,7 @@ class Front:
         words = [sys.executable, "-m", "channel_access", str(self.database), "--port", str(self.port), *options]
         words += ["--repeater-port", str(repeater or free_ports(1)[0])]
         words += ["--journal", str(self.journal)] if has_journal else []
-        self.process = subprocess.Popen(words, stdout=subprocess.PIPE, stderr=self._errors, env=ENVIRONMENT)
+        self.process = subprocess.Popen(words, stdout=subprocess.PIPE, stderr=self._errors, env=ENVIRONMENT, start_new_session=True)
         assert self.process.stdout is not None
         self.ready = self.process.stdout.readline().decode()
 

@@ -113,6 +113,9 @@ class Ends(WithFront):
         for number in (signal.SIGTERM, signal.SIGINT):
             self.put()
             (child,) = self.front.children()
+            if number == signal.SIGINT:
+                os.killpg(self.front.process.pid, number)  # as a terminal does
+                self.front.process.wait(10)
             self.assertEqual(self.front.end(number), 0)
             self.assertFalse(pathlib.Path(f"/proc/{child}").exists())
             self.is_in_the_journal()
@@ -311,6 +314,22 @@ class Limits(WithFront):
         self.assertEqual(client.reply(Command.EVENT_ADD, Command.ECHO).command, Command.ECHO)
         client.send(pack(Command.EVENTS_ON))
         self.assertEqual(struct.unpack_from(">i", client.reply(Command.EVENT_ADD).body)[0], 3, "the latest alone")
+
+    def test_a_subscription_that_is_cancelled(self) -> None:
+        client = self.client()
+        number, _, _ = client.channel("scan")
+        for request in (Command.EVENT_ADD, Command.EVENT_CANCEL):
+            client.send(pack(request, WHOLE_MASK, Base.LONG, 1, number, 1))
+        while client.reply(Command.EVENT_ADD).body:
+            pass
+        time.sleep(0.4)
+        client.send(pack(Command.ECHO))
+        self.assertEqual(client.reply(Command.EVENT_ADD, Command.ECHO).command, Command.ECHO)
+        client.send(pack(Command.EVENT_ADD, WHOLE_MASK, Base.LONG, 1, number, 1) + pack(Command.CLEAR_CHANNEL, b"", 0, 0, number, 1))
+        client.reply(Command.CLEAR_CHANNEL)
+        time.sleep(0.4)
+        client.send(pack(Command.ECHO))
+        self.assertEqual(client.reply(Command.EVENT_ADD, Command.ECHO).command, Command.ECHO)
 
     def test_a_user_cant_forge_the_log(self) -> None:
         client = self.client()

@@ -1,4 +1,4 @@
-"""Put callbacks that end late: fair shares, and circuits that end. The IOC is a stand-in."""
+"""Put callbacks that end late: fair shares, and circuits that end; records that are processed while they are read. The IOC is a stand-in."""
 import pathlib
 import struct
 import unittest
@@ -6,7 +6,7 @@ from typing import Callable, Dict, List, Optional, cast
 
 from ..client import Client
 from ..interface import Done, Field, Given, Ioc, Kind, PutCallback, Record
-from ..protocol import Base, Command, Status, pack
+from ..protocol import WITH_TIME, Base, Command, Status, pack
 from ..puts import MOST_WAITING, Puts
 from .support import DATABASE, Front, until
 
@@ -14,6 +14,9 @@ FIELD = Field("VAL", Kind.LONG, True)
 RECORD = Record(b"rec", "longout", {"VAL": FIELD})
 LATE_IOC = str(pathlib.Path(__file__).with_name("late_ioc.py"))
 LATE = DATABASE + "".join(f'record(longout, "late:{name}") {{}}\n' for name in ("release", "live", "cancelled", "a", "b"))
+LATE += """record(longout, "torn") { field(HIGH, 100) field(HSV, MAJOR) }
+record(longout, "off") { field(VAL, 5) field(DISS, MAJOR) }
+"""
 
 
 class LateIoc:
@@ -129,6 +132,17 @@ class LateFront(unittest.TestCase):
             self.release(128)
             self.assertTrue(self.shows("late:live", left))
         self.assertEqual(self.ended(greedy, 300), [None] * 300)
+
+    def test_a_reading_is_of_one_moment(self) -> None:
+        client = self.client()
+        for name, often, at_first in (("torn", {(4, 2, 500), (0, 0, 5)}, (17, 3, 0)), ("off", {(18, 2, 5), (0, 0, 5)}, (17, 0, 5))):
+            number, _, _ = client.channel(name)
+            seen = set()
+            for at in range(200):
+                client.send(pack(Command.READ_NOTIFY, b"", WITH_TIME + Base.LONG, 1, number, at))
+                seen.add(struct.unpack_from(">hh8xi", client.reply(Command.READ_NOTIFY).body))
+            self.assertLessEqual(often, seen)
+            self.assertLessEqual(seen, {*often, at_first})
 
     def test_the_end_of_a_circuit_cancels(self) -> None:
         client = self.client()
