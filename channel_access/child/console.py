@@ -163,8 +163,10 @@ class Console(Ioc, asyncio.SubprocessProtocol):
                 if len(self._got) == self._calls[0][0]:
                     got, self._got = self._got, []
                     self._calls.popleft()[1](got)
-            else:
+            elif self._stdin.is_closing():
                 self.last_line = line
+            else:
+                self._out_of_step([line])
 
     def connection_lost(self, error: Optional[Exception]) -> None:
         self._clock.cancel()
@@ -236,6 +238,8 @@ class Console(Ioc, asyncio.SubprocessProtocol):
                 done(None)
 
         def replied(got: List[bytes]) -> None:
+            if not got[0].startswith(b"= "):
+                return self._out_of_step(got)
             if got[0] != got[-1] or got[1] != got[-2]:
                 return again(with_properties)
             texts = [reply[2:] for reply in got[2:-3] if reply.startswith(b"= ")]

@@ -1,8 +1,8 @@
 #!/usr/bin/env python3
 """A stand-in for `ioc DB --console`, which runs bin/ioc behind it: puts with notification to records `late*` end only when that is asked for.
 
-`put late:release N` ends N of them, the oldest first; `late:live` and `late:cancelled` show how many are live and were cancelled. The record
-`torn` is processed again and again while its fields are read, and `off` is disabled and enabled.
+`put late:release N` ends N of them, the oldest first; `late:live` and `late:cancelled` show how many are live and were cancelled, and
+`late:gets` how many fields were read. The record `torn` is processed again and again while its fields are read, and `off` is disabled and enabled.
 """
 import pathlib
 import random
@@ -20,7 +20,7 @@ class Stand:
     def __init__(self, words: List[str]) -> None:
         self.ioc = subprocess.Popen([IOC, *words], stdin=subprocess.PIPE, stdout=subprocess.PIPE, stderr=subprocess.DEVNULL)
         self.live: List[int] = []
-        self.number = self.cancelled = 0
+        self.number = self.cancelled = self.gets = 0
         self.is_high, self.chance = False, random.Random(7)
 
     def ask(self, line: bytes) -> List[bytes]:
@@ -47,6 +47,7 @@ class Stand:
     def answer(self, line: bytes) -> List[bytes]:
         """The replies to a line."""
         verb, _, words = line.partition(b" ")
+        self.gets += verb == b"get"
         if verb == b"notify":
             return self.notify(words)
         if verb == b"cancel":
@@ -68,6 +69,8 @@ class Stand:
             return [b"= %d" % len(self.live)]
         if line == b"get late:cancelled.VAL":
             return [b"= %d" % self.cancelled]
+        if line == b"get late:gets.VAL":
+            return [b"= %d" % self.gets]
         return self.ask(line)
 
     def run(self) -> int:

@@ -181,11 +181,17 @@ class Names(WithFront):
                 return got
 
     def test_searches(self) -> None:
-        got = self.search(b"li", b"nothing", b"li:alias", b"li.NOPE", b"so.VAL$", b"li$", b"", b"li\nput li 5", b'"', b"li.RTYP")
+        got = self.search(b"li", b"nothing", b"li:alias", b"li.NOPE", b"so.VAL$", b"li$", b"", b"x\nput li 5", b'"', b"li.RTYP")
         self.assertEqual((got[0].command, got[0].first), (Command.VERSION, 77), "the number of the datagram comes back")
         self.assertEqual(sorted(message.second for message in got[1:]), [0, 2, 4, 9])
         self.assertEqual({(message.form, message.first) for message in got[1:]}, {(self.front.port, protocol.NO_ADDRESS)})
         self.assertEqual(self.search(b"nothing"), [])
+
+    def test_a_name_is_no_line(self) -> None:
+        for name in ("x\nput li 5", "li\nput li 5\nget li", "li 5", " li", 'li"', "li\r", "li\0put", "x" * 61, "li\x7f"):
+            with self.assertRaises(Refused):
+                self.client().channel(name.replace("\0", "\x01"))
+        self.assertEqual(self.client().read("li")[0], "42")
 
     def test_many_names_in_a_datagram(self) -> None:
         got = self.search(*(b"n%d" % number for number in range(200)))

@@ -1,6 +1,7 @@
 """Put callbacks that end late: fair shares, and circuits that end; records that are processed while they are read. The IOC is a stand-in."""
 import pathlib
 import struct
+import time
 import unittest
 from typing import Callable, Dict, List, Optional, cast
 
@@ -13,7 +14,7 @@ from .support import DATABASE, Front, until
 FIELD = Field("VAL", Kind.LONG, True)
 RECORD = Record(b"rec", "longout", {"VAL": FIELD})
 LATE_IOC = str(pathlib.Path(__file__).with_name("late_ioc.py"))
-LATE = DATABASE + "".join(f'record(longout, "late:{name}") {{}}\n' for name in ("release", "live", "cancelled", "a", "b"))
+LATE = DATABASE + "".join(f'record(longout, "late:{name}") {{}}\n' for name in ("release", "live", "cancelled", "gets", "a", "b"))
 LATE += """record(longout, "torn") { field(HIGH, 100) field(HSV, MAJOR) }
 record(longout, "off") { field(VAL, 5) field(DISS, MAJOR) }
 """
@@ -143,6 +144,21 @@ class LateFront(unittest.TestCase):
                 seen.add(struct.unpack_from(">hh8xi", client.reply(Command.READ_NOTIFY).body))
             self.assertLessEqual(often, seen)
             self.assertLessEqual(seen, {*often, at_first})
+
+    def test_the_end_of_a_circuit_ends_its_subscriptions(self) -> None:
+        client, other = self.client(), self.client()
+        number, _, _ = client.channel("torn")
+        client.send(pack(Command.EVENT_ADD, struct.pack(">12xH2x", 1), Base.LONG, 1, number, 1))
+        client.reply(Command.EVENT_ADD)
+        counts = [int(other.read("late:gets")[0])]
+        for _ in range(2):
+            time.sleep(0.5)
+            counts.append(int(other.read("late:gets")[0]))
+            client.connection.close()
+        time.sleep(0.5)
+        counts.append(int(other.read("late:gets")[0]))
+        self.assertGreater(counts[1] - counts[0], 20)
+        self.assertLess(counts[3] - counts[2], 20)
 
     def test_the_end_of_a_circuit_cancels(self) -> None:
         client = self.client()
