@@ -76,20 +76,17 @@ def main(seconds: float) -> None:
     measure.show("gets with alarm and time stamp", lambda: measure.gets(TIME_LONG))
     measure.show("puts", measure.puts)
     measure.show("put callbacks", measure.put_callbacks)
-    seen = [0]
-
-    def told(data: Any) -> None:
-        seen[0] += 1
-
     for number in range(AT_ONCE):
-        measure.ca.monitor(f"n{number}", TIME_LONG, 1, told)
+        measure.ca.monitor(f"n{number}", TIME_LONG, 1, lambda data: None)
+    measure.ca.pend(1.0)
 
     def one_second() -> int:
         measure.ca.pend(1.0)
         return 1
 
+    before = measure.front.journal.stat().st_size
     measure.show(f"a second of {AT_ONCE} monitors without changes", one_second)
-    print("journal:", measure.front.journal.stat().st_size >> 20, "MiB")
+    print(f"journal: {(measure.front.journal.stat().st_size - before) / seconds / 1e6:.1f} MB a second of these")
     measure.front.clean()
     os._exit(0)
 

@@ -1,14 +1,17 @@
 """The front against libca itself."""
 import ctypes
+import re
 import signal
 import struct
+import subprocess
+import sys
 import time
 import unittest
 from typing import Any, Dict, List, Optional, Tuple, Union
 
 from . import libca
 from .libca import ALARM, LOG, NORMAL, PROPERTY, VALUE, Library
-from .support import Front, audit, free_ports
+from .support import TOP, Front, audit, free_ports
 
 Value = Union[str, int, float, None]
 STRING, SHORT, FLOAT, ENUM, CHAR, LONG, DOUBLE = range(7)
@@ -132,6 +135,11 @@ class WithLibrary(unittest.TestCase):
         self.assertEqual(self.ca.read("short.NAME"), "a:name:of:more:than:39:bytes:that:an:al")
         self.assertEqual(self.ca.read("i6"), "9007199254740993")
         self.assertEqual([self.ca.channel(name, 0.3) for name in ("nothing", "li.NOPE", "li$", "li.val")], [None] * 4)
+
+    def test_17_the_example_of_the_manual(self) -> None:
+        (example,) = re.findall(r"```python\n(.*?)```", (TOP / "docs" / "CHANNEL_ACCESS.md").read_text(), re.S)
+        run = subprocess.run([sys.executable, "-c", example.replace("plant:level", "mi")], capture_output=True, text=True, timeout=30)
+        self.assertEqual((run.returncode, run.stdout), (0, "Two\n"))
 
     def test_16_long_texts(self) -> None:
         channel = self.ca.channel("copy.INP$")
