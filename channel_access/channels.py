@@ -241,6 +241,8 @@ class Circuit(asyncio.Protocol):
 
         if not channel.may_write:
             return done(Status.NO_WRITE_ACCESS, "it may not be written")
+        if message.elements > channel.served.elements:
+            return done(Status.BAD_COUNT, "too many elements")
         try:
             given = given_value(channel.served, message.form, message.elements, message.body)
         except NO_VALUE:

@@ -1,8 +1,9 @@
 #!/usr/bin/env python3
 """A stand-in for `ioc DB --console`, which runs bin/ioc behind it: puts with notification to records `late*` end only when that is asked for.
 
-`put late:release N` ends N of them, the oldest first; `late:live` and `late:cancelled` show how many are live and were cancelled, and
-`late:gets` how many fields were read. The record `torn` is processed again and again while its fields are read, and `off` is disabled and enabled.
+`put late:release N` ends N of them, the oldest first; `late:live` and `late:cancelled` show how many are live and were cancelled,
+`late:gets` how many fields were read, and `late:checkpoints` how many checkpoints were made. The record `torn` is processed again and again
+while its fields are read, and `off` is disabled and enabled.
 """
 import pathlib
 import random
@@ -20,7 +21,7 @@ class Stand:
     def __init__(self, words: List[str]) -> None:
         self.ioc = subprocess.Popen([IOC, *words], stdin=subprocess.PIPE, stdout=subprocess.PIPE, stderr=subprocess.DEVNULL)
         self.live: List[int] = []
-        self.number = self.cancelled = self.gets = 0
+        self.number = self.cancelled = self.gets = self.checkpoints = 0
         self.is_high, self.chance = False, random.Random(7)
 
     def ask(self, line: bytes) -> List[bytes]:
@@ -48,6 +49,7 @@ class Stand:
         """The replies to a line."""
         verb, _, words = line.partition(b" ")
         self.gets += verb == b"get"
+        self.checkpoints += verb == b"checkpoint"
         if verb == b"notify":
             return self.notify(words)
         if verb == b"cancel":
@@ -71,6 +73,8 @@ class Stand:
             return [b"= %d" % self.cancelled]
         if line == b"get late:gets.VAL":
             return [b"= %d" % self.gets]
+        if line == b"get late:checkpoints.VAL":
+            return [b"= %d" % self.checkpoints]
         return self.ask(line)
 
     def run(self) -> int:

@@ -8,7 +8,10 @@ import subprocess
 import sys
 import tempfile
 import time
+import unittest
 from typing import Callable, List, Optional, Sequence, Tuple
+
+from ..client import Client, Refused
 
 TOP = pathlib.Path(__file__).resolve().parent.parent.parent
 BIN = TOP / "bin"
@@ -36,6 +39,7 @@ record(longin, "locked") { field(DISP, 1) }
 record(longout, "deadband") { field(MDEL, 5) field(ADEL, 10) }
 record(longout, "always") { field(MDEL, -1) }
 record(longout, "switch") { field(SDIS, "lo.DISA") field(DISV, 7) field(DISS, MAJOR) }
+record(stringout, "unit") { field(OUT, "lo.EGU") }
 record(longin, "a:name:of:more:than:39:bytes:that:an:alias:leads:to") { alias("short") }
 """ + "".join(f'record(longout, "n{number}") {{}}\n' for number in range(1000))  # fmt: skip
 
@@ -130,3 +134,28 @@ def replay(database: pathlib.Path, lines: Sequence[str], *options: str) -> "subp
     """Runs `ioc-replay` on lines."""
     words = [str(BIN / "ioc-replay"), *options, str(database), "-"]
     return subprocess.run(words, input="".join(line + "\n" for line in lines), capture_output=True, text=True, timeout=60)
+
+
+def is_ended(client: Client) -> bool:
+    """Whether the server has ended the circuit, perhaps after some replies."""
+    try:
+        for _ in client.replies():
+            pass
+    except Refused as refused:
+        return "ended" in str(refused) or "reset" in str(refused)
+    return False
+
+
+class WithFront(unittest.TestCase):
+    """Tests of a front with a journal, which is started for each."""
+
+    options: Tuple[str, ...] = ()
+
+    def setUp(self) -> None:
+        self.front = Front(*self.options, has_journal=True)
+        self.addCleanup(self.front.clean)
+
+    def client(self) -> Client:
+        client = Client("127.0.0.1", self.front.port)
+        self.addCleanup(client.connection.close)
+        return client

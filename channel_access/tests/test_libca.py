@@ -231,6 +231,8 @@ class WithLibrary(unittest.TestCase):
         self.ca.put_text("lo.HOPR", "77")
         self.assertTrue(self.ca.until(lambda: struct.unpack_from("<i", seen[-1], 12)[0] == 77))
         self.assertEqual(seen[-1][4:6], b"kV")
+        self.ca.put_text("unit", "MV")
+        self.assertTrue(self.ca.until(lambda: seen[-1][4:6] == b"MV"), "a change by a link is told within a second")
 
     def test_32_deadbands(self) -> None:
         values: List[Any] = []

@@ -14,7 +14,7 @@ from .support import DATABASE, Front, until
 FIELD = Field("VAL", Kind.LONG, True)
 RECORD = Record(b"rec", "longout", {"VAL": FIELD})
 LATE_IOC = str(pathlib.Path(__file__).with_name("late_ioc.py"))
-LATE = DATABASE + "".join(f'record(longout, "late:{name}") {{}}\n' for name in ("release", "live", "cancelled", "gets", "a", "b"))
+LATE = DATABASE + "".join(f'record(longout, "late:{name}") {{}}\n' for name in ("release", "live", "cancelled", "gets", "checkpoints", "a", "b"))
 LATE += """record(longout, "torn") { field(HIGH, 100) field(HSV, MAJOR) }
 record(longout, "off") { field(VAL, 5) field(DISS, MAJOR) }
 """
@@ -122,6 +122,12 @@ class LateFront(unittest.TestCase):
         self.assertEqual(client.read("n1")[0], "0", "other requests don't wait")
         self.release(3)
         self.assertEqual(self.ended(client, 3), [None] * 3)
+
+    def test_entries_are_dropped_once_a_second(self) -> None:
+        client = self.client()
+        self.assertTrue(until(lambda: client.read("late:checkpoints")[0] == "1", 3))
+        time.sleep(1.0)
+        self.assertIn(client.read("late:checkpoints")[0], ("1", "2"))
 
     def test_one_client_with_300(self) -> None:
         greedy, other = self.client(), self.client()
