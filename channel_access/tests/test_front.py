@@ -212,7 +212,7 @@ class Names(WithFront):
         compared = 0
         for name in ("li", "lo", "i6", "o6", "b", "bo", "mi", "mo", "si", "so", "ev", "fan"):
             record_type = client.read(name + ".RTYP")[0]
-            console = [BIN / "ioc", self.front.database, "--console", "--workers", "1"]
+            console = [str(BIN / "ioc"), str(self.front.database), "--console", "--workers", "1"]
             shown = subprocess.run(console, input=f"dbpr {name}\n", text=True, capture_output=True)
             fields = re.findall(r"^(\w+): ", shown.stdout.split("\nok ")[0], re.M)
             explained = replay(self.front.database, [f"put {name}.{field} x!" for field in fields], "--explain")
