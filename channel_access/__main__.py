@@ -13,8 +13,7 @@ from .server import Rights, Server
 
 BIN = pathlib.Path(__file__).resolve().parent.parent / "bin"
 USAGE_FAULT = 2
-DESCRIPTION = """Serves the records of a database by Channel Access, or reads channels of a server. Nothing can be written unless it is allowed.
-docs/CHANNEL_ACCESS.md is the manual."""
+DESCRIPTION = "Serves a database by Channel Access; nothing can be written unless it is allowed. docs/CHANNEL_ACCESS.md is the manual."
 
 
 def _arguments() -> argparse.ArgumentParser:

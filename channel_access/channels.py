@@ -2,7 +2,7 @@
 import asyncio
 import socket
 import struct
-from typing import TYPE_CHECKING, Callable, Dict, List, NamedTuple, Optional
+from typing import TYPE_CHECKING, Callable, Dict, List, NamedTuple, Optional, Set
 
 from . import protocol
 from .interface import Reading
@@ -28,6 +28,7 @@ class Channel(NamedTuple):
     client_number: int
     served: Served
     may_write: bool
+    subscriptions: Set[Subscription]
 
 
 class Circuit(asyncio.Protocol):
@@ -41,7 +42,7 @@ class Circuit(asyncio.Protocol):
         self.peer = ""
         self._channels: Dict[int, Channel] = {}
         self._subscriptions: Dict[int, Subscription] = {}
-        self._kept: Dict[int, Subscription] = {}
+        self.kept: Dict[int, Subscription] = {}
         self._input = b""
         self._out: List[bytes] = []
         self._last_channel = self._requests = 0
@@ -115,7 +116,8 @@ class Circuit(asyncio.Protocol):
         else:
             self._transport.resume_reading()
 
-    def _end_request(self) -> None:
+    def end_request(self) -> None:
+        """Counts a request that isn't under way any more."""
         self._requests -= 1
         if self._requests == MOST_REQUESTS // 2:
             self._loop.call_soon(self._go_on)
@@ -153,7 +155,7 @@ class Circuit(asyncio.Protocol):
 
     def _search(self, message: Message) -> None:
         def found(served: Optional[Served]) -> None:
-            self._end_request()
+            self.end_request()
             if served is not None:
                 self._send(protocol.found(self._server.port, message.first))
 
@@ -162,14 +164,14 @@ class Circuit(asyncio.Protocol):
 
     def _create(self, message: Message) -> None:
         def found(served: Optional[Served]) -> None:
-            self._end_request()
+            self.end_request()
             if self._is_closed:
                 return
             if served is None or len(self._channels) >= MOST_CHANNELS or self._server.channel_count >= MOST_IN_ALL:
                 return self._send(pack(Command.CREATE_FAILED, first=message.first))
             self._last_channel += 1
             self._server.channel_count += 1
-            channel = self._channels[self._last_channel] = Channel(message.first, served, self._server.rights.may_write(served))
+            channel = self._channels[self._last_channel] = Channel(message.first, served, self._server.rights.may_write(served), set())
             rights = protocol.MAY_READ | (protocol.MAY_WRITE if channel.may_write else 0)
             self._send(pack(Command.ACCESS_RIGHTS, first=message.first, second=rights))
             self._send(pack(Command.CREATE_CHANNEL, b"", served.base, served.elements, message.first, self._last_channel))
@@ -178,11 +180,10 @@ class Circuit(asyncio.Protocol):
         self._server.find(message.text(), found)
 
     def _clear(self, message: Message) -> None:
-        self._channel(message)
+        for subscription in list(self._channel(message).subscriptions):
+            self._unsubscribe(subscription)
         del self._channels[message.first]
         self._server.channel_count -= 1
-        for subscription in [one for one in self._subscriptions.values() if one.server_number == message.first]:
-            self._unsubscribe(subscription)
         self._send(pack(Command.CLEAR_CHANNEL, b"", message.form, message.elements, message.first, message.second))
 
     # Gets.
@@ -205,7 +206,7 @@ class Circuit(asyncio.Protocol):
                 self._send(pack(Command.READ_NOTIFY, bytes(8), message.form, message.elements, status, message.second))
 
         def got(reading: Optional[Reading]) -> None:
-            self._end_request()
+            self.end_request()
             try:
                 if reading is None:
                     raise ValueError
@@ -235,7 +236,7 @@ class Circuit(asyncio.Protocol):
 
         def put(refusal: Optional[str]) -> None:
             if not has_callback:
-                self._end_request()
+                self.end_request()
             self._server.log_put(self, channel.served, given, refusal)
             done(Status.NORMAL if refusal is None else Status.PUT_FAILED, refusal or "")
 
@@ -269,7 +270,9 @@ class Circuit(asyncio.Protocol):
         mask = struct.unpack_from(">H", message.body, 12)[0]
         subscription = Subscription(self, channel.served, message.first, message.second, message.form, message.elements, mask)
         self._subscriptions[message.second] = subscription
+        channel.subscriptions.add(subscription)
         self._server.subscription_count += 1
+        self._requests += 1
         self._server.monitors.subscribe(subscription)
 
     def _cancel_subscription(self, message: Message) -> None:
@@ -280,8 +283,9 @@ class Circuit(asyncio.Protocol):
 
     def _unsubscribe(self, subscription: Subscription) -> None:
         del self._subscriptions[subscription.number]
+        self._channels[subscription.server_number].subscriptions.remove(subscription)
         self._server.subscription_count -= 1
-        self._kept.pop(subscription.number, None)
+        self.kept.pop(subscription.number, None)
         self._server.monitors.cancel(subscription)
 
     def _events_off(self, message: Message) -> None:
@@ -292,18 +296,14 @@ class Circuit(asyncio.Protocol):
         self._resend()
 
     def _resend(self) -> None:
-        kept, self._kept = self._kept, {}
+        kept, self.kept = self.kept, {}
         for subscription in kept.values():
             if subscription.kept is not None:
                 subscription.post(subscription.kept)
 
     def may_send(self) -> bool:
-        """Whether the client takes values now. If not, those that are kept are sent when it does."""
+        """Whether the client takes values now. If not, those of subscriptions that are `kept` are sent when it does."""
         return not self._is_unread and not self._are_events_off
-
-    def keep(self, subscription: Subscription) -> None:
-        """Notes that a subscription has a value that couldn't be sent."""
-        self._kept[subscription.number] = subscription
 
     def send_value(self, subscription: Subscription, reading: Optional[Reading]) -> None:
         """Sends a value of a subscription, or that there is none."""

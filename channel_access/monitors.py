@@ -1,5 +1,5 @@
 """Subscriptions: who hears of the changes of a field. A client that doesn't read keeps the latest value of each, and no more."""
-from typing import TYPE_CHECKING, Dict, List, Optional, Tuple
+from typing import TYPE_CHECKING, Dict, Optional, Tuple
 
 from .interface import Ioc, Reading, Watch
 from .values import Served
@@ -25,7 +25,7 @@ class Subscription:
         if self.kept is None:
             self.circuit.send_value(self, reading)
         else:
-            self.circuit.keep(self)
+            self.circuit.kept[self.number] = self
 
 
 class _Shared:
@@ -34,7 +34,7 @@ class _Shared:
     watch: Watch
 
     def __init__(self) -> None:
-        self.subscriptions: List[Subscription] = []
+        self.subscriptions: Dict[Subscription, None] = {}
 
     def told(self, mask: int, reading: Reading) -> None:
         for subscription in self.subscriptions:
@@ -57,9 +57,10 @@ class Monitors:
             shared = self._fields[record.name, field.name] = _Shared()
             shared.watch = self._ioc.watch(record, field, shared.told)
         subscriptions = shared.subscriptions
-        subscriptions.append(subscription)
+        subscriptions[subscription] = None
 
         def first(reading: Optional[Reading]) -> None:
+            subscription.circuit.end_request()
             if subscription in subscriptions:
                 subscription.has_begun = True
                 subscription.post(reading) if reading is not None else subscription.circuit.send_value(subscription, None)
@@ -70,7 +71,7 @@ class Monitors:
         """Removes a subscription: nothing more is sent for it."""
         key = subscription.channel.record.name, subscription.channel.field.name
         shared = self._fields[key]
-        shared.subscriptions.remove(subscription)
+        del shared.subscriptions[subscription]
         if not shared.subscriptions:
             self._ioc.unwatch(shared.watch)
             del self._fields[key]

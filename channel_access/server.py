@@ -52,8 +52,7 @@ class Server(asyncio.DatagramProtocol):
     async def start(self) -> None:
         """Begins to serve. OSError if the port is taken."""
         loop = asyncio.get_running_loop()
-        self._udp, _ = await loop.create_datagram_endpoint(lambda: self, local_addr=(self.address, self.port))
-        self._udp.get_extra_info("socket").setsockopt(socket.SOL_SOCKET, socket.SO_RCVBUF, 1 << 20)
+        await loop.create_datagram_endpoint(lambda: self, local_addr=(self.address, self.port))
         self._tcp = await loop.create_server(lambda: Circuit(self), self.address, self.port, backlog=512)
 
     def close(self) -> None:
@@ -85,6 +84,10 @@ class Server(asyncio.DatagramProtocol):
         stamp = time.strftime("%Y-%m-%dT%H:%M:%S", time.gmtime(now)) + f".{int(now % 1 * 1e6):06}Z"
         user, host, text = (ascii(part.decode("latin-1")) if isinstance(part, bytes) else part for part in (circuit.user, circuit.host, given))
         print(f"{stamp} put {record}.{channel.field.name} {text} by {user} at {host} ({circuit.peer}): {refusal or 'ok'}", file=sys.stderr)
+
+    def connection_made(self, transport: Any) -> None:
+        self._udp = transport
+        self._udp.get_extra_info("socket").setsockopt(socket.SOL_SOCKET, socket.SO_RCVBUF, 1 << 20)
 
     def datagram_received(self, data: bytes, sender: Any) -> None:
         """Answers the names of a datagram that lead somewhere, when all of them are looked up."""

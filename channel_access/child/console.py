@@ -18,10 +18,11 @@ from .survey import SEVERITIES, STATUSES, ChildError
 _PERIOD = 0.1
 # A line has at most 1,024 bytes; verb, record and field take fewer than 100.
 _MOST_TEXT = 900
-# How often a reading is asked again, and how many names are looked up at a time and remembered.
+# How often a reading is asked again, how many names are looked up at a time and remembered, and how many sets of fields.
 _MOST_TRIES = 20
 _MOST_LOOKUPS = 1000
 _MOST_NAMES = 100_000
+_MOST_BATCHES = 10_000
 _DEADBANDS = ("MDEL", "ADEL")
 # What the console writes on standard error for a refusal, which its reply has told.
 _TOLD = re.compile(rb"line \d+: (E\d+ \w+|bad)\Z")
@@ -85,14 +86,6 @@ def _is_known(field: str) -> bool:
     return field in PROPERTIES or field in _DEADBANDS
 
 
-def _spelling(number: int, texts: Sequence[bytes]) -> bytes:
-    """Returns a number as a text that isn't the text of a state: 3, +3, +03, .."""
-    text, zeros = b"%d" % number, 0
-    while text in texts:
-        text, zeros = b"+%b%d" % (b"0" * zeros, number), zeros + 1
-    return text
-
-
 def _asked(field: Field) -> str:
     """The field that is asked for this one: RTYP is no field of the IOC."""
     return field.name if field.name != "RTYP" else "NAME"
@@ -129,6 +122,7 @@ class Console(Ioc, asyncio.SubprocessProtocol):
         self._live: Dict[int, Done] = {}
         self._watched: Dict[bytes, List[_Watch]] = {}
         self._fault: Optional[str] = None
+        self._clock: Optional[asyncio.TimerHandle] = None
 
     # The process.
 
@@ -143,8 +137,7 @@ class Console(Ioc, asyncio.SubprocessProtocol):
         self._clock = self._loop.call_later(_PERIOD, self._tick)
 
     def close(self) -> None:
-        """Ends the program's input: it prints its last lines and ends."""
-        self._clock.cancel()
+        """Ends the program's input: it answers what was asked, prints its last lines and ends. Nothing more is asked."""
         self._flush()
         self._stdin.close()
 
@@ -161,15 +154,24 @@ class Console(Ioc, asyncio.SubprocessProtocol):
             elif self._calls:
                 self._got.append(line)
                 if len(self._got) == self._calls[0][0]:
-                    got, self._got = self._got, []
-                    self._calls.popleft()[1](got)
+                    self._reply()
             elif self._stdin.is_closing():
                 self.last_line = line
             else:
                 self._out_of_step([line])
 
+    def _reply(self) -> None:
+        """Tells the replies to the first call. Replies stay in step whatever comes of it."""
+        got, self._got = self._got, []
+        _, done = self._calls.popleft()
+        try:
+            done(got)
+        except Exception as fault:
+            self._loop.call_exception_handler({"message": f"replies {got[:9]}", "exception": fault})
+
     def connection_lost(self, error: Optional[Exception]) -> None:
-        self._clock.cancel()
+        if self._clock is not None:
+            self._clock.cancel()
         status = self._process.get_returncode() or 0
         if self._fault is not None:
             self.ended.set_exception(ChildError(self._fault, 1))
@@ -182,14 +184,15 @@ class Console(Ioc, asyncio.SubprocessProtocol):
         self._process.kill()
 
     def _ask(self, text: bytes, lines: int, done: Replied) -> None:
+        if self._stdin.is_closing():
+            return
         self._calls.append((lines, done))
         if not self._out:
             self._loop.call_soon(self._flush)
         self._out.append(text)
 
     def _flush(self) -> None:
-        if not self._stdin.is_closing():
-            self._stdin.write(b"".join(self._out))
+        self._stdin.write(b"".join(self._out))
         self._out.clear()
 
     def _tick(self) -> None:
@@ -242,11 +245,11 @@ class Console(Ioc, asyncio.SubprocessProtocol):
                 return self._out_of_step(got)
             if got[0] != got[-1] or got[1] != got[-2]:
                 return again(with_properties)
-            texts = [reply[2:] for reply in got[2:-3] if reply.startswith(b"= ")]
             try:
-                status, severity, time = _STATUS[got[-2]], _SEVERITY[got[-3]], int(got[0][2:] if len(texts) == batch.lines - 5 else b"")
+                status, severity, time = _STATUS[got[-2]], _SEVERITY[got[-3]], int(got[0][2:])
             except (KeyError, ValueError):
                 return self._out_of_step(got)
+            texts = [reply[2:] for reply in got[2:-3]]
             if with_properties:
                 self._learn(record, dict(zip(batch.known, texts[len(fields) :])))
             properties = self._known[record.name].properties
@@ -263,6 +266,8 @@ class Console(Ioc, asyncio.SubprocessProtocol):
         key = record.type, fields, with_properties
         batch = self._batches.get(key)
         if batch is None:
+            if len(self._batches) >= _MOST_BATCHES:
+                self._batches.clear()
             known = tuple(name for name in record.fields if _is_known(name)) if with_properties else ()
             names = ("TIME", "STAT", *map(_asked, fields), *known, "SEVR", "STAT", "TIME")
             batch = self._batches[key] = _Batch(b"".join(b"get \0.%b\n" % name.encode() for name in names), len(names), known)
@@ -299,20 +304,17 @@ class Console(Ioc, asyncio.SubprocessProtocol):
 
     def _put(self, verb: bytes, record: Record, field: Field, given: Given, replied: Callable[[str], None]) -> None:
         """Sends a put; `replied` is told the reply, or why the value can't stand in a line."""
-        if isinstance(given, int):
-            known = self._known.get(record.name)
-            given = _spelling(given, state_texts(known.properties) if known is not None and field.kind is Kind.STATES else ())
+        if isinstance(given, int):  # the text of a state may be a number, but hardly one of 39 bytes
+            given = (b"%+039d" if field.kind is Kind.STATES else b"%d") % given
         if b"\n" in given or len(given) > _MOST_TEXT:
             self._loop.call_soon(replied, "a line feed, or too long")
             return
-        if field.kind is Kind.LINK:
-            verb = b"link"
-        line = b"%b %b.%b %b\n" % (verb, record.name, field.name.encode(), given)
+        line = b"%b %b.%b %b\n" % (b"link" if field.kind is Kind.LINK else verb, record.name, field.name.encode(), given)
         self._ask(line, 1, lambda got: replied(got[0].decode("latin-1")))
-        if _is_known(field.name):
-            self._known.pop(record.name, None)
-            if record.name in self._watched:
-                self._poll(record, True)
+        if record.name in self._watched and _is_known(field.name):
+            self._poll(record, True)
+        elif _is_known(field.name):
+            self._read_moment(record, (), True, lambda readings: None)
 
     def put(self, record: Record, field: Field, given: Given, done: Done) -> None:
         self._put(b"put", record, field, given, lambda reply: done(None if reply.startswith("ok") else reply))

@@ -104,12 +104,6 @@ def _replies(words: Sequence[str], lines: Iterable[str]) -> List[bytes]:
     return run.stdout.split(b"\n")
 
 
-def _may_have_line_feeds(words: Sequence[str]) -> bool:
-    """Returns whether a text of the database may have a line feed, by which replies would get out of step."""
-    with open(words[1], "rb") as file:
-        return b"\\n" in file.read() or any("\n" in word or "\\n" in word for word in words)
-
-
 def survey(words: Sequence[str]) -> Dict[bytes, Record]:
     """Returns the records of a database by their names. The words are a program `ioc`, the database and macros."""
     lines = _replies(words, ["dbl"])
@@ -117,7 +111,9 @@ def survey(words: Sequence[str]) -> Dict[bytes, Record]:
     lines = _replies(words, (question.replace("\0", name) for name in names for question in _QUESTIONS))
     count = len(_QUESTIONS)
     types = {name: _type_by(lines[at * count : (at + 1) * count]) for at, name in enumerate(names)}
-    shown = names if _may_have_line_feeds(words) else list({record_type: name for name, record_type in types.items()}.values())
+    with open(words[1], "rb") as file:  # a text with a line feed would get replies out of step
+        may_have_line_feeds = b"\\n" in file.read() or any("\n" in word or "\\n" in word for word in words)
+    shown = names if may_have_line_feeds else list({record_type: name for name, record_type in types.items()}.values())
     lines = _replies(words, (f"dbpr {name}" for name in shown))
     fields: Dict[str, Dict[str, Field]] = {}
     at = 0

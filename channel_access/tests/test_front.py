@@ -57,6 +57,10 @@ class Starts(unittest.TestCase):
         database = str(TOP / "examples" / "plant.db")
         for words in ("", "--port", f"{database} --nothing", f"{database} --ioc /nowhere/ioc"):
             self.assertEqual(command(*words.split()).returncode, 2, words)
+        front = Front("--journal", "/nowhere/journal")
+        self.addCleanup(front.clean)
+        self.assertEqual(front.process.wait(10), 3)
+        self.assertIn("/nowhere/journal", front.errors())
         with socket.socket() as taken:
             taken.bind(("127.0.0.1", 0))
             run = command(database, "--port", str(taken.getsockname()[1]))

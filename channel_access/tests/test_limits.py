@@ -11,7 +11,7 @@ from typing import Callable, Iterator, Optional, cast
 from .. import channels, protocol, server
 from ..client import Client, Refused
 from ..interface import Field, GotReading, Ioc, Kind, Record, Told, Watch
-from ..protocol import WITH_TIME, Base, Command, Status, pack
+from ..protocol import WITH_CONTROL, WITH_TIME, Base, Command, Status, pack
 from .support import WithFront, audit, free_ports, is_ended, until
 
 LONG_TIME = WITH_TIME + Base.LONG
@@ -43,6 +43,31 @@ class Limits(WithFront):
         self.assertEqual(client.reply(Command.WRITE_NOTIFY).first, Status.BAD_COUNT)
         client.send(pack(Command.READ, b"", Base.LONG, 1, number, 5))
         self.assertEqual(client.reply(Command.READ).body, bytes(8), "an old client gets its value")
+
+    def test_a_state_by_its_number_at_once(self) -> None:
+        """The texts of the states of `mo` are 1 and 0, and nothing was read yet."""
+        client = self.client()
+        number, _, _ = client.channel("mo")
+        for state in (1, 0, 3):
+            client.send(pack(Command.WRITE_NOTIFY, struct.pack(">H6x", state), Base.ENUM, 1, number, 5))
+            self.assertEqual(client.reply(Command.WRITE_NOTIFY).first, Status.NORMAL)
+            client.send(pack(Command.READ_NOTIFY, b"", Base.ENUM, 1, number, 5))
+            self.assertEqual(client.reply(Command.READ_NOTIFY).body[:2], struct.pack(">H", state))
+
+    def test_properties_are_put_and_read_at_once(self) -> None:
+        client = self.client()
+        number, _, _ = client.channel("mi.TWST")
+        value, _, _ = client.channel("mi")
+        for text in (b"Second", b"Third", b"Two"):
+            put = pack(Command.WRITE, text.ljust(40, b"\0"), Base.STRING, 1, number, 0)
+            client.send((pack(Command.READ_NOTIFY, b"", WITH_TIME + Base.ENUM, 1, value, 5) + put) * 3)
+            client.send(pack(Command.READ_NOTIFY, b"", WITH_CONTROL + Base.ENUM, 1, value, 6))
+            while True:
+                reply = client.reply(Command.READ_NOTIFY)
+                self.assertEqual((reply.first, reply.body[-8:][6:] if reply.second == 6 else reply.body[14:16]), (Status.NORMAL, b"\0\2"))
+                if reply.second == 6:
+                    break
+            self.assertEqual(reply.body[6 + 52 : 6 + 78].rstrip(b"\0"), text)
 
     def test_circuits(self) -> None:
         held = [self.client() for _ in range(channels.MOST_CIRCUITS)]
