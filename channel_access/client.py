@@ -9,7 +9,7 @@ from . import protocol
 from .protocol import WITH_TIME, Base, Command, Message, Status, pack
 from .values import EPICS_EPOCH
 
-PATIENCE = 2.0
+PATIENCE = 5.0
 _SEVERITIES = "NO_ALARM MINOR MAJOR INVALID".split()
 
 

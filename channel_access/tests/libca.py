@@ -89,21 +89,21 @@ class Library:
     def pend(self, seconds: float) -> None:
         self.ca.ca_pend_event(seconds)
 
-    def until(self, is_done: Callable[[], object], seconds: float = 5.0) -> bool:
+    def until(self, is_done: Callable[[], object], seconds: float = 10.0) -> bool:
         """Lets callbacks come until something holds, and returns whether it does."""
         end = time.monotonic() + seconds
         while not is_done() and time.monotonic() < end:
             self.pend(0.002)
         return bool(is_done())
 
-    def channels(self, names: List[str], seconds: float = 3.0) -> Optional[List[Any]]:
+    def channels(self, names: List[str], seconds: float = 10.0) -> Optional[List[Any]]:
         """Connects channels; None if they aren't there."""
         numbers = [C.c_void_p() for _ in names]
         for name, number in zip(names, numbers):
             self.ca.ca_create_channel(name.encode("latin-1"), None, None, 0, C.byref(number))
         return numbers if self.ca.ca_pend_io(seconds) == NORMAL else None
 
-    def channel(self, name: str, seconds: float = 3.0) -> Any:
+    def channel(self, name: str, seconds: float = 10.0) -> Any:
         numbers = self.channels([name], seconds)
         return numbers[0] if numbers is not None else None
 
@@ -117,7 +117,9 @@ class Library:
     def get(self, channel: Any, form: int, count: int = 1) -> Optional[bytes]:
         """The bytes of a form; None if the server refuses it."""
         got: List[Optional[bytes]] = []
-        told = _EVENT(lambda event: got.append(C.string_at(event.dbr, self.size(form, event.count)) if event.status == NORMAL else None))
+        told = self._keep(
+            _EVENT(lambda event: got.append(C.string_at(event.dbr, self.size(form, event.count)) if event.status == NORMAL else None))
+        )
         if self.ca.ca_array_get_callback(form, count, channel, told, None) != NORMAL:
             return None
         self.ca.ca_flush_io()

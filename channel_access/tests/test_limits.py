@@ -68,6 +68,11 @@ class Limits(WithFront):
                 if reply.second == 6:
                     break
             self.assertEqual(reply.body[6 + 52 : 6 + 78].rstrip(b"\0"), text)
+        other, _, _ = client.channel("mi.ONST")  # the texts of two states change places
+        for at, text in ((number, b"One"), (other, b"Two")):
+            client.send(pack(Command.WRITE, text.ljust(40, b"\0"), Base.STRING, 1, at, 0))
+        client.send(pack(Command.READ_NOTIFY, b"", Base.ENUM, 1, value, 7))
+        self.assertEqual(client.reply(Command.READ_NOTIFY).body[:2], b"\0\2")
 
     def test_circuits(self) -> None:
         held = [self.client() for _ in range(channels.MOST_CIRCUITS)]
@@ -95,6 +100,14 @@ class Limits(WithFront):
         client.send(b"".join(pack(Command.READ_NOTIFY, b"", LONG_TIME, 1, number, at) for at in range(count)))
         replies = (message for message in client.replies() if message.command == Command.READ_NOTIFY)
         self.assertEqual([message.second for _, message in zip(range(count), replies)], list(range(count)))
+
+    def test_many_subscriptions_of_one_client(self) -> None:
+        client = self.client()
+        number, _, _ = client.channel("li")
+        count = 4 * channels.MOST_REQUESTS
+        client.send(b"".join(pack(Command.EVENT_ADD, WHOLE_MASK, Base.LONG, 1, number, at) for at in range(count)))
+        events = (message.second for message in client.replies() if message.command == Command.EVENT_ADD)
+        self.assertEqual(sorted(at for _, at in zip(range(count), events)), list(range(count)))
 
     def test_a_client_that_reads_nothing(self) -> None:
         deaf, other = self.client(), self.client()
