@@ -1,18 +1,16 @@
 """The command line: `python3 -m channel_access DB ..` serves a database, `python3 -m channel_access --get REC ..` asks a server."""
 import argparse
 import asyncio
-import os
 import pathlib
 import signal
 import sys
 from typing import Sequence
 
-from .child import ChildError, Console, lack_of_live, survey
+from .child import USAGE_FAULT, ChildError, child_of
 from .client import get
 from .server import Rights, Server
 
-BIN = pathlib.Path(__file__).resolve().parent.parent / "bin"
-USAGE_FAULT = 2
+IOC = pathlib.Path(__file__).resolve().parent.parent / "bin" / "ioc"
 DESCRIPTION = "Serves a database by Channel Access; nothing can be written unless it is allowed. docs/CHANNEL_ACCESS.md is the manual."
 
 
@@ -30,19 +28,9 @@ def _arguments() -> argparse.ArgumentParser:
     add("--beacon", metavar="ADDR", action="append", default=[], help="where beacons go (127.0.0.1)")
     add("--repeater-port", metavar="N", type=int, default=5065, help="the port of beacons (5065)")
     add("--workers", metavar="N", default="2", help="worker threads of the IOC, from 1 to 64 (2)")
-    add("--ioc", metavar="PROGRAM", default=str(BIN / "ioc"), help="the program `ioc` (bin/ioc)")
+    add("--ioc", metavar="PROGRAM", default=str(IOC), help="the program `ioc` (bin/ioc)")
     add("--get", metavar="REC", nargs="+", help="prints channels of the server at --interface and --port, and ends")
     return parser
-
-
-def _child(options: argparse.Namespace) -> Console:
-    """Looks at the database, and returns the child that serves it."""
-    if not os.access(options.ioc, os.X_OK):
-        raise ChildError(f"there is no program {options.ioc}: run ./build", USAGE_FAULT)
-    if options.drivers:
-        raise ChildError(f"--drivers {options.drivers}: {lack_of_live(options.ioc)}", USAGE_FAULT)
-    words = [options.ioc, options.database, *(word for macro in options.macros for word in ("-m", macro))]
-    return Console(words, survey(words), options.workers, options.journal)
 
 
 async def _serve(options: argparse.Namespace) -> int:
@@ -50,18 +38,17 @@ async def _serve(options: argparse.Namespace) -> int:
     loop, stopped = asyncio.get_running_loop(), asyncio.Event()
     for number in (signal.SIGINT, signal.SIGTERM):
         loop.add_signal_handler(number, stopped.set)
-    child = _child(options)
+    child = child_of(options.ioc, options.database, options.macros, options.workers, options.journal, options.drivers)
     await child.start()
     server = Server(child, Rights(options.allow_write, options.allow_links), options.interface, options.port)
     try:
         await server.start()
-    except OSError as fault:
+    except (OSError, OverflowError) as fault:
         child.close()
         await child.ended
-        raise ChildError(f"{options.interface}:{options.port}: {fault.strerror or fault}", USAGE_FAULT) from None
+        raise ChildError(f"{options.interface}:{options.port}: {fault}", USAGE_FAULT) from None
     beacons = loop.create_task(server.send_beacons([(address, options.repeater_port) for address in options.beacon or ["127.0.0.1"]]))
-    writing = " ".join(options.allow_write) or "nothing"
-    print(f"{len(child.records)} records at {options.interface}:{options.port}, may be written: {writing}", flush=True)
+    print(f"{len(child.records)} records at {options.interface}:{options.port}, may be written:", *options.allow_write or ["nothing"], flush=True)
     child.ended.add_done_callback(lambda ended: stopped.set())
     await stopped.wait()
     beacons.cancel()

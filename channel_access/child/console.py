@@ -122,7 +122,6 @@ class Console(Ioc, asyncio.SubprocessProtocol):
         self._live: Dict[int, Done] = {}
         self._watched: Dict[bytes, List[_Watch]] = {}
         self._fault: Optional[str] = None
-        self._clock: Optional[asyncio.TimerHandle] = None
 
     # The process.
 
@@ -130,10 +129,13 @@ class Console(Ioc, asyncio.SubprocessProtocol):
         """Starts the program, in a session of its own so that Ctrl-C reaches the front alone, and its clock."""
         self._loop = asyncio.get_running_loop()
         self.ended: "asyncio.Future[int]" = self._loop.create_future()
-        self._process, _ = await self._loop.subprocess_exec(lambda: self, *self._words, start_new_session=True)
-        stdin = self._process.get_pipe_transport(0)
+        await self._loop.subprocess_exec(lambda: self, *self._words, start_new_session=True)
+
+    def connection_made(self, transport: asyncio.BaseTransport) -> None:
+        assert isinstance(transport, asyncio.SubprocessTransport)
+        stdin = transport.get_pipe_transport(0)
         assert isinstance(stdin, asyncio.WriteTransport)
-        self._stdin, self._begun = stdin, self._loop.time()
+        self._process, self._stdin, self._begun = transport, stdin, self._loop.time()
         self._clock = self._loop.call_later(_PERIOD, self._tick)
 
     def close(self) -> None:
@@ -170,8 +172,7 @@ class Console(Ioc, asyncio.SubprocessProtocol):
             self._loop.call_exception_handler({"message": f"replies {got[:9]}", "exception": fault})
 
     def connection_lost(self, error: Optional[Exception]) -> None:
-        if self._clock is not None:
-            self._clock.cancel()
+        self._clock.cancel()
         status = self._process.get_returncode() or 0
         if self._fault is not None:
             self.ended.set_exception(ChildError(self._fault, 1))

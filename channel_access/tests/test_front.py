@@ -55,7 +55,7 @@ class Starts(unittest.TestCase):
 
     def test_wrong_words(self) -> None:
         database = str(TOP / "examples" / "plant.db")
-        for words in ("", "--port", f"{database} --nothing", f"{database} --ioc /nowhere/ioc"):
+        for words in ("", "--port", f"{database} --nothing", f"{database} --port 99999", f"{database} --ioc /nowhere/ioc"):
             self.assertEqual(command(*words.split()).returncode, 2, words)
         front = Front("--journal", "/nowhere/journal")
         self.addCleanup(front.clean)
