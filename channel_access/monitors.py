@@ -19,8 +19,8 @@ class Subscription:
         self.has_begun = False
         self.kept: Optional[Reading] = None
 
-    def post(self, reading: Reading) -> None:
-        """Sends a value, or keeps it in place of one that was kept before."""
+    def post(self, reading: Optional[Reading]) -> None:
+        """Sends a value or that there is none, or keeps the value in place of one that was kept before."""
         self.kept = None if self.circuit.may_send() else reading
         if self.kept is None:
             self.circuit.send_value(self, reading)
@@ -63,7 +63,7 @@ class Monitors:
             subscription.circuit.end_request()
             if subscription in subscriptions:
                 subscription.has_begun = True
-                subscription.post(reading) if reading is not None else subscription.circuit.send_value(subscription, None)
+                subscription.post(reading)
 
         self._ioc.look(shared.watch, first)
 
