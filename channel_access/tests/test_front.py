@@ -9,6 +9,7 @@ import struct
 import subprocess
 import sys
 import tempfile
+import threading
 import unittest
 from typing import List, Tuple
 
@@ -112,6 +113,33 @@ class Ends(WithFront):
         self.front.end(signal.SIGKILL)
         self.assertTrue(until(lambda: not pathlib.Path(f"/proc/{child}").exists()))
         self.is_in_the_journal()
+
+    def put_on(self, client: Client) -> None:
+        """Puts until the circuit ends."""
+        number, _, _ = client.channel("n2")
+        puts = b"".join(pack(Command.WRITE_NOTIFY, struct.pack(">i4x", at), Base.LONG, 1, number, at) for at in range(100))
+        try:
+            while True:
+                client.send(puts)
+                for _ in range(100):
+                    client.reply(Command.WRITE_NOTIFY)
+        except (Refused, OSError):
+            pass
+
+    def test_ends_under_load(self) -> None:
+        for number, status in ((signal.SIGKILL, -signal.SIGKILL), (signal.SIGTERM, 0)):
+            threads = [threading.Thread(target=self.put_on, args=(self.client(),)) for _ in range(3)]
+            for thread in threads:
+                thread.start()
+            self.put()
+            (child,) = self.front.children()
+            self.assertEqual(self.front.end(number), status)
+            for thread in threads:
+                thread.join()
+            self.assertTrue(until(lambda: not pathlib.Path(f"/proc/{child}").exists()))
+            self.is_in_the_journal()
+            self.front.clean()
+            self.setUp()
 
     def test_an_ioc_that_dies(self) -> None:
         client = self.client()
