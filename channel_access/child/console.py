@@ -1,0 +1,385 @@
+"""`ioc DB --console` as a child: lines go out, and replies come back in the same order.
+
+A reading of one moment has TIME in front and behind, and STAT too, since a record that becomes disabled keeps its TIME; if they differ, it
+is asked again. Watched fields are read ten times a second, after the tick. `ioc --live` tells what this module finds out by asking.
+"""
+import asyncio
+import re
+import sys
+from collections import deque
+from typing import Callable, Deque, Dict, List, Mapping, NamedTuple, Optional, Sequence, Tuple
+
+from ..interface import (
+    ALARM, LOG, PROPERTIES, PROPERTY, VALUE, Done, Extent, Field, Given, GotReading, Ioc, Kind, PutCallback, Reading, Record, Told, Watch,
+    is_record_name, state_texts,
+)  # fmt: skip
+from .survey import SEVERITIES, STATUSES, ChildError
+
+_PERIOD = 0.1
+# A line has at most 1,024 bytes; verb, record and field take fewer than 100.
+_MOST_TEXT = 900
+# How often a reading is asked again, how many names are looked up at a time and remembered, and how many sets of fields.
+_MOST_TRIES = 20
+_MOST_LOOKUPS = 1000
+_MOST_NAMES = 100_000
+_MOST_BATCHES = 10_000
+_DEADBANDS = ("MDEL", "ADEL")
+# What the console writes on standard error for a refusal, which its reply has told.
+_TOLD = re.compile(rb"line \d+: (E\d+ \w+|bad)\Z")
+_STATUS = {b"= " + name: number for number, name in enumerate(STATUSES)}
+_SEVERITY = {b"= " + name: number for number, name in enumerate(SEVERITIES)}
+
+Replied = Callable[[List[bytes]], None]
+GotReadings = Callable[[Optional[List[Reading]]], None]
+
+
+class _Known(NamedTuple):
+    """What was read last of a record, and when: the texts of its properties, and its deadbands."""
+
+    properties: Mapping[str, bytes]
+    deadbands: Mapping[str, int]
+    when: float
+
+
+class _Batch(NamedTuple):
+    """The lines of a reading, in which NUL stands for the record's name, how many, and which properties and deadbands they ask for."""
+
+    text: bytes
+    lines: int
+    known: Tuple[str, ...]
+
+
+class _Watch(Watch):
+    """A watch, with what was read last and the numbers that were told last by each deadband."""
+
+    last: Optional[Reading] = None
+    told_value: Optional[int] = None
+    told_log: Optional[int] = None
+    has_ended = False
+
+    def due(self, now: Reading, deadbands: Mapping[str, int]) -> int:
+        """Returns which monitors hear of a reading, and keeps it."""
+        last, self.last = self.last, now
+        if last is None:
+            self.told_value = self.told_log = now.number
+            return 0
+        mask = ALARM if now.status != last.status or now.severity != last.severity else 0
+        if now.properties is not last.properties:
+            mask |= PROPERTY
+        if self.field.name != "VAL" or not deadbands:
+            return mask | (VALUE | LOG if now.text != last.text else 0)
+        if _is_beyond(now, last, self.told_value, deadbands["MDEL"]):
+            mask, self.told_value = mask | VALUE, now.number
+        if _is_beyond(now, last, self.told_log, deadbands["ADEL"]):
+            mask, self.told_log = mask | LOG, now.number
+        return mask
+
+
+def _is_beyond(now: Reading, last: Reading, told: Optional[int], deadband: int) -> bool:
+    """Returns whether a number has left its deadband; a negative one is left whenever the record is processed."""
+    if now.number is None or told is None:
+        return True
+    return abs(now.number - told) > deadband if deadband >= 0 else now.time != last.time or now.number != told
+
+
+def _is_known(field: str) -> bool:
+    return field in PROPERTIES or field in _DEADBANDS
+
+
+def _asked(field: Field) -> str:
+    """The field that is asked for this one: RTYP is no field of the IOC."""
+    return field.name if field.name != "RTYP" else "NAME"
+
+
+def _reading(record: Record, field: Field, text: bytes, status: int, severity: int, time: int, properties: Mapping[str, bytes]) -> Reading:
+    """The reading of a field that shows a text. ValueError if that is of a state which isn't known any more."""
+    number: Optional[int] = None
+    if field.name == "RTYP":
+        text = record.type.encode()
+    elif field.kind not in (Kind.TEXT, Kind.LINK):
+        texts = state_texts(properties) if field.kind is Kind.STATES else field.choices
+        number = texts.index(text) if text and text in texts else int(text)
+    return Reading(text, number, status, severity, time, properties)
+
+
+class Console(Ioc, asyncio.SubprocessProtocol):
+    """A running `ioc DB --console`. `ended` has its exit status when it and all that it printed have ended."""
+
+    most_live_puts = 256
+
+    def __init__(self, words: Sequence[str], records: Dict[bytes, Record], workers: str, journal: Optional[str]) -> None:
+        self._words = [*words, "--console", "--workers", workers, *(("--journal", journal) if journal else ())]
+        self.records, self._has_journal, self.last_line = records, bool(journal), b""
+        # What was asked, by its number of lines, and what was replied to the first of it so far.
+        self._calls: Deque[Tuple[int, Replied]] = deque()
+        self._got: List[bytes] = []
+        self._out: List[bytes] = []
+        self._rest: Dict[int, bytes] = {1: b"", 2: b""}
+        self._names: Dict[bytes, Optional[Record]] = {}
+        self._lookups = self._ticks = self._polls = 0
+        self._known: Dict[bytes, _Known] = {}
+        self._batches: Dict[Tuple[str, Tuple[Field, ...], bool], _Batch] = {}
+        self._live: Dict[int, Done] = {}
+        self._watched: Dict[bytes, List[_Watch]] = {}
+        self._fault: Optional[str] = None
+
+    # The process.
+
+    async def start(self) -> None:
+        """Starts the program, in a session of its own so that Ctrl-C reaches the front alone, and its clock."""
+        self._loop = asyncio.get_running_loop()
+        self.ended: "asyncio.Future[int]" = self._loop.create_future()
+        await self._loop.subprocess_exec(lambda: self, *self._words, start_new_session=True)
+
+    def connection_made(self, transport: asyncio.BaseTransport) -> None:
+        assert isinstance(transport, asyncio.SubprocessTransport)
+        stdin = transport.get_pipe_transport(0)
+        assert isinstance(stdin, asyncio.WriteTransport)
+        self._process, self._stdin, self._begun = transport, stdin, self._loop.time()
+        self._clock = self._loop.call_later(_PERIOD, self._tick)
+
+    def close(self) -> None:
+        """Ends the program's input: it answers what was asked, prints its last lines and ends. Nothing more is asked."""
+        self._flush()
+        self._stdin.close()
+
+    def pipe_data_received(self, fd: int, data: bytes) -> None:
+        *lines, self._rest[fd] = (self._rest[fd] + data).split(b"\n")
+        for line in lines:
+            if fd == 2:
+                if not _TOLD.match(line):
+                    print("ioc:", line.decode("utf-8", "replace"), file=sys.stderr)
+            elif line.startswith(b"ended "):
+                done = self._live.pop(int(line[6:]), None)
+                if done is not None:
+                    done(None)
+            elif self._calls:
+                self._got.append(line)
+                if len(self._got) == self._calls[0][0]:
+                    self._reply()
+            elif self._stdin.is_closing():
+                self.last_line = line
+            else:
+                self._out_of_step([line])
+
+    def _reply(self) -> None:
+        """Tells the replies to the first call. Replies stay in step whatever comes of it."""
+        got, self._got = self._got, []
+        _, done = self._calls.popleft()
+        try:
+            done(got)
+        except Exception as fault:
+            self._loop.call_exception_handler({"message": f"replies {got[:9]}", "exception": fault})
+
+    def connection_lost(self, error: Optional[Exception]) -> None:
+        self._clock.cancel()
+        status = self._process.get_returncode() or 0
+        if self._fault is not None:
+            self.ended.set_exception(ChildError(self._fault, 1))
+        else:
+            self.ended.set_result(status if status >= 0 else 128 - status)
+
+    def _out_of_step(self, got: List[bytes]) -> None:
+        """Nothing more is right if a reply is none of its line's."""
+        self._fault = f"replies of ioc are out of step: {got[:9]}"
+        self._process.kill()
+
+    def _ask(self, text: bytes, lines: int, done: Replied) -> None:
+        if self._stdin.is_closing():
+            return
+        self._calls.append((lines, done))
+        if not self._out:
+            self._loop.call_soon(self._flush)
+        self._out.append(text)
+
+    def _flush(self) -> None:
+        self._stdin.write(b"".join(self._out))
+        self._out.clear()
+
+    def _tick(self) -> None:
+        self._ticks += 1
+        self._clock = self._loop.call_at(max(self._begun + (self._ticks + 1) * _PERIOD, self._loop.time()), self._tick)
+        self._ask(b"tick\n", 1, lambda got: None)
+        if self._ticks % 10 == 0 and not self._has_journal:
+            self._ask(b"checkpoint\n", 1, lambda got: None)  # each get is an entry of the journal
+        if self._polls == 0:
+            for watches in self._watched.values():
+                self._poll(watches[0].record, self._ticks % 10 == 0)
+
+    # Records and readings.
+
+    def find(self, name: bytes, done: Callable[[Optional[Record]], None]) -> None:
+        record = self.records.get(name) or self._names.get(name)
+        if record is not None or name in self._names or not is_record_name(name) or self._lookups >= _MOST_LOOKUPS:
+            return done(record)
+
+        def replied(got: List[bytes]) -> None:
+            self._lookups -= 1
+            if len(self._names) >= _MOST_NAMES:
+                self._names.clear()
+            self._names[name] = self._named(got[0][2:]) if got[0].startswith(b"= ") else None
+            done(self._names[name])
+
+        self._lookups += 1
+        self._ask(b"get %b.NAME\n" % name, 1, replied)
+
+    def _named(self, text: bytes) -> Optional[Record]:
+        """The record of which NAME shows these bytes, the first 39 of its name."""
+        if len(text) < 39:
+            return self.records.get(text)
+        named = [record for name, record in self.records.items() if name.startswith(text)]
+        return named[0] if len(named) == 1 else None
+
+    def _read_moment(self, record: Record, fields: Tuple[Field, ...], with_properties: bool, done: GotReadings, tries: int = 0) -> None:
+        """Reads fields of one moment, and the record's properties with them if they aren't known."""
+        with_properties = with_properties or self._is_stale(record)
+        batch = self._batch(record, fields, with_properties)
+
+        def again(with_properties: bool) -> None:
+            if tries < _MOST_TRIES:
+                self._read_moment(record, fields, with_properties, done, tries + 1)
+            else:
+                done(None)
+
+        def replied(got: List[bytes]) -> None:
+            if not got[0].startswith(b"= "):
+                return self._out_of_step(got)
+            if got[0] != got[-1] or got[1] != got[-2]:
+                return again(with_properties)
+            try:
+                status, severity, time = _STATUS[got[-2]], _SEVERITY[got[-3]], int(got[0][2:])
+            except (KeyError, ValueError):
+                return self._out_of_step(got)
+            texts = [reply[2:] for reply in got[2:-3]]
+            if with_properties:
+                self._learn(record, dict(zip(batch.known, texts[len(fields) :])))
+            properties = self._known[record.name].properties
+            try:
+                readings = [_reading(record, field, text, status, severity, time, properties) for field, text in zip(fields, texts)]
+            except ValueError:
+                return again(True)
+            done(readings)
+
+        self._ask(batch.text.replace(b"\0", record.name), batch.lines, replied)
+
+    def _batch(self, record: Record, fields: Tuple[Field, ...], with_properties: bool) -> _Batch:
+        """The lines for a reading, the same for all records of a type."""
+        key = record.type, fields, with_properties
+        batch = self._batches.get(key)
+        if batch is None:
+            if len(self._batches) >= _MOST_BATCHES:
+                self._batches.clear()
+            known = tuple(name for name in record.fields if _is_known(name)) if with_properties else ()
+            names = ("TIME", "STAT", *map(_asked, fields), *known, "SEVR", "STAT", "TIME")
+            batch = self._batches[key] = _Batch(b"".join(b"get \0.%b\n" % name.encode() for name in names), len(names), known)
+        return batch
+
+    def _is_stale(self, record: Record) -> bool:
+        """Whether the record's properties have to be read: the number of a state stands on texts of the last second."""
+        known = self._known.get(record.name)
+        return known is None or (record.fields["VAL"].kind is Kind.STATES and known.when < self._loop.time() - 1)
+
+    def _learn(self, record: Record, texts: Mapping[str, bytes]) -> None:
+        """Keeps what was read of a record. Properties that haven't changed stay the same object."""
+        properties: Mapping[str, bytes] = {name: text for name, text in texts.items() if name in PROPERTIES}
+        last = self._known.get(record.name)
+        if last is not None and last.properties == properties:
+            properties = last.properties
+        self._known[record.name] = _Known(properties, {name: int(texts[name]) for name in _DEADBANDS if name in texts}, self._loop.time())
+
+    def read(self, record: Record, field: Field, extent: Extent, done: GotReading) -> None:
+        if extent is not Extent.FIELD or self._is_stale(record):
+            wants_all = extent is Extent.PROPERTIES
+            return self._read_moment(record, (field,), wants_all, lambda readings: done(readings[0] if readings else None))
+
+        def replied(got: List[bytes]) -> None:
+            try:
+                reading = _reading(record, field, got[0][2:], 0, 0, 0, self._known[record.name].properties)
+            except ValueError:  # the text of a state that isn't known
+                return self.read(record, field, Extent.PROPERTIES, done)
+            done(reading)
+
+        self._ask(b"get %b.%b\n" % (record.name, _asked(field).encode()), 1, replied)
+
+    # Puts.
+
+    def _put(self, verb: bytes, record: Record, field: Field, given: Given, replied: Callable[[str], None]) -> None:
+        """Sends a put; `replied` is told the reply, or why the value can't stand in a line."""
+        if isinstance(given, int):  # the text of a state may be a number, but hardly one of 39 bytes
+            given = (b"%+039d" if field.kind is Kind.STATES else b"%d") % given
+        if b"\n" in given or len(given) > _MOST_TEXT:
+            self._loop.call_soon(replied, "a line feed, or too long")
+            return
+        line = b"%b %b.%b %b\n" % (b"link" if field.kind is Kind.LINK else verb, record.name, field.name.encode(), given)
+        self._ask(line, 1, lambda got: replied(got[0].decode("latin-1")))
+        if record.name in self._watched and _is_known(field.name):
+            self._poll(record, True)
+        elif _is_known(field.name):
+            self._read_moment(record, (), True, lambda readings: None)
+
+    def put(self, record: Record, field: Field, given: Given, done: Done) -> None:
+        self._put(b"put", record, field, given, lambda reply: done(None if reply.startswith("ok") else reply))
+
+    def notify(self, record: Record, field: Field, given: Given, done: Done) -> PutCallback:
+        begun = PutCallback()
+
+        def replied(reply: str) -> None:
+            if reply.startswith("ok notify "):
+                begun.number = int(reply[10:])
+                self._live[begun.number] = done
+                if begun.freed is not None:
+                    self.cancel(begun, begun.freed)
+            elif begun.freed is not None:
+                begun.freed()
+            else:  # a link change has ended with its reply
+                done(None if reply.startswith("ok") else reply)
+
+        self._put(b"notify", record, field, given, replied)
+        return begun
+
+    def cancel(self, begun: PutCallback, freed: Callable[[], None]) -> None:
+        begun.freed = freed
+        if begun.number is not None:
+            self._live.pop(begun.number, None)
+            self._ask(b"cancel %d\n" % begun.number, 1, lambda got: freed())
+
+    # Watches.
+
+    def watch(self, record: Record, field: Field, told: Told) -> Watch:
+        watch = _Watch(record, field, told)
+        self._watched.setdefault(record.name, []).append(watch)
+        return watch
+
+    def look(self, watch: Watch, first: GotReading) -> None:
+        def read(readings: Optional[List[Reading]]) -> None:
+            self._tell((watch,), readings or ())
+            first(readings[0] if readings else None)
+
+        self._read_moment(watch.record, (watch.field,), True, read)
+
+    def unwatch(self, watch: Watch) -> None:
+        assert isinstance(watch, _Watch)
+        watch.has_ended = True
+        watches = self._watched[watch.record.name]
+        watches.remove(watch)
+        if not watches:
+            del self._watched[watch.record.name]
+
+    def _poll(self, record: Record, with_properties: bool) -> None:
+        """Reads the watched fields of a record, and tells what has changed."""
+        watches = [watch for watch in self._watched[record.name] if watch.last is not None]
+
+        def read(readings: Optional[List[Reading]]) -> None:
+            self._polls -= 1
+            self._tell(watches, readings or ())
+
+        self._polls += 1
+        self._read_moment(record, tuple(watch.field for watch in watches), with_properties, read)
+
+    def _tell(self, watches: Sequence[Watch], readings: Sequence[Reading]) -> None:
+        for watch, reading in zip(watches, readings):
+            assert isinstance(watch, _Watch)
+            if not watch.has_ended:
+                mask = watch.due(reading, self._known[watch.record.name].deadbands)
+                if mask:
+                    watch.told(mask, reading)

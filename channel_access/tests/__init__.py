@@ -1,0 +1,1 @@
+"""Tests of the front; tools/check-front runs them."""

@@ -1,0 +1,92 @@
+#!/usr/bin/env python3
+"""A stand-in for `ioc DB --console`, which runs bin/ioc behind it: puts with notification to records `late*` end only when that is asked for.
+
+`put late:release N` ends N of them, the oldest first; `late:live` and `late:cancelled` show how many are live and were cancelled,
+`late:gets` how many fields were read, and `late:checkpoints` how many checkpoints were made. The record `torn` is processed again and again
+while its fields are read, and `off` is disabled and enabled.
+"""
+import pathlib
+import random
+import subprocess
+import sys
+from typing import List
+
+IOC = pathlib.Path(__file__).resolve().parent.parent.parent / "bin" / "ioc"
+MOST_LIVE = 256
+
+
+class Stand:
+    """The program, with the puts that are live."""
+
+    def __init__(self, words: List[str]) -> None:
+        self.ioc = subprocess.Popen([IOC, *words], stdin=subprocess.PIPE, stdout=subprocess.PIPE, stderr=subprocess.DEVNULL)
+        self.live: List[int] = []
+        self.number = self.cancelled = self.gets = self.checkpoints = 0
+        self.is_high, self.chance = False, random.Random(7)
+
+    def ask(self, line: bytes) -> List[bytes]:
+        """The replies of the program to a line."""
+        assert self.ioc.stdin is not None and self.ioc.stdout is not None
+        self.ioc.stdin.write(line + b"\n")
+        self.ioc.stdin.flush()
+        replies = [self.ioc.stdout.readline().rstrip(b"\n")]
+        while line.startswith(b"db") and not replies[-1].startswith((b"ok ", b"E", b"bad")):
+            replies.append(self.ioc.stdout.readline().rstrip(b"\n"))
+        return replies
+
+    def notify(self, words: bytes) -> List[bytes]:
+        if len(self.live) >= MOST_LIVE:
+            return [b"E9 QueueFull"]
+        self.number += 1
+        reply = b"ok notify %d" % self.number
+        if words.startswith(b"late"):
+            self.live.append(self.number)
+            return [reply]
+        refused = self.ask(b"put " + words)[0]
+        return [reply, b"ended %d" % self.number] if refused.startswith(b"ok") else [refused]
+
+    def answer(self, line: bytes) -> List[bytes]:
+        """The replies to a line."""
+        verb, _, words = line.partition(b" ")
+        self.gets += verb == b"get"
+        self.checkpoints += verb == b"checkpoint"
+        if verb == b"notify":
+            return self.notify(words)
+        if verb == b"cancel":
+            if int(words) not in self.live:
+                return [b"E8 Stale"]
+            self.live.remove(int(words))
+            self.cancelled += 1
+            return [b"ok"]
+        if verb == b"put" and words.startswith(b"late:release.VAL "):
+            count = int(words.split(b" ")[1])
+            ended, self.live = self.live[:count], self.live[count:]
+            return [b"ok processed", *(b"ended %d" % number for number in ended)]
+        if line.startswith((b"get torn.", b"get off.")) and self.chance.random() < 1 / 30:
+            self.is_high = not self.is_high
+            self.ask(b"put torn.VAL %d" % (500 if self.is_high else 5))
+            self.ask(b"put off.DISA %d" % self.is_high)
+            self.ask(b"process off")
+        if line == b"get late:live.VAL":
+            return [b"= %d" % len(self.live)]
+        if line == b"get late:cancelled.VAL":
+            return [b"= %d" % self.cancelled]
+        if line == b"get late:gets.VAL":
+            return [b"= %d" % self.gets]
+        if line == b"get late:checkpoints.VAL":
+            return [b"= %d" % self.checkpoints]
+        return self.ask(line)
+
+    def run(self) -> int:
+        """Answers lines up to the end of the input."""
+        for line in sys.stdin.buffer:
+            sys.stdout.buffer.write(b"".join(reply + b"\n" for reply in self.answer(line.rstrip(b"\n"))))
+            sys.stdout.buffer.flush()
+        assert self.ioc.stdin is not None and self.ioc.stdout is not None
+        self.ioc.stdin.close()
+        sys.stdout.buffer.write(self.ioc.stdout.read())
+        return self.ioc.wait()
+
+
+if __name__ == "__main__":
+    sys.exit(Stand(sys.argv[1:]).run())
