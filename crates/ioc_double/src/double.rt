@@ -19,6 +19,11 @@ impl Model for Double {
 
     ghost view = { λ d. d.number };
 
+    ghost use Rattle.std.specs.Prelude.{T};
+    ghost use Rattle.std.specs.Float.Ieee.{binary64, fits};
+
+    ghost invariant = { λ d. T (fits binary64 d.number) };
+
     ghost inverse = { λ x. record { number = x } };
 }
 
@@ -39,13 +44,13 @@ impl Double {
 }
 
 impl PartialEq for Double {
-    ghost use Rattle.std.specs.Prelude.{nat_eq, to_bits};
-    ghost use Rattle.std.specs.Float.Ieee.{binary64};
-    ghost use Rattle.std.specs.Cmp.{partial_equiv_from_equiv, on_equiv, nat_eq_equiv};
+    ghost use Rattle.ioc_double.specs.Same.{same};
+    ghost use Rattle.ioc_double.specs.SameLaws.{same_equivalence};
+    ghost use Rattle.std.specs.Cmp.{partial_equiv_from_equiv};
 
-    ghost eq = { λ x y. nat_eq (to_bits binary64 x) (to_bits binary64 y) };
+    ghost eq = { same };
 
-    ghost laws = { partial_equiv_from_equiv (on_equiv (λ x. to_bits binary64 x) nat_eq_equiv) };
+    ghost laws = { partial_equiv_from_equiv same_equivalence };
 
     fn eq(&self, other: &Double) -> bool {
         f64_to_bits_with_nan(self.number) == f64_to_bits_with_nan(other.number)
@@ -53,9 +58,7 @@ impl PartialEq for Double {
 }
 
 impl Eq for Double {
-    ghost use Rattle.std.specs.Prelude.{to_bits};
-    ghost use Rattle.std.specs.Float.Ieee.{binary64};
-    ghost use Rattle.std.specs.Cmp.{on_equiv, nat_eq_equiv};
+    ghost use Rattle.ioc_double.specs.SameLaws.{same_equivalence};
 
-    ghost laws = { on_equiv (λ x. to_bits binary64 x) nat_eq_equiv };
+    ghost laws = { same_equivalence };
 }
