@@ -1,1 +1,2 @@
 pub mod SameBits
+pub mod Whole

@@ -1,6 +1,9 @@
 //! IEEE 754 doubles as values of fields: one NaN, equality by bits, whole numbers and texts.
 #![tactic(auto)]
 
+pub mod digits;
 pub mod double;
+pub mod number;
 
+pub use digits::Digits;
 pub use double::Double;
