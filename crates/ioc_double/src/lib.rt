@@ -3,6 +3,8 @@
 
 pub mod digits;
 pub mod double;
+mod exact;
+mod groups;
 pub mod number;
 
 pub use digits::Digits;
