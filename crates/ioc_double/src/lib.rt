@@ -5,6 +5,7 @@ pub mod digits;
 pub mod double;
 mod exact;
 mod groups;
+mod rounding;
 pub mod number;
 
 pub use digits::Digits;
