@@ -1,5 +1,6 @@
 pub mod Decimals
 pub mod Fields
+pub mod LastDigits
 pub mod LeadingOf
 pub mod Powers
 pub mod Closest

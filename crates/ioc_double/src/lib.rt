@@ -5,6 +5,7 @@ pub mod digits;
 pub mod double;
 mod exact;
 mod groups;
+mod pieces;
 mod rounding;
 pub mod number;
 
