@@ -48,8 +48,8 @@ fits_groups m p q v n e h k top s = let f : m * 10 ^ 27 ≤ 2 ^ 53 * 10 ^ 27 = o
 
 -- A double with a fraction, or below 2 ^ 53.
 pub small_exact : (x : Exact) (a b m k v w : ℕ) → a * 2 ^ 1074 ≡ m * 2 ^ k * b → k < 1074 → x.places ≡ 1101 - k → v ≡ w * 5 ^ (1074 - k) → w ≡ m * 10 ^ 27 → IsLeading x.leading v
-    → IsExact x a b
-small_exact x a b m k v w is h p e q l =
+    → x.leading.dropped ≤ 810 → IsExact x a b
+small_exact x a b m k v w is h p e q l few =
     let n : v ≡ m * 10 ^ 27 * 5 ^ (1074 - k) = rw (sym q) e in
     record {
       whole = v;
@@ -57,11 +57,12 @@ small_exact x a b m k v w is h p e q l =
       leading = l;
       long = λ z. long_number m (5 ^ (1074 - k)) v n (mantissa_pos a b m k is z) (one-le-pow (1074 - k) 5 (lit< tt));
       places = (omega arith, omega arith);
+      dropped = few;
     }
 
 pub large_exact : (x : Exact) (a b m k v w : ℕ) → a * 2 ^ 1074 ≡ m * 2 ^ k * b → 1074 ≤ k → x.places ≡ 27 → v ≡ w * 2 ^ (k - 1074) → w ≡ m * 10 ^ 27 → IsLeading x.leading v
-    → IsExact x a b
-large_exact x a b m k v w is h p e q l =
+    → x.leading.dropped ≤ 810 → IsExact x a b
+large_exact x a b m k v w is h p e q l few =
     let n : v ≡ m * 10 ^ 27 * 2 ^ (k - 1074) = rw (sym q) e in
     record {
       whole = v;
@@ -69,4 +70,5 @@ large_exact x a b m k v w is h p e q l =
       leading = l;
       long = λ z. long_number m (2 ^ (k - 1074)) v n (mantissa_pos a b m k is z) (one-le-pow (k - 1074) 2 (lit< tt));
       places = (omega arith, omega arith);
+      dropped = few;
     }

@@ -1,7 +1,9 @@
 pub mod Decimals
+pub mod Exponents
 pub mod Fields
 pub mod LastDigits
 pub mod LeadingOf
+pub mod NearestDecimal
 pub mod Powers
 pub mod Closest
 pub mod SameBits

@@ -10,3 +10,4 @@ pub record IsExact (x : Exact) (a b : ℕ) : Type 0 where
   pub leading : IsLeading x.leading whole
   pub long : 0 < a → 10 ^ 27 ≤ whole
   pub places : (27 ≤ x.places) × (x.places ≤ 1101)
+  pub dropped : x.leading.dropped ≤ 810

@@ -41,7 +41,8 @@ const ENOUGH: u128 = 1_000_000_000_000_000_000_000_000_000;
 pub(crate) fn leading_digits(groups: &[u64]) -> Leading
     requires groups { AreGroups groups.now }
     requires count { length groups.now ≤ 90 }
-    ensures { IsLeading result (value groups.now) }
+    ensures leading { IsLeading result (value groups.now) }
+    ensures dropped { result.dropped ≤ 810 }
 {
     let mut head = 0;
     let mut dropped = 0;

@@ -7,6 +7,7 @@ mod exact;
 mod groups;
 mod pieces;
 mod rounding;
+pub mod scientific;
 pub mod number;
 
 pub use digits::Digits;
