@@ -1,7 +1,8 @@
 -- The last digits of a number, so many of them.
-use Rattle.std.proofs.Common.{◌≡◌, ◌≢◌, ℕ, suc, zero, ◌+◌, ◌-◌, ◌*◌, ◌/◌, ◌%◌, ◌<◌, ◌≤◌, List, [], ◌∷◌, ◌++◌, length, replicate, refl, sym, ap, ◌∙◌, arith, length-append, append_assoc, append-nil, add-one}
+use Rattle.std.proofs.Common.{◌≡◌, ◌≢◌, ℕ, suc, zero, ◌+◌, ◌-◌, ◌*◌, ◌/◌, ◌%◌, ◌<◌, ◌≤◌, List, [], ◌∷◌, ◌++◌, length, replicate, refl, sym, ap, ◌∙◌, arith, length-append, append_assoc, append-nil, add-one, lit≤}
 use Rattle.std.proofs.lemmas.List.{length-replicate}
-use Rattle.ioc_double.specs.Pieces.{last_digits, padded}
+use Rattle.std.proofs.lemmas.Bool.{ne_eqb}
+use Rattle.ioc_double.specs.Pieces.{last_digits, fraction_text, padded}
 
 pub digits_length : (count n : ℕ) → length (last_digits count n) ≡ count
 unfolding last_digits
@@ -30,3 +31,19 @@ padding xs ys zs ws k width e q r s = s ∙ rw (e, q, r) refl
 
 pub padding_room : (xs ys zs : List ℕ) (k width : ℕ) → ys ≡ replicate k 32 → k ≡ width - length xs → zs ≡ xs → width ≤ 23 → length xs ≤ 23 → length ys + length zs ≤ 23
 padding_room xs ys zs k width e q r h i = rw (e, r, length-replicate {A = ℕ} k 32) (omega arith)
+
+pub fraction_length : (d n : ℕ) → length (fraction_text d n) ≤ d + 1
+fraction_length zero n = lit≤ tt
+fraction_length (suc d) n =
+    let some : suc d ≢ 0 = omega arith in
+    let l = digits_length (suc d) n in
+    rw (ne_eqb (suc d) 0 some) (omega arith)
+
+-- Room for the digits behind the first one, and for the exponent.
+pub first_room : (xs ys : List ℕ) (n d : ℕ) → ys ≡ xs ++ last_digits 1 n → length xs ≤ 1 → d ≤ 15 → length ys + d + 1 ≤ 23
+first_room xs ys n d e h few = rw (e, length-append xs (last_digits 1 n), digits_length 1 n) (omega arith)
+
+pub fraction_room : (xs ys zs : List ℕ) (n d m : ℕ) → ys ≡ xs ++ last_digits 1 n → zs ≡ ys ++ fraction_text d m → length xs ≤ 1 → d ≤ 15 → length zs ≤ 18
+fraction_room xs ys zs n d m e q h few =
+    let l = fraction_length d m in
+    rw (q, e, length-append (xs ++ last_digits 1 n) (fraction_text d m), length-append xs (last_digits 1 n), digits_length 1 n) (omega arith)

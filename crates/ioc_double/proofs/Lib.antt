@@ -4,6 +4,7 @@ pub mod Fields
 pub mod LastDigits
 pub mod LeadingOf
 pub mod NearestDecimal
+pub mod Places
 pub mod Powers
 pub mod Closest
 pub mod SameBits

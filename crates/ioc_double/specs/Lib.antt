@@ -1,4 +1,5 @@
 pub mod Exact
+pub mod Fixed
 pub mod Groups
 pub mod Leading
 pub mod Nearest

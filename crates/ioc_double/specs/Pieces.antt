@@ -1,6 +1,7 @@
 -- Decimal digits and what stands in front of and behind them in a text.
 use Rattle.std.specs.Prelude.{ℕ, zero, suc, ◌+◌, ◌-◌, ◌/◌, ◌%◌, ◌^◌, ◌==◌, List, [], ◌∷◌, ◌++◌, length, replicate, nat_lt, ℤ, pos, negsuc, if◌then◌else◌}
 use Rattle.std.specs.Fmt.{decimal}
+use Rattle.ioc_double.specs.declared.scientific.Scientific.{Scientific}
 
 -- The last digits of n, so many of them: with zeros in front where n has fewer.
 unfoldable pub last_digits : ℕ → ℕ → List ℕ
@@ -27,3 +28,7 @@ exponent_text (negsuc n) = 45 ∷ exponent_digits (suc n)
 -- The text with spaces in front, up to so many bytes.
 abbrev pub padded : ℕ → List ℕ → List ℕ
 padded width text = replicate (width - length text) 32 ++ text
+
+-- Digits with a point behind the first, and an exponent.
+abbrev pub scientific_text : ℕ → Scientific → List ℕ
+scientific_text d x = last_digits 1 (x.digits / 10 ^ d) ++ fraction_text d x.digits ++ 101 ∷ exponent_text x.exponent

@@ -4,9 +4,11 @@
 pub mod digits;
 pub mod double;
 mod exact;
+pub mod fixed;
 mod groups;
 mod pieces;
 mod rounding;
+mod rounded;
 pub mod scientific;
 pub mod number;
 

@@ -1,11 +1,13 @@
 //! Numbers with one digit before the point and a power of ten.
 
-ghost use Rattle.std.specs.Prelude.{◌≡◌, ◌≤◌, ◌≤ℤ◌, ◌-ℤ◌, pos, IsTrue};
+ghost use Rattle.std.specs.Prelude.{◌≡◌, ◌≤◌, ◌++◌, ◌≤ℤ◌, ◌-ℤ◌, length, pos, IsTrue};
 ghost use Rattle.std.specs.Float.{float_is_finite};
 ghost use Rattle.std.specs.Float.Ieee.Positive.{num, den};
 ghost use Rattle.ioc_double.specs.Nearest.{carried_over, nearest_decimal};
+ghost use Rattle.ioc_double.specs.Pieces.{exponent_text, scientific_text};
 
 use crate::exact::exact_of;
+use crate::pieces::{DoubleText, push_digits, push_fraction};
 use crate::rounding::nearest;
 
 /// A number in scientific notation.
@@ -65,4 +67,28 @@ pub(crate) fn scientific_of(number: f64, digits: u8) -> Scientific
     let significand = nearest(leading, first - u32::from(digits)) as u64;
     let exponent = exponent_of(first + leading.dropped, exact.places);
     carry_over(significand, exponent, digits)
+}
+
+/// Appends the sign and the digits of an exponent.
+fn push_exponent(text: &mut DoubleText, exponent: i32)
+    requires { length text.old.items ≤ 19 }
+    ensures { text.new.items ≡ text.old.items ++ exponent_text exponent }
+{
+    text.push(if exponent < 0 { b'-' } else { b'+' });
+    let size = u64::from(exponent.unsigned_abs());
+    push_digits(text, size, if size < 100 { 2 } else { 3 });
+}
+
+/// Appends the size of a finite number in scientific notation, with so many digits behind the point.
+pub(crate) fn push_scientific(text: &mut DoubleText, number: f64, digits: u8)
+    requires finite { IsTrue (float_is_finite number) }
+    requires digits { digits ≤ 15 }
+    requires room { length text.old.items ≤ 1 }
+    ensures { text.new.items ≡ text.old.items ++ scientific_text digits (nearest_decimal digits (num number) (den number)) }
+{
+    let scientific = scientific_of(number, digits);
+    push_digits(text, scientific.digits / 10u64.pow(u32::from(digits)), 1);
+    push_fraction(text, scientific.digits, digits);
+    text.push(b'e');
+    push_exponent(text, scientific.exponent);
 }
