@@ -17,8 +17,8 @@ unfolding how_many
 counted zero k test h below above = omega arith
 counted (suc n) k test h below above =
     elim (eq-or-lt_of_le h) [
-      inl e ↦ all_counted (suc n) test (λ i l. below i (omega arith)) ∙ sym e
-    | inr l ↦ let few : k ≤ n = omega arith in rw (above n few, counted n k test few below above) (omega arith)
+      | inl e ↦ all_counted (suc n) test (λ i l. below i (omega arith)) ∙ sym e
+      | inr l ↦ let few : k ≤ n = omega arith in rw (above n few, counted n k test few below above) (omega arith)
     ]
 
 ten : (k : ℕ) → 0 < 10 ^ k
@@ -34,9 +34,9 @@ exponent_pos k a b few low high =
     let reached : b ≤ a = let m = mul-le-mul_right b (ten k) in omega arith in
     rw (le-leb b a reached)
     (ap pos
-        (counted 1100 k (λ (i : ℕ). nat_le (10 ^ suc i * b) a) few
-            (λ i h. le-leb (10 ^ suc i * b) a (le_trans (mul-le-mul_right b (tens_le (suc i) k h)) low))
-            (λ i h. lt-leb (10 ^ suc i * b) a (lt_of_lt_of_le high (mul-le-mul_right b (tens_le (suc k) (suc i) (omega arith)))))))
+    (counted 1100 k (λ (i : ℕ). nat_le (10 ^ suc i * b) a) few
+    (λ i h. le-leb (10 ^ suc i * b) a (le_trans (mul-le-mul_right b (tens_le (suc i) k h)) low))
+    (λ i h. lt-leb (10 ^ suc i * b) a (lt_of_lt_of_le high (mul-le-mul_right b (tens_le (suc k) (suc i) (omega arith)))))))
 
 exponent_neg : (k a b : ℕ) → k ≤ 1100 → b ≤ a * 10 ^ suc k → a * 10 ^ k < b → exponent_of a b ≡ negsuc k
 unfolding exponent_of
@@ -44,9 +44,9 @@ exponent_neg k a b few low high =
     let below : a < b = let m = mul-le-mul_left a (ten k) in omega arith in
     rw (lt-leb b a below)
     (ap negsuc
-        (counted 1100 k (λ (i : ℕ). nat_lt (a * 10 ^ suc i) b) few
-            (λ i h. lt-ltb (a * 10 ^ suc i) b (lt_of_le_of_lt (mul-le-mul_left a (tens_le (suc i) k h)) high))
-            (λ i h. le-ltb (a * 10 ^ suc i) b (le_trans low (mul-le-mul_left a (tens_le (suc k) (suc i) (omega arith)))))))
+    (counted 1100 k (λ (i : ℕ). nat_lt (a * 10 ^ suc i) b) few
+    (λ i h. lt-ltb (a * 10 ^ suc i) b (lt_of_le_of_lt (mul-le-mul_left a (tens_le (suc i) k h)) high))
+    (λ i h. le-ltb (a * 10 ^ suc i) b (le_trans low (mul-le-mul_left a (tens_le (suc k) (suc i) (omega arith)))))))
 
 pub exponent_is : (z : ℤ) (a b : ℕ) → IsExponent z a b → nat_abs z ≤ 1100 → exponent_of a b ≡ z
 exponent_is (pos k) a b h few = exponent_pos k a b few h.0 h.1
@@ -77,12 +77,12 @@ module _ (a b v p e : ℕ) (same : a * 10 ^ p ≡ v * b) (positive : 0 < b) (low
   pub significand_large : (k d r : ℕ) → e ≡ p + k → e ≡ d + r → closest v (10 ^ r) ≡ significand d (pos k) a b
   significand_large k d r s t = closest_same v (10 ^ r) (a * 10 ^ d) (10 ^ k * b) (ten r) (mul-pos (ten k) positive)
       (let q : 10 ^ d * 10 ^ r ≡ 10 ^ p * 10 ^ k = sym (pow-add 10 d r) ∙ ap (λ (n : ℕ). 10 ^ n) (sym t ∙ s) ∙ pow-add 10 p k in
-       let qa : a * (10 ^ d * 10 ^ r) ≡ a * (10 ^ p * 10 ^ k) = ap (λ (n : ℕ). a * n) q in
-       let vk : a * 10 ^ p * 10 ^ k ≡ v * b * 10 ^ k = ap (λ (n : ℕ). n * 10 ^ k) same in
-       omega arith)
+      let qa : a * (10 ^ d * 10 ^ r) ≡ a * (10 ^ p * 10 ^ k) = ap (λ (n : ℕ). a * n) q in
+      let vk : a * 10 ^ p * 10 ^ k ≡ v * b * 10 ^ k = ap (λ (n : ℕ). n * 10 ^ k) same in
+      omega arith)
 
   pub significand_small : (k d r : ℕ) → p ≡ e + suc k → e ≡ d + r → closest v (10 ^ r) ≡ significand d (negsuc k) a b
   significand_small k d r s t = closest_same v (10 ^ r) (a * 10 ^ d * 10 ^ suc k) b (ten r) positive
       (let q : 10 ^ p ≡ 10 ^ d * 10 ^ r * 10 ^ suc k = ap (λ (n : ℕ). 10 ^ n) s ∙ pow-add 10 e (suc k) ∙ ap (λ (n : ℕ). n * 10 ^ suc k) (ap (λ (n : ℕ). 10 ^ n) t ∙ pow-add 10 d r) in
-       let qa : a * 10 ^ p ≡ a * (10 ^ d * 10 ^ r * 10 ^ suc k) = ap (λ (n : ℕ). a * n) q in
-       omega arith)
+      let qa : a * 10 ^ p ≡ a * (10 ^ d * 10 ^ r * 10 ^ suc k) = ap (λ (n : ℕ). a * n) q in
+      omega arith)

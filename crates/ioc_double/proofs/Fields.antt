@@ -24,8 +24,8 @@ unfolding of_fields float_is_finite
 finite_field s x t h = go (eqb (suc x) 2047) (eqb t 0) refl h
   where
     go : (p q : Bool) → eqb (suc x) 2047 ≡ p
-      → float_is_finite (cond p (cond q (inf s) nan) (odd 53 s (2 ^ 52 + t) x 1074)) ≡ true
-      → (suc x ≢ 2047) × (num (cond p (cond q (inf s) nan) (odd 53 s (2 ^ 52 + t) x 1074)) * 2 ^ 1074 ≡ (2 ^ 52 + t) * 2 ^ x * den (cond p (cond q (inf s) nan) (odd 53 s (2 ^ 52 + t) x 1074)))
+        → float_is_finite (cond p (cond q (inf s) nan) (odd 53 s (2 ^ 52 + t) x 1074)) ≡ true
+        → (suc x ≢ 2047) × (num (cond p (cond q (inf s) nan) (odd 53 s (2 ^ 52 + t) x 1074)) * 2 ^ 1074 ≡ (2 ^ 52 + t) * 2 ^ x * den (cond p (cond q (inf s) nan) (odd 53 s (2 ^ 52 + t) x 1074)))
     go true true e k = absurd cc
     go true false e k = absurd cc
     go false q e k = (eqb-false (suc x) 2047 e, size_of (odd 53 s (2 ^ 52 + t) x 1074) ((2 ^ 52 + t) * 2 ^ x) (2 ^ 1074) (odd_val 53 s (2 ^ 52 + t) x 1074))

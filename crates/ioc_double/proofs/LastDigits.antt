@@ -29,8 +29,8 @@ digits_room xs ys count n h e fits = rw (e, length-append xs (last_digits (count
 pub padding : (xs ys zs ws : List ℕ) (k width : ℕ) → ys ≡ replicate k 32 → k ≡ width - length xs → zs ≡ xs → ws ≡ ys ++ zs → ws ≡ padded width xs
 padding xs ys zs ws k width e q r s = s ∙ rw (e, q, r) refl
 
-pub padding_room : (xs ys zs : List ℕ) (k width : ℕ) → ys ≡ replicate k 32 → k ≡ width - length xs → zs ≡ xs → width ≤ 23 → length xs ≤ 23 → length ys + length zs ≤ 23
-padding_room xs ys zs k width e q r h i = rw (e, r, length-replicate {A = ℕ} k 32) (omega arith)
+pub padding_room : (xs ys zs : List ℕ) (k width : ℕ) → ys ≡ replicate k 32 → k ≡ width - length xs → zs ≡ xs → width ≤ 23 → length zs ≤ 23 → length ys + length zs ≤ 23
+padding_room xs ys zs k width e q r h i = let j : length xs ≤ 23 = rw (sym r) i in rw (e, r, length-replicate {A = ℕ} k 32) (omega arith)
 
 pub fraction_length : (d n : ℕ) → length (fraction_text d n) ≤ d + 1
 fraction_length zero n = lit≤ tt
@@ -47,3 +47,9 @@ pub fraction_room : (xs ys zs : List ℕ) (n d m : ℕ) → ys ≡ xs ++ last_di
 fraction_room xs ys zs n d m e q h few =
     let l = fraction_length d m in
     rw (q, e, length-append (xs ++ last_digits 1 n) (fraction_text d m), length-append xs (last_digits 1 n), digits_length 1 n) (omega arith)
+
+pub padding_length : (xs ys zs : List ℕ) → zs ≡ xs ++ ys → length xs + length ys ≤ 23 → length zs ≤ 23
+padding_length xs ys zs e h = rw (e, length-append xs ys) h
+
+pub fraction_short : (xs ys zs : List ℕ) (d n : ℕ) → ys ≡ xs ++ 46 ∷ [] → zs ≡ ys ++ last_digits d n → length zs ≤ length xs + d + 1
+fraction_short xs ys zs d n e q = rw (q, e, length-append (xs ++ 46 ∷ []) (last_digits d n), digits_length d n) (rw (length-append xs (46 ∷ [])) (omega arith))

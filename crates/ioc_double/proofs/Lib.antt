@@ -2,6 +2,7 @@ pub mod Decimals
 pub mod Exponents
 pub mod Fields
 pub mod LastDigits
+pub mod Layouts
 pub mod LeadingOf
 pub mod NearestDecimal
 pub mod Places

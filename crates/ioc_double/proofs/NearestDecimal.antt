@@ -113,8 +113,8 @@ scientific_is x a b d f n z e positive low high few q s =
     let r = x.leading.dropped + (f - d) in
     let t : f + x.leading.dropped ≡ d + r = omega arith in
     elim (order x.places (f + x.leading.dropped)) [
-      inl k ↦ large_case d a b n e.whole x.places (f + x.leading.dropped) r z e.same positive some l h q t s k.0 (let is = k.1 in omega arith) k.1
-    | inr k ↦ small_case d a b n e.whole x.places (f + x.leading.dropped) r z e.same positive some l h q t s k.0 (let is = k.1 in omega arith) k.1
+      | inl k ↦ large_case d a b n e.whole x.places (f + x.leading.dropped) r z e.same positive some l h q t s k.0 (let is = k.1 in omega arith) k.1
+      | inr k ↦ small_case d a b n e.whole x.places (f + x.leading.dropped) r z e.same positive some l h q t s k.0 (let is = k.1 in omega arith) k.1
     ]
 
 pub first_is : (x : Exact) (a b f : ℕ) → IsExact x a b → 0 < b → 10 ^ f ≤ x.leading.head → x.leading.head < 10 * 10 ^ f → 27 ≤ f

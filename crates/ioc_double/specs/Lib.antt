@@ -6,4 +6,5 @@ pub mod Nearest
 pub mod Pieces
 pub mod Same
 pub mod SameLaws
+pub mod Text
 pub mod Whole

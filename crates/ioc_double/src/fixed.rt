@@ -62,7 +62,8 @@ fn carry(parts: Fixed, digits: u8) -> Fixed
 pub(crate) fn push_fixed(text: &mut DoubleText, size: f64, digits: u8)
     requires digits { digits ≤ 8 }
     requires room { length text.old.items ≤ 1 }
-    ensures { text.new.items ≡ text.old.items ++ fixed_text size digits }
+    ensures value { text.new.items ≡ text.old.items ++ fixed_text size digits }
+    ensures short { length text.new.items ≤ 23 }
 {
     let parts = carry(parts_of(size, digits), digits);
     push_decimal(text, parts.whole);

@@ -6,11 +6,13 @@ pub mod double;
 mod exact;
 pub mod fixed;
 mod groups;
-mod pieces;
-mod rounding;
-mod rounded;
-pub mod scientific;
 pub mod number;
+mod pieces;
+mod rounded;
+mod rounding;
+pub mod scientific;
+pub mod text;
 
 pub use digits::Digits;
 pub use double::Double;
+pub use text::{DoubleText, text_of_double};

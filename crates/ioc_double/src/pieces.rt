@@ -43,7 +43,8 @@ pub(crate) fn push_decimal(text: &mut DoubleText, number: u64)
 /// Appends a point and the last digits of the number, if these are any.
 pub(crate) fn push_fraction(text: &mut DoubleText, number: u64, count: u8)
     requires { length text.old.items + count + 1 ≤ 23 }
-    ensures { text.new.items ≡ text.old.items ++ fraction_text count number }
+    ensures value { text.new.items ≡ text.old.items ++ fraction_text count number }
+    ensures short { length text.new.items ≤ length text.old.items + count + 1 }
 {
     if count != 0 {
         text.push(b'.');
@@ -53,9 +54,9 @@ pub(crate) fn push_fraction(text: &mut DoubleText, number: u64, count: u8)
 
 /// Returns the text with spaces in front, up to so many bytes.
 pub(crate) fn pad_front(text: &DoubleText, width: usize) -> DoubleText
-    requires width { width ≤ 23 }
-    requires short { length text.now.items ≤ 23 }
-    ensures { result.items ≡ padded width text.now.items }
+    requires { width ≤ 23 }
+    ensures value { result.items ≡ padded width text.now.items }
+    ensures short { length result.items ≤ 23 }
 {
     let mut wide = DoubleText::new();
     for _ in text.len()..width {

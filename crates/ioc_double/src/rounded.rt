@@ -31,7 +31,8 @@ pub(crate) fn push_rounded(text: &mut DoubleText, number: f64, digits: u8)
     requires large { 10 ^ 7 * den number < num number }
     requires small { num number ≤ 10 ^ 16 * den number }
     requires room { length text.old.items ≤ 1 }
-    ensures { text.new.items ≡ text.old.items ++ with_point (min digits 3) (closest (num number * 10 ^ (min digits 3)) (den number)) }
+    ensures value { text.new.items ≡ text.old.items ++ with_point (min digits 3) (closest (num number * 10 ^ (min digits 3)) (den number)) }
+    ensures short { length text.new.items ≤ 23 }
 {
     let places = digits.min(3);
     let rounded = nearest_with_places(number, places);

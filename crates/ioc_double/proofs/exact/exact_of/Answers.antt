@@ -23,10 +23,10 @@ multiply_by_power-requires-else-size-lt1074-clause-fits c =
 pub returns : goal.returns
 returns c =
     elim c.if-size-lt1074.branch [
-      then-size-lt1074 w ↦
-        small_exact _ _ _ _ _ (value c.if-size-lt1074.groups) (value c.with_zeros-groups.result) c.binary_of-size.ensures.value w.if-size-lt1074.true w.places-is
-        (rw w.groups-is w.multiply_by_power.ensures.value) c.with_zeros-groups.ensures.value c.leading_digits.ensures.leading c.leading_digits.ensures.dropped
-    | else-size-lt1074 w ↦
-        large_exact _ _ _ _ _ (value c.if-size-lt1074.groups) (value c.with_zeros-groups.result) c.binary_of-size.ensures.value w.if-size-lt1074.false w.places-is
-        (rw w.groups-is w.multiply_by_power-else-size-lt1074.ensures.value) c.with_zeros-groups.ensures.value c.leading_digits.ensures.leading c.leading_digits.ensures.dropped
+      | then-size-lt1074 w ↦
+          small_exact _ _ _ _ _ (value c.if-size-lt1074.groups) (value c.with_zeros-groups.result) c.binary_of-size.ensures.value w.if-size-lt1074.true w.places-is
+          (rw w.groups-is w.multiply_by_power.ensures.value) c.with_zeros-groups.ensures.value c.leading_digits.ensures.leading c.leading_digits.ensures.dropped
+      | else-size-lt1074 w ↦
+          large_exact _ _ _ _ _ (value c.if-size-lt1074.groups) (value c.with_zeros-groups.result) c.binary_of-size.ensures.value w.if-size-lt1074.false w.places-is
+          (rw w.groups-is w.multiply_by_power-else-size-lt1074.ensures.value) c.with_zeros-groups.ensures.value c.leading_digits.ensures.leading c.leading_digits.ensures.dropped
     ]

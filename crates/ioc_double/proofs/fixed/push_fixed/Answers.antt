@@ -15,3 +15,9 @@ push_decimal-requires c = let s = short c.carry-parts.result.whole c.carry-parts
 
 pub push_fraction-requires : goal.push_fraction-requires
 push_fraction-requires c = room _ _ c.carry-parts.result.whole c.args.digits c.push_decimal.ensures c.requires.room c.carry-parts.ensures.whole c.requires.digits
+
+pub returns-clause-short : goal.returns-clause-short
+returns-clause-short c =
+    let r = room _ _ c.carry-parts.result.whole c.args.digits c.push_decimal.ensures c.requires.room c.carry-parts.ensures.whole c.requires.digits in
+    let s = c.push_fraction.ensures.short in
+    omega arith

@@ -21,5 +21,14 @@ pub push_fraction-requires : goal.push_fraction-requires
 push_fraction-requires c =
     room _ _ _ c.min-places.result c.push_decimal.ensures c.requires.room
     (whole_fits c.nearest_with_places-rounded.result c.min-places.result c.pow.result c.nearest_with_places-rounded.ensures.bound
-        (c.pow.ensures ∙ ap (λ (k : ℕ). 10 ^ k) c.from.ensures))
+    (c.pow.ensures ∙ ap (λ (k : ℕ). 10 ^ k) c.from.ensures))
     (omega arith)
+
+pub returns-clause-short : goal.returns-clause-short
+returns-clause-short c =
+    let r = room _ _ _ c.min-places.result c.push_decimal.ensures c.requires.room
+    (whole_fits c.nearest_with_places-rounded.result c.min-places.result c.pow.result c.nearest_with_places-rounded.ensures.bound
+    (c.pow.ensures ∙ ap (λ (k : ℕ). 10 ^ k) c.from.ensures))
+    (omega arith) in
+    let s = c.push_fraction.ensures.short in
+    omega arith

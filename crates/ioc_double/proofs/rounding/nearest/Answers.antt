@@ -49,7 +49,7 @@ pub returns-then-rest-half : goal.returns-then-rest-half
 returns-then-rest-half c = λ n leads.
     rw c.pow-tens.ensures
     (nearest_down c.args.number n c.args.places _ _ leads c.requires.positive (split c.args.number.head (10 ^ c.args.places)) (rest_small c.args.number.head c.args.places)
-        (rw c.pow-tens.ensures at c.if-rest-half.true))
+    (rw c.pow-tens.ensures at c.if-rest-half.true))
 
 pub returns-then-number : goal.returns-then-number
 returns-then-number c = λ n leads.
@@ -59,9 +59,9 @@ returns-then-number c = λ n leads.
     let small = rest_small l.head p in
     rw c.pow-tens.ensures
     (elim c.if-rest-half-2.branch [
-      then-rest-half-2 w ↦ nearest_up l n p _ _ leads c.requires.positive is small (rw c.pow-tens.ensures at w.if-rest-half-2.true)
-    | else-rest-half-2 w ↦
-        nearest_up_more l n p _ _ leads c.requires.positive is small (rw c.pow-tens.ensures at c.if-rest-half.false) (sym w.value-is ∙ c.if-number.true)
+      | then-rest-half-2 w ↦ nearest_up l n p _ _ leads c.requires.positive is small (rw c.pow-tens.ensures at w.if-rest-half-2.true)
+      | else-rest-half-2 w ↦
+          nearest_up_more l n p _ _ leads c.requires.positive is small (rw c.pow-tens.ensures at c.if-rest-half.false) (sym w.value-is ∙ c.if-number.true)
     ])
 
 one_number : (a b : ℕ) → a ≤ b → b ≤ a → a ≡ b
@@ -78,8 +78,8 @@ returns-else-number c = λ n leads.
     let small = rest_small l.head p in
     rw c.pow-tens.ensures
     (elim c.if-rest-half-2.branch [
-      then-rest-half-2 w ↦ absurd (never _ _ w.if-rest-half-2.true (sym w.value-is ∙ c.if-number.false))
-    | else-rest-half-2 w ↦
-        nearest_tie l n p _ _ leads c.requires.positive is small
-        (one_number _ _ (rw c.pow-tens.ensures at c.if-rest-half.false) (rw c.pow-tens.ensures at w.if-rest-half-2.false)) (sym w.value-is ∙ c.if-number.false)
+      | then-rest-half-2 w ↦ absurd (never _ _ w.if-rest-half-2.true (sym w.value-is ∙ c.if-number.false))
+      | else-rest-half-2 w ↦
+          nearest_tie l n p _ _ leads c.requires.positive is small
+          (one_number _ _ (rw c.pow-tens.ensures at c.if-rest-half.false) (rw c.pow-tens.ensures at w.if-rest-half-2.false)) (sym w.value-is ∙ c.if-number.false)
     ])

@@ -11,11 +11,11 @@ push_fraction-requires c = first_room _ _ _ c.args.digits c.push_digits.ensures 
 
 pub push-requires : goal.push-requires
 push-requires c =
-    let r = fraction_room _ _ _ _ c.args.digits _ c.push_digits.ensures c.push_fraction.ensures c.requires.room c.requires.digits in
+    let r = fraction_room _ _ _ _ c.args.digits _ c.push_digits.ensures c.push_fraction.ensures.value c.requires.room c.requires.digits in
     (lit< tt, omega arith)
 
 pub push_exponent-requires : goal.push_exponent-requires
 push_exponent-requires c =
-    let r = fraction_room _ _ _ _ c.args.digits _ c.push_digits.ensures c.push_fraction.ensures c.requires.room c.requires.digits in
+    let r = fraction_room _ _ _ _ c.args.digits _ c.push_digits.ensures c.push_fraction.ensures.value c.requires.room c.requires.digits in
     let l = c.push.ensures.len in
     omega arith

@@ -13,28 +13,28 @@ returns-then-leading-eq0 c =
 pub overflow_sub-first : goal.overflow_sub-first
 overflow_sub-first c =
     let l = first_is c.exact_of-exact.result (num c.args.number) (den c.args.number) c.ilog10-first.result c.exact_of-exact.ensures (den_pos c.args.number) c.ilog10-first.ensures.power_le
-          c.ilog10-first.ensures.next_power_gt in
+    c.ilog10-first.ensures.next_power_gt in
     omega arith
 
 pub nearest-significand-requires-clause-positive : goal.nearest-significand-requires-clause-positive
 nearest-significand-requires-clause-positive c =
     let l = first_is c.exact_of-exact.result (num c.args.number) (den c.args.number) c.ilog10-first.result c.exact_of-exact.ensures (den_pos c.args.number) c.ilog10-first.ensures.power_le
-          c.ilog10-first.ensures.next_power_gt in
+    c.ilog10-first.ensures.next_power_gt in
     omega arith
 
 pub overflow_cast-significand : goal.overflow_cast-significand
 overflow_cast-significand c = record {
   fits =
-    digits_fit c.exact_of-exact.result (num c.args.number) (den c.args.number) c.args.digits c.ilog10-first.result _ c.from.result c.exact_of-exact.ensures (den_pos c.args.number)
-    c.ilog10-first.ensures.power_le c.ilog10-first.ensures.next_power_gt c.requires.digits c.from.ensures
-    (c.nearest-significand.ensures c.exact_of-exact.ensures.whole c.exact_of-exact.ensures.leading);
+      digits_fit c.exact_of-exact.result (num c.args.number) (den c.args.number) c.args.digits c.ilog10-first.result _ c.from.result c.exact_of-exact.ensures (den_pos c.args.number)
+      c.ilog10-first.ensures.power_le c.ilog10-first.ensures.next_power_gt c.requires.digits c.from.ensures
+      (c.nearest-significand.ensures c.exact_of-exact.ensures.whole c.exact_of-exact.ensures.leading);
 }
 
 pub returns : goal.returns
 returns c =
     c.carry_over.ensures
     ∙ scientific_is c.exact_of-exact.result (num c.args.number) (den c.args.number) c.args.digits c.ilog10-first.result _ _ c.exact_of-exact.ensures (den_pos c.args.number)
-      c.ilog10-first.ensures.power_le c.ilog10-first.ensures.next_power_gt c.requires.digits
-      (subst (λ (g : ℕ). c.nearest-significand.result ≡ closest c.exact_of-exact.ensures.whole (10 ^ (c.exact_of-exact.result.leading.dropped + (c.ilog10-first.result - g))))
-          c.from.ensures (c.nearest-significand.ensures c.exact_of-exact.ensures.whole c.exact_of-exact.ensures.leading))
-      (to_z-of_z w32 c.exponent_of-exponent.result (search (rules, c.exponent_of-exponent.type_inv)) ∙ c.exponent_of-exponent.ensures)
+    c.ilog10-first.ensures.power_le c.ilog10-first.ensures.next_power_gt c.requires.digits
+    (subst (λ (g : ℕ). c.nearest-significand.result ≡ closest c.exact_of-exact.ensures.whole (10 ^ (c.exact_of-exact.result.leading.dropped + (c.ilog10-first.result - g))))
+    c.from.ensures (c.nearest-significand.ensures c.exact_of-exact.ensures.whole c.exact_of-exact.ensures.leading))
+    (to_z-of_z w32 c.exponent_of-exponent.result (search (rules, c.exponent_of-exponent.type_inv)) ∙ c.exponent_of-exponent.ensures)
