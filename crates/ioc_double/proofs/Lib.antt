@@ -5,6 +5,7 @@ pub mod LastDigits
 pub mod Layouts
 pub mod LeadingOf
 pub mod NearestDecimal
+pub mod Numerals
 pub mod Places
 pub mod Powers
 pub mod Closest

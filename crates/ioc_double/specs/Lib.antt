@@ -6,5 +6,6 @@ pub mod Nearest
 pub mod Pieces
 pub mod Same
 pub mod SameLaws
+pub mod Spelled
 pub mod Text
 pub mod Whole

@@ -11,6 +11,7 @@ mod pieces;
 mod rounded;
 mod rounding;
 pub mod scientific;
+pub mod spelled;
 pub mod text;
 
 pub use digits::Digits;
