@@ -4,6 +4,7 @@ pub mod Fields
 pub mod LastDigits
 pub mod Layouts
 pub mod LeadingOf
+pub mod Longest
 pub mod NearestDecimal
 pub mod Numerals
 pub mod Places

@@ -1,9 +1,11 @@
+pub mod Decimal
 pub mod Exact
 pub mod Fixed
 pub mod Groups
 pub mod Leading
 pub mod Nearest
 pub mod Pieces
+pub mod Reading
 pub mod Same
 pub mod SameLaws
 pub mod Spelled

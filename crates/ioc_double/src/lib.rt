@@ -1,6 +1,7 @@
 //! IEEE 754 doubles as values of fields: one NaN, equality by bits, whole numbers and texts.
 #![tactic(auto)]
 
+pub mod decimal;
 pub mod digits;
 pub mod double;
 mod exact;
@@ -14,6 +15,8 @@ pub mod scientific;
 pub mod spelled;
 pub mod text;
 
+pub use decimal::decimal_length;
 pub use digits::Digits;
 pub use double::Double;
+pub use spelled::double_of_text;
 pub use text::{DoubleText, text_of_double};
