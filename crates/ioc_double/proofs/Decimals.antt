@@ -1,7 +1,7 @@
 -- A whole number times a power of two is one over a power of ten.
-use Rattle.std.proofs.Common.{◌≡◌, ℕ, suc, zero, ◌+◌, ◌-◌, ◌*◌, ◌^◌, ◌<◌, ◌≤◌, refl, sym, ap, subst, ◌∙◌, arith, lit<}
+use Rattle.std.proofs.Common.{◌≡◌, ℕ, suc, zero, ◌+◌, ◌-◌, ◌*◌, ◌^◌, ◌<◌, ◌≤◌, sym, ap, ◌∙◌, arith, lit<}
 use Rattle.std.proofs.lemmas.Nat.{pow-add, pow_pos, mul-pow}
-use Rattle.std.proofs.Math.Nat.{eq_of_mul-eq-mul_right, mul-le-mul, mul-le-mul_left, mul-le-mul_right, pow-le-pow_right, one-le-pow, lt_of_le_of_lt, lt_of_lt_of_le, le_trans}
+use Rattle.std.proofs.Math.Nat.{eq_of_mul-eq-mul_right, mul-le-mul, one-le-pow, lt_of_le_of_lt}
 use Rattle.ioc_double.specs.declared.exact.Exact.{Exact}
 use Rattle.ioc_double.specs.Leading.{IsLeading}
 use Rattle.ioc_double.specs.Exact.{IsExact}

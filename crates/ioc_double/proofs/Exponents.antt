@@ -1,9 +1,9 @@
 -- The decimal exponent and the digits of a fraction, from its exact decimal.
-use Rattle.std.proofs.Common.{◌≡◌, ◌≢◌, ℕ, suc, zero, ◌+◌, ◌-◌, ◌*◌, ◌^◌, ◌<◌, ◌≤◌, ◌==◌, Bool, true, false, nat_le, nat_lt, ℤ, pos, negsuc, ◌-ℤ◌, nat_abs, inl, inr, refl, sym, ap, subst, ◌∙◌, arith, lit<}
-use Rattle.std.proofs.lemmas.Bool.{lt-ltb, le-ltb, le-leb, lt-leb, ltb-true, ltb-false, leb-true}
+use Rattle.std.proofs.Common.{◌≡◌, ℕ, suc, zero, ◌+◌, ◌*◌, ◌^◌, ◌<◌, ◌≤◌, Bool, true, false, nat_le, nat_lt, ℤ, pos, negsuc, nat_abs, inl, inr, refl, sym, ap, ◌∙◌, arith, lit<}
+use Rattle.std.proofs.lemmas.Bool.{lt-ltb, le-ltb, le-leb, lt-leb}
 use Rattle.std.proofs.lemmas.Nat.{pow-add}
-use Rattle.std.proofs.Math.Nat.{eq-or-lt_of_le, mul-pos, pow-le-pow_right, one-le-pow, pow-succ', mul-le-mul_left, mul-le-mul_right, mul-le-mul, le_trans, lt_of_le_of_lt, lt_of_lt_of_le, le_of_mul-le-mul_right, lt_of_mul-lt-mul_right, mul-lt-mul_of_pos_right}
-use Rattle.std.specs.Float.Ieee.Nearest.{closest, closest_same, closest_mono}
+use Rattle.std.proofs.Math.Nat.{eq-or-lt_of_le, mul-pos, pow-le-pow_right, one-le-pow, mul-le-mul_left, mul-le-mul_right, le_trans, lt_of_le_of_lt, lt_of_lt_of_le, le_of_mul-le-mul_right, lt_of_mul-lt-mul_right, mul-lt-mul_of_pos_right}
+use Rattle.std.specs.Float.Ieee.Nearest.{closest, closest_same}
 use Rattle.ioc_double.specs.Nearest.{IsExponent, how_many, exponent_of, significand}
 
 all_counted : (n : ℕ) (test : ℕ → Bool) → ((i : ℕ) → i < n → test i ≡ true) → how_many n test ≡ n

@@ -1,8 +1,8 @@
 -- The size of a finite double by the fields of its bits.
-use Rattle.std.proofs.Common.{◌≡◌, ℕ, suc, zero, ◌+◌, ◌-◌, ◌*◌, ◌/◌, ◌%◌, ◌^◌, ◌<◌, ◌≤◌, ◌≢◌, Bool, true, false, T, cond, refl, sym, ap, subst, ◌∙◌, arith, lit<}
+use Rattle.std.proofs.Common.{◌≡◌, ℕ, suc, ◌+◌, ◌-◌, ◌*◌, ◌/◌, ◌%◌, ◌^◌, ◌≢◌, Bool, true, false, T, cond, refl, sym, ap, subst, ◌∙◌, arith}
 use Rattle.std.proofs.lemmas.Bool.{eqb-false}
 use Rattle.std.specs.Float.{float_is_finite}
-use Rattle.std.specs.Float.Ieee.{Float, nan, inf, fin, binary64, fits, to_bits, of_bits, of_fields, odd, low, hid, top, ones}
+use Rattle.std.specs.Float.Ieee.{Float, nan, inf, fin, binary64, fits, to_bits, of_bits, of_fields, odd}
 use Rattle.std.specs.Float.Ieee.Bits.{of_bits-to_bits}
 use Rattle.std.specs.Float.Ieee.Digits.{Equals, odd_val}
 use Rattle.std.specs.Float.Ieee.Positive.{num, den}

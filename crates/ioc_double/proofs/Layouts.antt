@@ -1,10 +1,9 @@
 -- What the layout of a double says of its size.
-use Rattle.std.proofs.Common.{◌≡◌, ℕ, suc, zero, ◌+◌, ◌-◌, ◌*◌, ◌^◌, ◌<◌, ◌≤◌, Bool, true, false, ◌&&◌, ◌||◌, cond, nat_le, T, ℤ, pos, negsuc, List, [], ◌∷◌, ◌++◌, refl, sym, ap, subst, ◌∙◌, arith, codes}
+use Rattle.std.proofs.Common.{◌≡◌, ℕ, ◌*◌, ◌^◌, ◌<◌, ◌≤◌, Bool, true, false, ◌&&◌, ◌||◌, cond, nat_le, pos, refl, subst, arith, codes}
 use Rattle.std.proofs.lemmas.Bool.{ltb-true, ltb-false, eqb-true, eqb-false, leb-true}
 use Rattle.std.specs.Float.{float_is_finite, float_is_infinite, float_with_sign}
-use Rattle.std.specs.Float.Ieee.{Float, nan, inf, fin, binary64, of_int, round, size, span, climb, units, odd, lt, le, eq, is_nan, up, down}
+use Rattle.std.specs.Float.Ieee.{Float, nan, inf, fin, of_int, round, size, span, climb, units, odd, lt, le, eq, is_nan, up, down}
 use Rattle.std.specs.Float.Ieee.Positive.{num, den}
-use Rattle.ioc_double.specs.declared.text.Layout.{Layout}
 use Rattle.ioc_double.specs.declared.text.Layout.TheVariants.{Fixed, Rounded, NotANumber, Padded}
 use Rattle.ioc_double.specs.Fixed.{whole_double}
 use Rattle.ioc_double.specs.Nearest.{nearest_decimal}

@@ -1,9 +1,8 @@
 -- The leading digits of a number, found group by group from the highest.
-use Rattle.std.proofs.Common.{◌≡◌, ℕ, suc, zero, ◌+◌, ◌-◌, ◌*◌, ◌/◌, ◌%◌, ◌^◌, ◌<◌, ◌≤◌, Bool, true, false, ◌||◌, not, ◌≢◌, ◌==◌, List, [], ◌∷◌, ◌++◌, length, nat_lt, take, get_or, refl, sym, ap, subst, ◌∙◌, arith, lit<}
+use Rattle.std.proofs.Common.{◌≡◌, ℕ, suc, zero, ◌+◌, ◌*◌, ◌^◌, ◌<◌, ◌≤◌, Bool, true, false, ◌||◌, not, ◌≢◌, ◌==◌, List, [], length, nat_lt, take, get_or, refl, sym, subst, arith, lit<}
 use Rattle.std.proofs.lemmas.Nat.{pow-add}
 use Rattle.std.proofs.lemmas.List.{length-take-le}
 use Rattle.std.proofs.lemmas.Bool.{lt-ltb, ne_eqb}
-use Rattle.ioc_double.specs.declared.groups.Leading.{Leading}
 use Rattle.ioc_double.specs.Leading.{IsLeading}
 use Rattle.ioc_double.specs.Groups.{value, AreGroups}
 use Rattle.ioc_double.proofs.Values.{value_front, nine_more}

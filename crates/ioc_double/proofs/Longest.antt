@@ -1,6 +1,6 @@
 -- The longest decimal number at the front of a text, byte by byte.
-use Rattle.std.proofs.Common.{◌≡◌, ℕ, suc, zero, ◌+◌, ◌-◌, ◌<◌, ◌≤◌, ◌==◌, Bool, true, false, cond, ◌&&◌, ◌||◌, List, [], ◌∷◌, ◌++◌, length, get_or, take, drop, inl, inr, refl, sym, ap, subst, ◌∙◌, arith, lit≤, append_assoc, add-one}
-use Rattle.std.proofs.lemmas.List.{take_more, append-nil, take-append-drop, take_all}
+use Rattle.std.proofs.Common.{◌≡◌, ℕ, suc, zero, ◌+◌, ◌-◌, ◌<◌, ◌≤◌, ◌==◌, Bool, true, false, cond, ◌&&◌, ◌||◌, List, [], ◌∷◌, ◌++◌, length, get_or, take, drop, inl, inr, refl, sym, ap, ◌∙◌, arith, lit≤, append_assoc, add-one}
+use Rattle.std.proofs.lemmas.List.{take_more, append-nil}
 use Rattle.std.proofs.Math.Seq.{take-add, drop-cons}
 use Rattle.std.proofs.Math.Nat.{eq-or-lt_of_le}
 use Rattle.std.specs.Char.{is_ascii_digit}
@@ -41,8 +41,8 @@ unfolding longest_prefix
 stays test bytes i zero h none = let e : 0 ≡ i = omega arith in ap (λ (k : ℕ). longest_prefix test k bytes) e
 stays test bytes i (suc n) h none =
     elim (eq-or-lt_of_le h) [
-      inl e ↦ ap (λ (k : ℕ). longest_prefix test k bytes) (sym e)
-    | inr l ↦ rw (none (suc n) l (omega arith)) (stays test bytes i n (omega arith) (λ k a b. none k a (omega arith)))
+      | inl e ↦ ap (λ (k : ℕ). longest_prefix test k bytes) (sym e)
+      | inr l ↦ rw (none (suc n) l (omega arith)) (stays test bytes i n (omega arith) (λ k a b. none k a (omega arith)))
     ]
 
 -- Bytes that have been read up to some place.

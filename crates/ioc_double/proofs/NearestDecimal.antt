@@ -1,16 +1,15 @@
 -- The nearest decimal, from the exact decimal's leading digits.
-use Rattle.std.proofs.Common.{◌≡◌, ◌≢◌, ◌⊎◌, ℕ, suc, zero, ◌+◌, ◌-◌, ◌*◌, ◌^◌, ◌<◌, ◌≤◌, Bool, true, false, not, T, ℤ, pos, negsuc, ◌-ℤ◌, nat_abs, inl, inr, refl, sym, ap, subst, ◌∙◌, arith, lit<}
+use Rattle.std.proofs.Common.{◌≡◌, ◌≢◌, ◌⊎◌, ℕ, suc, zero, ◌+◌, ◌-◌, ◌*◌, ◌^◌, ◌<◌, ◌≤◌, Bool, true, false, ℤ, pos, negsuc, ◌-ℤ◌, inl, inr, refl, sym, ap, ◌∙◌, arith, lit<}
 use Rattle.std.proofs.lemmas.Int.{ints}
 use Rattle.std.proofs.lemmas.Bool.{ne_eqb, leb-true, leb-false}
 use Rattle.std.proofs.lemmas.Nat.{pow-add}
-use Rattle.std.proofs.Math.Nat.{pow-le-pow_right, one-le-pow, pow-succ', mul-pos, mul-le-mul_right, le_trans, lt_of_lt_of_le, lt_of_le_of_lt}
+use Rattle.std.proofs.Math.Nat.{pow-le-pow_right, one-le-pow, pow-succ', mul-pos, mul-le-mul_right, le_trans, lt_of_le_of_lt}
 use Rattle.std.specs.Float.Ieee.Nearest.{closest, closest_mono}
 use Rattle.ioc_double.specs.declared.exact.Exact.{Exact}
 use Rattle.ioc_double.specs.declared.groups.Leading.{Leading}
-use Rattle.ioc_double.specs.declared.scientific.Scientific.{Scientific}
 use Rattle.ioc_double.specs.Leading.{IsLeading}
 use Rattle.ioc_double.specs.Exact.{IsExact}
-use Rattle.ioc_double.specs.Nearest.{IsExponent, exponent_of, significand, carried_over, nearest_decimal}
+use Rattle.ioc_double.specs.Nearest.{exponent_of, significand, carried_over, nearest_decimal}
 use lib.Dec.{leb}
 use Rattle.ioc_double.proofs.Closest.{closest_down}
 use Rattle.ioc_double.proofs.Exponents.{exponent_is, exponent_large, exponent_small, significand_large, significand_small}

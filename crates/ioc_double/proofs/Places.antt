@@ -1,13 +1,11 @@
 -- A number between 10 ^ 7 and 10 ^ 16, rounded at a place behind its point.
-use Rattle.std.proofs.Common.{◌≡◌, ℕ, suc, zero, ◌+◌, ◌-◌, ◌*◌, ◌/◌, ◌^◌, ◌<◌, ◌≤◌, min, length, refl, sym, ap, subst, ◌∙◌, arith, lit<}
+use Rattle.std.proofs.Common.{◌≡◌, ℕ, suc, ◌+◌, ◌-◌, ◌*◌, ◌/◌, ◌^◌, ◌<◌, ◌≤◌, length, ap, subst, ◌∙◌, arith, lit<}
 use Rattle.std.proofs.lemmas.Nat.{pow-add}
 use Rattle.std.proofs.lemmas.Fmt.{length-decimal-le}
-use Rattle.std.proofs.Math.Nat.{pow-le-pow_right, one-le-pow, pow-succ', mul-le-mul_left, mul-le-mul_right, mul-lt-mul_of_pos_right, le_of_mul-le-mul_right, lt_of_mul-lt-mul_right, le_trans, lt_of_le_of_lt, lt_of_lt_of_le, div-le_of_le-mul}
+use Rattle.std.proofs.Math.Nat.{pow-le-pow_right, one-le-pow, pow-succ', mul-le-mul_left, mul-le-mul_right, mul-lt-mul_of_pos_right, le_of_mul-le-mul_right, lt_of_mul-lt-mul_right, le_trans, lt_of_le_of_lt, div-le_of_le-mul}
 use Rattle.std.specs.Fmt.{decimal}
 use Rattle.std.specs.Float.Ieee.Nearest.{closest, closest_same, closest_mono}
 use Rattle.ioc_double.specs.declared.exact.Exact.{Exact}
-use Rattle.ioc_double.specs.declared.groups.Leading.{Leading}
-use Rattle.ioc_double.specs.Leading.{IsLeading}
 use Rattle.ioc_double.specs.Exact.{IsExact}
 use Rattle.ioc_double.proofs.Closest.{closest_down}
 

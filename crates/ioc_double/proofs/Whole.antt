@@ -1,8 +1,8 @@
 -- A double is cut to 64 bits exactly where it is between -2^63 and 2^63.
-use Rattle.std.proofs.Common.{◌≡◌, ◌^◌, ◌*◌, ◌/◌, ◌%◌, ◌+◌, ◌-◌, ◌<◌, ◌≤◌, ◌&&◌, ◌||◌, ◌≢◌, ℕ, suc, zero, ℤ, pos, negsuc, neg_ℤ, T, Bool, true, false, Option, Some, None, refl, sym, ap, subst, ◌∙◌, arith, min, lit<}
+use Rattle.std.proofs.Common.{◌≡◌, ◌^◌, ◌*◌, ◌/◌, ◌%◌, ◌+◌, ◌-◌, ◌<◌, ◌≤◌, ◌&&◌, ◌||◌, ◌≢◌, ℕ, suc, zero, ℤ, pos, negsuc, neg_ℤ, T, Bool, true, false, Some, None, refl, arith, min, lit<}
 use Rattle.std.proofs.lemmas.Bool.{lt-ltb, le-ltb, ltb-true, ltb-false, eqb-true, eqb-false}
-use Rattle.std.proofs.Math.Nat.{min-eq_left, div-one, div-lt_iff_lt-mul, le-div_iff_mul-le, div-le_of_le-mul, mul-le-mul_left}
-use Rattle.std.specs.Float.Ieee.{Float, nan, inf, fin, binary64, fits, of_int, round, size, span, climb, units, odd, to_signed, le, lt, eq, neg, up, down, level, below}
+use Rattle.std.proofs.Math.Nat.{min-eq_left, div-one, div-lt_iff_lt-mul, le-div_iff_mul-le, div-le_of_le-mul}
+use Rattle.std.specs.Float.Ieee.{Float, nan, inf, fin, binary64, fits, of_int, round, size, span, climb, units, odd, to_signed, le, lt, eq, neg, up, down}
 use Rattle.std.specs.Float.Ieee.Fits.{down_pos, and_l, and_r}
 use Rattle.ioc_double.specs.Whole.{whole_of, within_i64}
 use lib.Count.{count_trailing_zeros}

@@ -1,6 +1,5 @@
 -- Unsigned decimal numbers at the front of a text.
 use Rattle.std.specs.Prelude.{ℕ, zero, suc, Bool, List, take, length, if◌then◌else◌}
-use Rattle.std.specs.Option.{option_map}
 use Rattle.std.specs.Float.Parse.{completes_number}
 
 -- Whether the text is an unsigned decimal number: digits with at most one point and at least one digit, and then perhaps `e` or `E`, a sign or

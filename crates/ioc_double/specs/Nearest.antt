@@ -1,5 +1,5 @@
 -- The decimals that are nearest to a fraction.
-use Rattle.std.specs.Prelude.{◌≡◌, ℕ, zero, suc, ◌+◌, ◌*◌, ◌^◌, ◌<◌, ◌≤◌, ◌==◌, Bool, nat_lt, nat_le, ℤ, pos, negsuc, ◌+ℤ◌, if◌then◌else◌}
+use Rattle.std.specs.Prelude.{ℕ, zero, suc, ◌+◌, ◌*◌, ◌^◌, ◌<◌, ◌≤◌, ◌==◌, Bool, nat_lt, nat_le, ℤ, pos, negsuc, ◌+ℤ◌, if◌then◌else◌}
 use Rattle.std.specs.Float.Ieee.Nearest.{closest}
 use Rattle.ioc_double.specs.declared.scientific.Scientific.{Scientific}
 

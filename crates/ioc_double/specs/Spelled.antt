@@ -1,5 +1,5 @@
 -- The double that a text spells.
-use Rattle.std.specs.Prelude.{ℕ, ◌^◌, Bool, ◌&&◌, not, List, [], ◌∷◌, reverse, ℤ, pos, neg_ℤ, Option, Some, None, option_map, ◌==◌, ◌||◌, codes, nat_lt, slice_index, if◌then◌else◌}
+use Rattle.std.specs.Prelude.{ℕ, Bool, ◌&&◌, not, List, [], ◌∷◌, reverse, pos, neg_ℤ, Option, Some, None, option_map, ◌==◌, ◌||◌, codes, nat_lt, slice_index, if◌then◌else◌}
 use Rattle.std.specs.Char.{digit_value}
 use Rattle.std.specs.List.{list_all}
 use Rattle.std.specs.Option.{option_and_then}

@@ -1,5 +1,5 @@
 -- The text of a double with d digits.
-use Rattle.std.specs.Prelude.{ℕ, ◌+◌, ◌*◌, ◌^◌, Bool, false, ◌&&◌, List, [], ◌∷◌, ◌++◌, nat_le, min, is_nan, codes, if◌then◌else◌}
+use Rattle.std.specs.Prelude.{ℕ, ◌+◌, ◌*◌, ◌^◌, false, ◌&&◌, List, [], ◌∷◌, ◌++◌, nat_le, min, is_nan, codes, if◌then◌else◌}
 use Rattle.std.specs.Float.{float_with_sign}
 use Rattle.std.specs.Float.Ieee.{Float, nan, inf, fin, lt, le, up, down}
 use Rattle.std.specs.Float.Ieee.Nearest.{closest}

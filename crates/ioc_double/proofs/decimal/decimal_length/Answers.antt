@@ -1,6 +1,6 @@
-use Rattle.std.proofs.Common.{◌≡◌, ◌≤◌, ℕ, ◌+◌, ap, sym, subst, ◌∙◌, arith, lit≤}
+use Rattle.std.proofs.Common.{◌+◌, ap, sym, ◌∙◌, arith, lit≤}
 use Rattle.ioc_double.specs.Reading.{place, place_after}
-use Rattle.ioc_double.proofs.Longest.{HasRead, read_none, read_number, read_part, read_lost, as_read}
+use Rattle.ioc_double.proofs.Longest.{read_none, read_number, read_part, read_lost, as_read}
 use Rattle.ioc_double.proofs.decimal.decimal_length.Goals as goal
 use Rattle.ioc_double.proofs.decimal.decimal_length.Goals.{then-is_number, else-is_number}
 
@@ -17,16 +17,16 @@ loop-index-preserved c =
     let bytes = c.args.bytes.now in
     let i = c.loop-index.index in
     elim c.if-is_number.branch [
-      then-is_number w ↦ record {
+      | then-is_number w ↦ record {
         read = as_read bytes (i + 1) _ _ _ _ w.reading-is w.longest-is
             (read_number bytes i (place c.loop-index.reading) c.loop-index.longest (place c.in-Some.next) c.loop-index-test.true c.loop-index.invariant.read c.in-Some.ensures
-                (sym c.is_number.ensures ∙ w.if-is_number.true));
+            (sym c.is_number.ensures ∙ w.if-is_number.true));
         within = let e = w.longest-is in omega arith;
       }
-    | else-is_number w ↦ record {
+      | else-is_number w ↦ record {
         read = as_read bytes (i + 1) _ _ _ _ w.reading-is w.longest-is
             (read_part bytes i (place c.loop-index.reading) c.loop-index.longest (place c.in-Some.next) c.loop-index-test.true c.loop-index.invariant.read c.in-Some.ensures
-                (sym c.is_number.ensures ∙ w.if-is_number.false));
+            (sym c.is_number.ensures ∙ w.if-is_number.false));
         within = let e = w.longest-is in let h = c.loop-index.invariant.within in omega arith;
       }
     ]

@@ -1,4 +1,4 @@
-use Rattle.std.proofs.Common.{◌≡◌, ◌≢◌, ℕ, ◌-◌, ◌≤◌, ◌<◌, ◌/◌, ◌%◌, ◌^◌, T, sym, subst, arith}
+use Rattle.std.proofs.Common.{◌≢◌, ℕ, ◌-◌, ◌≤◌, ◌/◌, ◌%◌, ◌^◌, T, sym, subst, arith}
 use Rattle.ioc_double.proofs.Fields.{small_size, usual_size}
 use Rattle.ioc_double.proofs.exact.binary_of.Goals as goal
 

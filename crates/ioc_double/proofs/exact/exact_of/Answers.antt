@@ -1,7 +1,6 @@
-use Rattle.std.proofs.Common.{◌≡◌, ℕ, ◌-◌, ◌*◌, ◌^◌, ◌≤◌, sym, subst, arith, lit<, List}
+use Rattle.std.proofs.Common.{◌-◌, ◌^◌, ◌≤◌, arith, lit<}
 use Rattle.std.proofs.Math.Nat.{pow-le-pow_right}
 use Rattle.ioc_double.specs.Groups.{value}
-use Rattle.ioc_double.specs.Leading.{IsLeading}
 use Rattle.ioc_double.proofs.Decimals.{small_exact, large_exact, fits_groups}
 use Rattle.ioc_double.proofs.exact.exact_of.Goals as goal
 use Rattle.ioc_double.proofs.exact.exact_of.Goals.{then-size-lt1074, else-size-lt1074}

@@ -1,7 +1,7 @@
-use Rattle.std.proofs.Common.{◌≡◌, ℕ, ◌+◌, ◌-◌, ◌*◌, ◌≤◌, List, length, take, arith, sym, ap, subst, ◌∙◌}
+use Rattle.std.proofs.Common.{ℕ, ◌+◌, ◌-◌, ◌*◌, ◌≤◌, List, length, take, arith}
 use Rattle.std.proofs.lemmas.List.{length-take-le}
 use Rattle.ioc_double.proofs.Values.{groups_take}
-use Rattle.ioc_double.proofs.LeadingOf.{HasLed, led_first, led_more, led_dropped_more, led_dropped_first, led_all}
+use Rattle.ioc_double.proofs.LeadingOf.{led_more, led_dropped_more, led_dropped_first}
 use Rattle.ioc_double.proofs.groups.leading_digits.Goals as goal
 
 shorter : (xs : List ℕ) (d : ℕ) → 1 ≤ length xs → d + 9 * length xs ≤ 810 → d + 9 + 9 * length (take (length xs - 1) xs) ≤ 810

@@ -1,4 +1,4 @@
-use Rattle.std.proofs.Common.{◌≡◌, ℕ, ◌+◌, ◌*◌, ◌^◌, ◌<◌, ◌≤◌, length}
+use Rattle.std.proofs.Common.{◌+◌, ◌*◌, ◌≤◌, length}
 use Rattle.ioc_double.specs.Groups.{value, AreGroups}
 use Rattle.ioc_double.proofs.LeadingOf.{HasLed}
 use Rattle.ioc_double.proofs.groups.leading_digits.Given as goal

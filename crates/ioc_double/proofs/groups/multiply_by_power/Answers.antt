@@ -1,5 +1,4 @@
-use Rattle.std.proofs.Common.{◌≡◌, ℕ, ◌+◌, ◌*◌, ◌/◌, ◌%◌, ◌^◌, ◌<◌, ◌≤◌, arith, lit<, length}
-use Rattle.std.proofs.Math.Nat.{lt_of_lt_of_le}
+use Rattle.std.proofs.Common.{◌*◌, ◌%◌, arith}
 use Rattle.ioc_double.specs.Groups.{value}
 use Rattle.ioc_double.proofs.Powers.{small_power, step_fits, step_value}
 use Rattle.ioc_double.proofs.groups.multiply_by_power.Goals as goal

@@ -1,5 +1,4 @@
-use Rattle.std.proofs.Common.{◌≡◌, ℕ, ◌+◌, ◌*◌, ◌%◌, ◌^◌, ◌<◌, ◌≤◌, ◌≢◌, length, get_or, set, arith, sym, ap, ◌∙◌, get_or-set_other, get_or-set_same}
-use Rattle.ioc_double.specs.Groups.{AreGroups}
+use Rattle.std.proofs.Common.{ℕ, ◌+◌, ◌*◌, arith, ap, ◌∙◌, get_or-set_other}
 use Rattle.ioc_double.proofs.Values.{product_next, carry_small, groups_set}
 use Rattle.ioc_double.proofs.groups.multiply_groups.Goals as goal
 

@@ -1,4 +1,4 @@
-use Rattle.std.proofs.Common.{◌≡◌, ℕ, ◌+◌, ◌*◌, ◌^◌, ◌<◌, ◌≤◌, get_or, take}
+use Rattle.std.proofs.Common.{◌≡◌, ℕ, ◌+◌, ◌*◌, ◌^◌, ◌≤◌, get_or, take}
 use Rattle.ioc_double.specs.Groups.{value, AreGroups}
 use Rattle.ioc_double.proofs.groups.multiply_groups.Given as goal
 

@@ -1,4 +1,4 @@
-use Rattle.std.proofs.Common.{rules, ◌≡◌, ap, true, false, T, subst, sym, ◌∙◌, Some, to_z, of_z, w64, pos, ℤ}
+use Rattle.std.proofs.Common.{rules, ◌≡◌, ap, true, false, T, subst, sym, ◌∙◌, Some, w64, pos, ℤ}
 use Rattle.std.proofs.lemmas.Int.{to_z-of_z}
 use Rattle.std.specs.Float.Ieee.{Float, le, lt, neg, fin}
 use Rattle.ioc_double.proofs.Whole.{lowest_is, highest_is, cut_there, cut_below, cut_above}

@@ -1,4 +1,4 @@
-use Rattle.std.proofs.Common.{arith, lit<}
+use Rattle.std.proofs.Common.{lit<}
 use Rattle.ioc_double.proofs.LastDigits.{digits_none, digits_next, digits_room}
 use Rattle.ioc_double.proofs.pieces.+push_digits.Goals as goal
 

@@ -1,4 +1,4 @@
-use Rattle.std.proofs.Common.{◌≡◌, ◌-◌, length, arith}
+use Rattle.std.proofs.Common.{arith}
 use Rattle.ioc_double.proofs.LastDigits.{padding, padding_room, padding_length}
 use Rattle.ioc_double.proofs.pieces.pad_front.Goals as goal
 

@@ -1,4 +1,4 @@
-use Rattle.std.proofs.Common.{◌≡◌, ℕ, ◌+◌, ◌-◌, ◌*◌, ◌^◌, ◌<◌, ◌≤◌, arith, subst, sym, ap, ◌∙◌}
+use Rattle.std.proofs.Common.{◌≡◌, ℕ, ◌*◌, ◌^◌, ◌≤◌, arith, subst, sym}
 use Rattle.std.specs.Float.Ieee.Nearest.{closest}
 use Rattle.std.specs.Float.Ieee.Positive.{num, den, den_pos}
 use Rattle.ioc_double.proofs.Places.{far, near, with_places, places_bound, places_fit}

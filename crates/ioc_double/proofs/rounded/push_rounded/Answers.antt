@@ -1,4 +1,4 @@
-use Rattle.std.proofs.Common.{◌≡◌, ℕ, ◌+◌, ◌-◌, ◌*◌, ◌/◌, ◌^◌, ◌<◌, ◌≤◌, ◌++◌, List, length, min, arith, subst, sym, ap, ◌∙◌, length-append}
+use Rattle.std.proofs.Common.{◌≡◌, ℕ, ◌+◌, ◌/◌, ◌^◌, ◌≤◌, ◌++◌, List, length, arith, ap, ◌∙◌, length-append}
 use Rattle.std.specs.Fmt.{decimal}
 use Rattle.ioc_double.proofs.Places.{whole_fits, ten_positive}
 use Rattle.ioc_double.proofs.rounded.push_rounded.Goals as goal

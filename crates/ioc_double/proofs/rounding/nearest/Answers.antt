@@ -1,4 +1,4 @@
-use Rattle.std.proofs.Common.{◌≡◌, ℕ, ◌+◌, ◌*◌, ◌/◌, ◌%◌, ◌^◌, ◌<◌, ◌≤◌, true, false, arith, sym, ap, subst, ◌∙◌, lit<, Fits, suc, zero, rules}
+use Rattle.std.proofs.Common.{◌≡◌, ℕ, ◌+◌, ◌*◌, ◌/◌, ◌%◌, ◌^◌, ◌<◌, ◌≤◌, false, arith, sym, ◌∙◌, lit<, Fits, suc, zero, rules}
 use mir.Syntax.{w128}
 use lib.Dec.{ltb}
 use Rattle.std.proofs.lemmas.Bool.{ltb-false}

@@ -1,4 +1,4 @@
-use Rattle.std.proofs.Common.{◌≡◌, ℕ, ◌+◌, ◌^◌, ◌<◌, ◌≤◌, length, arith, lit<}
+use Rattle.std.proofs.Common.{arith, lit<}
 use Rattle.ioc_double.proofs.LastDigits.{first_room, fraction_room}
 use Rattle.ioc_double.proofs.Places.{ten_positive}
 use Rattle.ioc_double.proofs.scientific.push_scientific.Goals as goal

@@ -1,4 +1,4 @@
-use Rattle.std.proofs.Common.{◌≡◌, ◌++◌, List, ℕ, sym, ap, ◌∙◌}
+use Rattle.std.proofs.Common.{◌++◌, List, ℕ, sym, ap, ◌∙◌}
 use Rattle.ioc_double.proofs.Layouts.{wide_nan, wide_infinite, wide_finite, is_finite}
 use Rattle.ioc_double.proofs.text.push_wide.Goals as goal
 

@@ -1,8 +1,7 @@
-use Rattle.std.proofs.Common.{◌≡◌, ◌≤◌, ℕ, sym, ap, subst, ◌∙◌, arith}
+use Rattle.std.proofs.Common.{◌≡◌, ℕ, sym, subst}
 use Rattle.std.specs.Float.Ieee.{Float}
 use Rattle.ioc_double.specs.Text.{layout_of, size_of}
-use Rattle.ioc_double.specs.declared.text.Layout.{Layout}
-use Rattle.ioc_double.specs.declared.text.Layout.TheVariants.{Fixed, Rounded}
+use Rattle.ioc_double.specs.declared.text.Layout.TheVariants.{Rounded}
 use Rattle.ioc_double.proofs.Layouts.{fixed_digits, rounded_between, IsBetween}
 use Rattle.ioc_double.proofs.text.text_of_double.Goals as goal
 
