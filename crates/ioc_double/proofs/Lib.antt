@@ -10,6 +10,7 @@ pub mod Numerals
 pub mod Places
 pub mod Powers
 pub mod Closest
+pub mod ReadBack
 pub mod SameBits
 pub mod Values
 pub mod Whole

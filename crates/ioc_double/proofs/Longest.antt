@@ -23,7 +23,7 @@ lost_step c = go (is_ascii_digit c) (c == 46) (c == 101 || c == 69) (c == 43 || 
     go false false false false = refl
 
 -- What is no number stays none.
-lost : (cs : List ℕ) → completes_number 7 cs ≡ false
+pub lost : (cs : List ℕ) → completes_number 7 cs ≡ false
 lost [] = refl
 lost (c ∷ cs) = ap (λ (s : ℕ). completes_number s cs) (lost_step c) ∙ lost cs
 

@@ -12,11 +12,13 @@ mod pieces;
 mod rounded;
 mod rounding;
 pub mod scientific;
+pub mod shortest;
 pub mod spelled;
 pub mod text;
 
 pub use decimal::decimal_length;
 pub use digits::Digits;
 pub use double::Double;
+pub use shortest::{ExactText, exact_text};
 pub use spelled::double_of_text;
 pub use text::{DoubleText, text_of_double};
