@@ -5,7 +5,7 @@ use Rattle.std.specs.Float.{float_is_finite, float_is_infinite, float_with_sign}
 use Rattle.std.specs.Float.Ieee.{Float, nan, inf, fin, of_int, round, size, span, climb, units, odd, lt, le, eq, is_nan, up, down}
 use Rattle.std.specs.Float.Ieee.Positive.{num, den}
 use Rattle.ioc_double.specs.declared.text.Layout.TheVariants.{Fixed, Rounded, NotANumber, Padded}
-use Rattle.ioc_double.specs.Fixed.{whole_double}
+use Rattle.ioc_double.specs.Size.{whole_double, IsUpTo}
 use Rattle.ioc_double.specs.Nearest.{nearest_decimal}
 use Rattle.ioc_double.specs.Pieces.{scientific_text}
 use Rattle.ioc_double.specs.Text.{size_of, layout_of, wide_text}
@@ -79,6 +79,23 @@ between (fin s m e) h k = (
   let z = above (m * up e * 1) (78125 * 2 ^ 7 * down e) true h refl in omega arith,
   let z = at_most (m * up e * 1) (152587890625 * 2 ^ 16 * down e) true k in omega arith,
 )
+
+both_second : (a b : Bool) → (a && b) ≡ true → b ≡ true
+both_second true b h = h
+both_second false b h = absurd cc
+
+up_to : (x : Float) → le (float_with_sign false x) (fin false 78125 (pos 7)) ≡ true → IsUpTo (10 ^ 7) (float_with_sign false x)
+unfolding le lt eq float_with_sign
+up_to nan h = absurd cc
+up_to (inf s) h = absurd cc
+up_to (fin s m e) h = (refl, let z = at_most (m * up e * 1) (78125 * 2 ^ 7 * down e) true h in omega arith)
+
+pub fixed_up_to : (x : Float) (d : ℕ) → Fixed ≡ layout_of x d → IsUpTo (10 ^ 7) (size_of x)
+unfolding layout_of
+fixed_up_to x d h =
+    up_to x
+    (subst (λ (y : Float). le (size_of x) y ≡ true) ten_million
+    (both_second (nat_le d 8) (le (size_of x) (whole_double (10 ^ 7))) (fixed_case _ _ _ h)))
 
 pub rounded_between : (x : Float) (d : ℕ) → Rounded ≡ layout_of x d → IsBetween (size_of x)
 rounded_between x d h =

@@ -12,5 +12,6 @@ pub mod Powers
 pub mod Closest
 pub mod ReadBack
 pub mod SameBits
+pub mod UpTo
 pub mod Values
 pub mod Whole

@@ -1,18 +1,17 @@
 -- Texts of decimal numbers spell what they are read as.
-use Rattle.std.proofs.Common.{◌≡◌, ◌≢◌, ℕ, suc, zero, ◌+◌, ◌-◌, ◌<◌, ◌≤◌, ◌==◌, Bool, true, false, cond, ◌&&◌, ◌||◌, not, List, [], ◌∷◌, ◌++◌, length, get_or, take, drop, reverse, Option, Some, None, is_some, T, codes, refl, sym, ap, subst, ◌∙◌, arith, lit<, nat_lt, slice_index, pos}
+use Rattle.std.proofs.Common.{◌≡◌, ◌≢◌, ℕ, ◌+◌, ◌<◌, ◌≤◌, ◌==◌, Bool, true, false, cond, ◌&&◌, ◌||◌, List, [], ◌∷◌, ◌++◌, length, drop, reverse, Some, is_some, codes, refl, sym, ap, subst, ◌∙◌, arith, lit<, nat_lt, slice_index, pos}
 use Rattle.std.proofs.lemmas.Bool.{ne_eqb, eqb-true}
 use Rattle.std.proofs.lemmas.List.{reverse-append, reverse-reverse}
 use Rattle.std.proofs.lemmas.Str.Parse.{digit_from_value}
 use Rattle.std.proofs.lemmas.Float.Parse.{is_some-parse_float, parse_float_on_literals}
-use Rattle.std.specs.Char.{is_ascii_digit, to_ascii_lowercase}
+use Rattle.std.specs.Char.{to_ascii_lowercase}
 use Rattle.std.specs.Float.{float_is_infinite, float_is_finite}
 use Rattle.std.specs.Float.Ieee.{Float, nan, inf, fin, binary64, is_nan, lt, of_int, round, size, span, climb, units, odd}
-use Rattle.ioc_double.specs.Fixed.{whole_double}
-use Rattle.std.specs.Float.Numeral.{Parts, text_of}
+use Rattle.ioc_double.specs.Size.{whole_double}
 use Rattle.std.specs.Float.Parse.{float_scan_step, completes_number, parse_float, without_sign, is_float_text, is_infinity_text, is_nan_text}
 use Rattle.std.specs.Fmt.{sign_text}
 use Rattle.std.specs.Str.Parse.{AllDigits}
-use Rattle.ryu.specs.Plain.{IsPlain, IsPlainNumber}
+use Rattle.ryu.specs.Plain.{IsPlainNumber}
 use Rattle.ioc_double.specs.Spelled.{skip_front, without_spaces, hexadecimal_double, decimal_double, signed_double, double_of_text}
 use Rattle.ioc_double.proofs.Longest.{lost}
 

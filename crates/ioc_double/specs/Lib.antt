@@ -8,6 +8,7 @@ pub mod Pieces
 pub mod Reading
 pub mod Same
 pub mod SameLaws
+pub mod Size
 pub mod Spelled
 pub mod Text
 pub mod Whole

@@ -6,7 +6,8 @@ use Rattle.std.specs.Float.Ieee.Nearest.{closest}
 use Rattle.std.specs.Float.Ieee.Positive.{num, den}
 use Rattle.ioc_double.specs.declared.text.Layout.{Layout}
 use Rattle.ioc_double.specs.declared.text.Layout.TheVariants.{Fixed, Rounded, NotANumber, Padded}
-use Rattle.ioc_double.specs.Fixed.{whole_double, fixed_text}
+use Rattle.ioc_double.specs.Fixed.{fixed_text}
+use Rattle.ioc_double.specs.Size.{whole_double}
 use Rattle.ioc_double.specs.Nearest.{nearest_decimal}
 use Rattle.ioc_double.specs.Pieces.{with_point, scientific_text, padded}
 

@@ -4,10 +4,10 @@ use Rattle.std.proofs.Math.Nat.{lt_of_le_of_lt}
 use Rattle.std.specs.Fmt.{decimal}
 use Rattle.ioc_double.proofs.fixed.push_fixed.Goals as goal
 
-short : (n : ℕ) → n ≤ 2 ^ 32 → length (decimal n) ≤ 10
+short : (n : ℕ) → n ≤ 10 ^ 7 + 1 → length (decimal n) ≤ 10
 short n h = length-decimal-le 10 n (lit< tt) (lt_of_le_of_lt h (lit< tt)) (lt_of_le_of_lt h (lit< tt))
 
-room : (xs ys : List ℕ) (n d : ℕ) → ys ≡ xs ++ decimal n → length xs ≤ 1 → n ≤ 2 ^ 32 → d ≤ 8 → length ys + d + 1 ≤ 23
+room : (xs ys : List ℕ) (n d : ℕ) → ys ≡ xs ++ decimal n → length xs ≤ 1 → n ≤ 10 ^ 7 + 1 → d ≤ 8 → length ys + d + 1 ≤ 23
 room xs ys n d e h i few = let s = short n i in rw (e, length-append xs (decimal n)) (omega arith)
 
 pub push_decimal-requires : goal.push_decimal-requires

@@ -1,4 +1,4 @@
-use Rattle.std.proofs.Common.{◌≡◌, sym, ap, subst, ◌∙◌, true, false}
+use Rattle.std.proofs.Common.{◌≡◌, subst, ◌∙◌, true, false}
 use Rattle.std.specs.Float.Ieee.{Float, lt}
 use Rattle.ioc_double.proofs.ReadBack.{finite_back, nan_back, inf_back, minus_inf_back}
 use Rattle.ioc_double.proofs.shortest.exact_text.Goals as goal

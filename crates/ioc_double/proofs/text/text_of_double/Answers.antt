@@ -1,8 +1,9 @@
-use Rattle.std.proofs.Common.{◌≡◌, ℕ, sym, subst}
+use Rattle.std.proofs.Common.{◌^◌, ◌≡◌, ℕ, sym, subst}
 use Rattle.std.specs.Float.Ieee.{Float}
+use Rattle.ioc_double.specs.Size.{IsUpTo}
 use Rattle.ioc_double.specs.Text.{layout_of, size_of}
 use Rattle.ioc_double.specs.declared.text.Layout.TheVariants.{Rounded}
-use Rattle.ioc_double.proofs.Layouts.{fixed_digits, rounded_between, IsBetween}
+use Rattle.ioc_double.proofs.Layouts.{fixed_digits, fixed_up_to, rounded_between, IsBetween}
 use Rattle.ioc_double.proofs.text.text_of_double.Goals as goal
 
 size_between : (x y : Float) (d : ℕ) → y ≡ size_of x → Rounded ≡ layout_of x d → IsBetween y
@@ -19,3 +20,7 @@ push_rounded-requires-clause-large c = (size_between c.number-number.result c.ab
 
 pub push_rounded-requires-clause-small : goal.push_rounded-requires-clause-small
 push_rounded-requires-clause-small c = (size_between c.number-number.result c.abs-size.result c.count-count.result c.abs-size.ensures.value c.in-Rounded.ensures).2
+
+pub push_fixed-requires-clause-size : goal.push_fixed-requires-clause-size
+push_fixed-requires-clause-size c =
+    subst (λ (z : Float). IsUpTo (10 ^ 7) z) (sym c.abs-size.ensures.value) (fixed_up_to c.number-number.result c.count-count.result c.in-Fixed.ensures)
