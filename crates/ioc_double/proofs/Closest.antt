@@ -1,13 +1,14 @@
 -- The whole number nearest to a fraction, from a quotient and a rest.
 use Prim.Native.Nat.{compare, Ordering}
-use Rattle.std.proofs.Common.{◌≡◌, ℕ, suc, zero, ◌+◌, ◌*◌, ◌/◌, ◌%◌, ◌^◌, ◌<◌, ◌≤◌, ◌≢◌, true, false, not, T, refl, sym, ap, subst, ◌∙◌, arith, add-one}
+use Rattle.std.proofs.Common.{◌≡◌, ℕ, suc, zero, ◌+◌, ◌*◌, ◌/◌, ◌%◌, ◌^◌, ◌<◌, ◌≤◌, ◌≢◌, true, false, not, T, inl, inr, refl, sym, ap, subst, ◌∙◌, arith, add-one}
 use Rattle.std.proofs.lemmas.Nat.{div-mul-add, mod-mul-add, pow-add}
 use Rattle.std.proofs.lemmas.Bool.{ltb-true, ltb-false}
-use Rattle.std.proofs.Math.Nat.{mul-le-mul_right, pow-succ'}
+use Rattle.std.proofs.Math.Nat.{mul-le-mul_right, pow-succ', mod-add-div'}
 use Rattle.ioc_double.specs.declared.groups.Leading.{Leading}
 use Rattle.ioc_double.specs.Leading.{IsLeading}
 use Rattle.std.specs.Float.Ieee.Nearest.{closest}
 use lib.Dec.{is_le, compare_is_eq, leb→le, nleb→lt, eqb→eq, eqb, eqb_refl}
+use Rattle.ioc_double.specs.Nearest.{IsNearest}
 use lib.Ieee.{nearest}
 
 abbrev Says : Ordering → ℕ → ℕ → Type 0
@@ -106,3 +107,29 @@ module _ (l : Leading) (n p q r : ℕ) (leads : IsLeading l n) (positive : 0 < p
       let e = even in
       sym (closest_tie n (10 ^ (l.dropped + p)) q (r * 10 ^ l.dropped + leads.rest) whole (omega arith)
       (rw (pow-add 10 l.dropped p, z) (at_half (10 ^ l.dropped) (10 ^ p) r (omega arith))))
+
+-- The closest whole number is the nearest one.
+down_nearest : (a b q r : ℕ) → 0 < b → a ≡ q * b + r → r * 2 < b → IsNearest q a b
+down_nearest a b q r p e h = record { below = omega arith; above = omega arith; even = λ t. absurd (elim t [ inl x ↦ omega arith | inr x ↦ omega arith ]) }
+
+up_nearest : (a b q r : ℕ) → r < b → a ≡ q * b + r → b < r * 2 → IsNearest (q + 1) a b
+up_nearest a b q r p e h = record { below = omega arith; above = omega arith; even = λ t. absurd (elim t [ inl x ↦ omega arith | inr x ↦ omega arith ]) }
+
+tie_even : (a b q r : ℕ) → 0 < b → a ≡ q * b + r → r * 2 ≡ b → q % 2 ≡ 0 → IsNearest q a b
+tie_even a b q r p e h z = record { below = omega arith; above = omega arith; even = λ t. z }
+
+tie_odd : (a b q r : ℕ) → 0 < b → a ≡ q * b + r → r * 2 ≡ b → q % 2 ≡ 1 → IsNearest (q + 1) a b
+tie_odd a b q r p e h z = record { below = omega arith; above = omega arith; even = λ t. omega arith }
+
+pub closest_nearest : (a b : ℕ) → 0 < b → IsNearest (closest a b) a b
+closest_nearest a b p = go (compare (a % b * 2) b) (said (a % b * 2) b) (let e = mod-add-div' a b in omega arith) (omega arith)
+  where
+    tie : (k : ℕ) → a / b % 2 ≡ k → k < 2 → a ≡ a / b * b + a % b → a % b * 2 ≡ b → IsNearest (a / b + k) a b
+    tie zero z l e h = subst (λ (n : ℕ). IsNearest n a b) (omega arith) (tie_even a b (a / b) (a % b) p e h z)
+    tie (suc zero) z l e h = tie_odd a b (a / b) (a % b) p e h z
+    tie (suc (suc k)) z l e h = absurd (omega arith)
+
+    go : (o : Ordering) → Says o (a % b * 2) b → a ≡ a / b * b + a % b → a % b < b → IsNearest (nearest (a / b) o) a b
+    go Ordering.lt s e l = down_nearest a b (a / b) (a % b) p e s
+    go Ordering.eq s e l = tie (a / b % 2) refl (omega arith) e s
+    go Ordering.gt s e l = subst (λ (n : ℕ). IsNearest n a b) (add-one (a / b)) (up_nearest a b (a / b) (a % b) l e s)

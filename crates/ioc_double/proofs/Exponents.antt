@@ -6,7 +6,7 @@ use Rattle.std.proofs.Math.Nat.{eq-or-lt_of_le, mul-pos, pow-le-pow_right, one-l
 use Rattle.std.specs.Float.Ieee.Nearest.{closest, closest_same}
 use Rattle.ioc_double.specs.Nearest.{IsExponent, how_many, exponent_of, significand}
 
-all_counted : (n : ℕ) (test : ℕ → Bool) → ((i : ℕ) → i < n → test i ≡ true) → how_many n test ≡ n
+pub all_counted : (n : ℕ) (test : ℕ → Bool) → ((i : ℕ) → i < n → test i ≡ true) → how_many n test ≡ n
 unfolding how_many
 all_counted zero test below = refl
 all_counted (suc n) test below = rw (below n (omega arith), all_counted n test (λ i h. below i (omega arith))) (omega arith)

@@ -1,3 +1,4 @@
+pub mod Counted
 pub mod Decimals
 pub mod Exponents
 pub mod Fields

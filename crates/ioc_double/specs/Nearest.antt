@@ -1,7 +1,13 @@
 -- The decimals that are nearest to a fraction.
-use Rattle.std.specs.Prelude.{ℕ, zero, suc, ◌+◌, ◌*◌, ◌^◌, ◌<◌, ◌≤◌, ◌==◌, Bool, nat_lt, nat_le, ℤ, pos, negsuc, ◌+ℤ◌, if◌then◌else◌}
+use Rattle.std.specs.Prelude.{◌≡◌, ◌⊎◌, ℕ, zero, suc, ◌+◌, ◌*◌, ◌%◌, ◌^◌, ◌<◌, ◌≤◌, ◌==◌, Bool, nat_lt, nat_le, ℤ, pos, negsuc, ◌+ℤ◌, if◌then◌else◌}
 use Rattle.std.specs.Float.Ieee.Nearest.{closest}
 use Rattle.ioc_double.specs.declared.scientific.Scientific.{Scientific}
+
+-- q is the whole number that is nearest to a / b: it is at most a half away, and even where it is just a half away.
+pub record IsNearest (q a b : ℕ) : Type 0 where
+  pub below : 2 * a ≤ (2 * q + 1) * b
+  pub above : 2 * q * b ≤ 2 * a + b
+  pub even : ((2 * a ≡ (2 * q + 1) * b) ⊎ (2 * q * b ≡ 2 * a + b)) → q % 2 ≡ 0
 
 -- z is the decimal exponent of a / b: the fraction is at least 10 ^ z and below 10 ^ (z + 1).
 abbrev pub IsExponent : ℤ → ℕ → ℕ → Type 0

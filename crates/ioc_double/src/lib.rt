@@ -7,6 +7,7 @@ pub mod double;
 mod exact;
 pub mod fixed;
 mod groups;
+pub mod laws;
 pub mod number;
 mod pieces;
 mod rounded;
