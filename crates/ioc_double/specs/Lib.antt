@@ -6,6 +6,7 @@ pub mod Leading
 pub mod Nearest
 pub mod Pieces
 pub mod Reading
+pub mod Rounded
 pub mod Same
 pub mod SameLaws
 pub mod Size

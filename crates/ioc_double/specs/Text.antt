@@ -1,24 +1,18 @@
 -- The text of a double with d digits.
-use Rattle.std.specs.Prelude.{ℕ, ◌+◌, ◌*◌, ◌^◌, false, ◌&&◌, List, [], ◌∷◌, ◌++◌, nat_le, min, is_nan, codes, if◌then◌else◌}
+use Rattle.std.specs.Prelude.{ℕ, ◌+◌, ◌*◌, ◌^◌, false, ◌&&◌, List, [], ◌∷◌, ◌++◌, nat_le, is_nan, codes, if◌then◌else◌}
 use Rattle.std.specs.Float.{float_with_sign}
 use Rattle.std.specs.Float.Ieee.{Float, nan, inf, fin, lt, le, up, down}
-use Rattle.std.specs.Float.Ieee.Nearest.{closest}
-use Rattle.std.specs.Float.Ieee.Positive.{num, den}
 use Rattle.ioc_double.specs.declared.text.Layout.{Layout}
 use Rattle.ioc_double.specs.declared.text.Layout.TheVariants.{Fixed, Rounded, NotANumber, Padded}
 use Rattle.ioc_double.specs.Fixed.{fixed_text}
+use Rattle.ioc_double.specs.Rounded.{rounded_text}
 use Rattle.ioc_double.specs.Size.{whole_double}
 use Rattle.ioc_double.specs.Nearest.{nearest_decimal}
-use Rattle.ioc_double.specs.Pieces.{with_point, scientific_text, padded}
+use Rattle.ioc_double.specs.Pieces.{scientific_text, padded}
 
 -- The number without its sign.
 abbrev pub size_of : Float → Float
 size_of x = float_with_sign false x
-
--- A size above 10^7 and at most 10^16, which is the fraction num / den: the whole number nearest to it times 10^e, ties to even, with a point
--- before its last e digits, which are d, but three at most.
-abbrev pub rounded_text : Float → ℕ → List ℕ
-rounded_text size d = with_point (min d 3) (closest (num size * 10 ^ min d 3) (den size))
 
 -- Any size: of a number the nearest decimal of d + 1 digits.
 unfoldable pub wide_text : Float → ℕ → List ℕ

@@ -7,7 +7,7 @@ ghost use Rattle.ioc_double.specs.Reading.{place, place_after};
 
 /// How far a decimal number has been read.
 #[derive(Clone, Copy, PartialEq, Eq, Debug)]
-pub enum Reading {
+enum Reading {
     /// Nothing.
     Start,
     /// Digits of the whole part.

@@ -10,7 +10,7 @@ pub const MAX_DIGITS: u8 = 15;
 /// A number of digits behind the point, 0 to 15, as PREC of a record has it.
 ///
 /// ```text
-/// Digits::new(3), Digits::new(16).is_none()
+/// Digits::new(3).map(Digits::count) == Some(3), Digits::new(16).is_none()
 /// ```
 #[derive(Clone, Copy, PartialEq, Eq, Debug)]
 pub struct Digits {

@@ -9,11 +9,11 @@ use std::num::{nearest_i64_to_f64, saturating_f64_to_u32};
 
 /// The whole part of a number, and the digits behind its point as a number.
 #[derive(Clone, Copy, PartialEq, Eq, Debug)]
-pub struct Fixed {
+pub(crate) struct Fixed {
     /// The whole part.
-    pub whole: u64,
+    pub(crate) whole: u64,
     /// The digits behind the point.
-    pub fraction: u64,
+    pub(crate) fraction: u64,
 }
 
 /// Returns the number times 10^`digits`, times 10, each product rounded.

@@ -1,10 +1,10 @@
 //! Large numbers with at most three digits behind the point.
 
-ghost use Rattle.std.specs.Prelude.{◌≡◌, ◌+◌, ◌*◌, ◌^◌, ◌<◌, ◌≤◌, ◌++◌, length, min, IsTrue};
+ghost use Rattle.std.specs.Prelude.{◌≡◌, ◌+◌, ◌*◌, ◌^◌, ◌<◌, ◌≤◌, ◌++◌, length, IsTrue};
 ghost use Rattle.std.specs.Float.{float_is_finite};
 ghost use Rattle.std.specs.Float.Ieee.Nearest.{closest};
 ghost use Rattle.std.specs.Float.Ieee.Positive.{num, den};
-ghost use Rattle.ioc_double.specs.Pieces.{with_point};
+ghost use Rattle.ioc_double.specs.Rounded.{rounded_text};
 
 use crate::exact::exact_of;
 use crate::pieces::{DoubleText, push_decimal, push_fraction};
@@ -31,7 +31,7 @@ pub(crate) fn push_rounded(text: &mut DoubleText, number: f64, digits: u8)
     requires large { 10 ^ 7 * den number < num number }
     requires small { num number ≤ 10 ^ 16 * den number }
     requires room { length text.old.items ≤ 1 }
-    ensures value { text.new.items ≡ text.old.items ++ with_point (min digits 3) (closest (num number * 10 ^ (min digits 3)) (den number)) }
+    ensures value { text.new.items ≡ text.old.items ++ rounded_text number digits }
     ensures short { length text.new.items ≤ 23 }
 {
     let places = digits.min(3);

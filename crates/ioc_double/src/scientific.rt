@@ -12,11 +12,11 @@ use crate::rounding::nearest;
 
 /// A number in scientific notation.
 #[derive(Clone, Copy, PartialEq, Eq, Debug)]
-pub struct Scientific {
+pub(crate) struct Scientific {
     /// Its digits.
-    pub digits: u64,
+    pub(crate) digits: u64,
     /// The exponent of ten of its first digit.
-    pub exponent: i32,
+    pub(crate) exponent: i32,
 }
 
 /// Returns the digits and the exponent of the first one, where these may be one digit too many.
@@ -84,7 +84,8 @@ pub(crate) fn push_scientific(text: &mut DoubleText, number: f64, digits: u8)
     requires finite { IsTrue (float_is_finite number) }
     requires digits { digits ≤ 15 }
     requires room { length text.old.items ≤ 1 }
-    ensures { text.new.items ≡ text.old.items ++ scientific_text digits (nearest_decimal digits (num number) (den number)) }
+    ensures { text.new.items
+        ≡ text.old.items ++ scientific_text digits (nearest_decimal digits (num number) (den number)) }
 {
     let scientific = scientific_of(number, digits);
     push_digits(text, scientific.digits / 10u64.pow(u32::from(digits)), 1);

@@ -3,7 +3,8 @@
 ghost use Rattle.std.specs.Prelude.{◌≡◌, ◌^◌, pos, neg_ℤ, option_map, if◌then◌else◌};
 ghost use Rattle.std.specs.Float.Parse.{without_sign};
 ghost use Rattle.ioc_double.specs.Whole.{within_i64};
-ghost use Rattle.ioc_double.specs.Spelled.{is_infinity, skip_front, without_spaces, below, numeral, decimal_double, hexadecimal_double, double_of_text};
+ghost use Rattle.ioc_double.specs.Spelled.{skip_front, without_spaces, below, numeral, hexadecimal_double};
+ghost use Rattle.ioc_double.specs.Spelled.{is_infinity, decimal_double, double_of_text};
 
 use crate::double::Double;
 

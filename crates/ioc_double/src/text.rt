@@ -14,7 +14,7 @@ use std::num::nearest_i64_to_f64;
 
 /// How a double is laid out.
 #[derive(Clone, Copy, PartialEq, Eq, Debug)]
-pub enum Layout {
+enum Layout {
     /// All digits in front of the point, and as many behind it as asked for.
     Fixed,
     /// All digits in front of the point, and at most three behind it.
