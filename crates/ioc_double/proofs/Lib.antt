@@ -10,6 +10,7 @@ pub mod NearestDecimal
 pub mod Numerals
 pub mod Places
 pub mod Powers
+pub mod Automaton
 pub mod Closest
 pub mod ReadBack
 pub mod SameBits

@@ -1,6 +1,7 @@
 pub mod Decimal
 pub mod Exact
 pub mod Fixed
+pub mod Grammar
 pub mod Groups
 pub mod Leading
 pub mod Nearest
