@@ -76,6 +76,7 @@ pub read_part : (bytes : List ℕ) (i s longest t : ℕ) → i < length bytes �
 read_part bytes i s longest t h r e ends = record { read = one_more bytes i s longest t h r e; longest_is = r.longest_is ∙ sym (longest_next is_decimal i (i + 1) bytes (add-one i) ∙ ap (λ (b : Bool). cond b (i + 1) (longest_prefix is_decimal i bytes)) (ended bytes i s longest t h r e ∙ ends)) }
 
 pub read_lost : (bytes : List ℕ) (i s longest : ℕ) → i < length bytes → HasRead bytes i s longest → 7 ≡ float_scan_step s (get_or bytes i 0) → longest ≡ decimal_length bytes
+unfolding decimal_length
 read_lost bytes i s longest h r e =
     r.longest_is
     ∙ sym (stays is_decimal bytes i (length bytes) (omega arith) (λ k a b. none k a))
@@ -91,6 +92,7 @@ read_lost bytes i s longest h r e =
         ∙ lost (take j (drop (suc i) bytes))
 
 pub read_all : (bytes : List ℕ) (i s longest : ℕ) → i ≡ length bytes → HasRead bytes i s longest → longest ≡ decimal_length bytes
+unfolding decimal_length
 read_all bytes i s longest h r = r.longest_is ∙ ap (λ (k : ℕ). longest_prefix is_decimal k bytes) h
 
 pub as_read : (bytes : List ℕ) (i : ℕ) (r s : Reading) (l m : ℕ) → s ≡ r → m ≡ l → HasRead bytes i (place r) l → HasRead bytes i (place s) m

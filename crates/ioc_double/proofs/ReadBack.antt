@@ -83,7 +83,7 @@ decimal_one t (c ∷ d ∷ ds) negative h = go (c == 48) (d == 120) refl refl
 
 -- A decimal number spells what it is read as.
 pub number_spells : (t : List ℕ) (x : Float) → completes_number 0 (without_sign t) ≡ true → parse_float binary64 t ≡ Some x → float_is_infinite x ≡ false → double_of_text t ≡ Some x
-unfolding decimal_double
+unfolding double_of_text decimal_double
 number_spells t x h p finite =
     ap (λ (l : List ℕ). signed_double l (slice_index l 0 == 45) (without_sign l)) (number_trimmed t h)
     ∙ decimal_one t (without_sign t) (slice_index t 0 == 45) h
@@ -125,15 +125,15 @@ plain_completes t x p plain =
 
 -- The words.
 nan_spells : double_of_text (codes "nan") ≡ Some nan
-unfolding signed_double decimal_double parse_float_on_literals float_is_infinite
+unfolding double_of_text signed_double decimal_double parse_float_on_literals float_is_infinite
 nan_spells = refl
 
 inf_spells : double_of_text (codes "inf") ≡ Some (inf false)
-unfolding signed_double decimal_double parse_float_on_literals float_is_infinite
+unfolding double_of_text signed_double decimal_double parse_float_on_literals float_is_infinite
 inf_spells = refl
 
 minus_inf_spells : double_of_text (codes "-inf") ≡ Some (inf true)
-unfolding signed_double decimal_double parse_float_on_literals float_is_infinite
+unfolding double_of_text signed_double decimal_double parse_float_on_literals float_is_infinite
 minus_inf_spells = refl
 
 zero_is : whole_double 0 ≡ fin false 0 (pos 0)

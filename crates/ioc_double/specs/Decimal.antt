@@ -13,5 +13,5 @@ longest_prefix test zero bytes = 0
 longest_prefix test (suc k) bytes = if test (take (suc k) bytes) then suc k else longest_prefix test k bytes
 
 -- How many bytes at the front are the longest unsigned decimal number, or 0.
-abbrev pub decimal_length : List ℕ → ℕ
+unfoldable pub decimal_length : List ℕ → ℕ
 decimal_length bytes = longest_prefix is_decimal (length bytes) bytes

@@ -52,5 +52,5 @@ signed_double text negative (c ∷ []) = decimal_double text
 signed_double text negative (c ∷ d ∷ ds) = if (c == 48) && (d == 120) then hexadecimal_double negative ds else decimal_double text
 
 -- The double that a text spells.
-abbrev pub double_of_text : List ℕ → Option Float
+unfoldable pub double_of_text : List ℕ → Option Float
 double_of_text text = let trimmed = without_spaces text in signed_double trimmed (slice_index trimmed 0 == 45) (without_sign trimmed)

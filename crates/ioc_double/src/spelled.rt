@@ -112,7 +112,7 @@ fn unsigned(text: &[u8]) -> &[u8]
 /// ```text
 /// double_of_text(b" -2.5e3 "), double_of_text(b"1e999").is_none(), double_of_text(b"1.5 mm").is_none()
 /// ```
-#[tactic(auto, unfolding(crate::specs::Spelled::signed_double))]
+#[tactic(auto, unfolding(crate::specs::Spelled::signed_double, crate::specs::Spelled::double_of_text))]
 pub fn double_of_text(text: &[u8]) -> Option<Double>
     ensures { result ≡ double_of_text text.now }
 {

@@ -1,6 +1,6 @@
 use Rattle.std.proofs.Common.{◌+◌, ap, sym, ◌∙◌, arith, lit≤}
 use Rattle.ioc_double.specs.Reading.{place, place_after}
-use Rattle.ioc_double.proofs.Longest.{read_none, read_number, read_part, read_lost, as_read}
+use Rattle.ioc_double.proofs.Longest.{read_none, read_number, read_part, read_lost, read_all, as_read}
 use Rattle.ioc_double.proofs.decimal.decimal_length.Goals as goal
 use Rattle.ioc_double.proofs.decimal.decimal_length.Goals.{then-is_number, else-is_number}
 
@@ -30,3 +30,9 @@ loop-index-preserved c =
         within = let e = w.longest-is in let h = c.loop-index.invariant.within in omega arith;
       }
     ]
+
+pub returns-clause-value : goal.returns-clause-value
+returns-clause-value c =
+    let h = c.loop-index-test.false in
+    let k = c.loop-index.auto.index-end in
+    read_all c.args.bytes.now c.loop-index.index (place c.loop-index.reading) c.loop-index.longest (omega arith) c.loop-index.invariant.read
