@@ -10,19 +10,17 @@
 
 use ioc_double::{Digits, Double, decimal_length, double_of_text, exact_text, text_of_double};
 use std::io;
-use std::num::{f64_from_bits_with_nan, f64_to_bits_with_nan};
 
 /// Returns the double of the bits.
 fn double_of(bits: &str) -> Option<Double> {
-    let bits = u64::from_str_radix(bits, 16).ok()?;
-    Some(Double::new(f64_from_bits_with_nan(bits)))
+    u64::from_str_radix(bits, 16).ok().map(Double::from_bits)
 }
 
 /// Prints the bits of a double. A NaN has any bits, and so a word of its own.
 fn print_double(rt: &impl Print, double: Option<Double>) -> io::Result<()> {
     match double {
         Some(double) if double.number().is_nan() => println!(rt; "nan"),
-        Some(double) => println!(rt; "{:016x}", f64_to_bits_with_nan(double.number())),
+        Some(double) => println!(rt; "{:016x}", double.to_bits()),
         None => println!(rt; "none"),
     }
 }

@@ -1,9 +1,10 @@
 //! A double as a value that can be compared.
 
-ghost use Rattle.std.specs.Prelude.{◌≡◌};
+ghost use Rattle.std.specs.Prelude.{◌≡◌, to_bits, from_bits};
+ghost use Rattle.std.specs.Float.Ieee.{binary64};
 
 use std::marker::Model;
-use std::num::f64_to_bits_with_nan;
+use std::num::{f64_from_bits_with_nan, f64_to_bits_with_nan};
 
 /// An IEEE 754 double. Two are equal where they are the same value: both NaN, or with the same
 /// bits, so `-0` and `0` differ and NaN equals itself.
@@ -44,6 +45,21 @@ impl Double {
         ensures { result ≡ self }
     {
         self.number
+    }
+
+    /// Returns the double of the bits. All bits of a NaN give the one NaN.
+    pub fn from_bits(bits: u64) -> Self
+        ensures { result ≡ from_bits binary64 bits }
+    {
+        Double::new(f64_from_bits_with_nan(bits))
+    }
+
+    /// Returns the bits of the double; those of NaN are `7ff8000000000000`, in hexadecimal.
+    pub fn to_bits(self) -> u64
+        ensures value { result ≡ to_bits binary64 self }
+        ensures back { from_bits binary64 result ≡ self }
+    {
+        f64_to_bits_with_nan(self.number)
     }
 }
 
