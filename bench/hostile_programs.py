@@ -38,7 +38,7 @@ COUNTS = re.compile(r"(\d+) errors?, (\d+) warnings?\n")
 FINDING = re.compile(r"[^\n]+?:[1-9]\d*:[1-9]\d*: (error|warning): .+")
 DIFFERENCE = re.compile(r"ioc-audit: journal '[^']*' line ([1-9]\d*): (no entry|place \d+ expected|call \d+ of its desk expected"
                         r"|another reply: [^\n]+|other answers: [^\n]+)\n", re.S)
-AGREE = re.compile(r"(\d+) entries agree")
+AGREE = re.compile(r"(?:line (?P<cut>\d+) is cut off; )?(?P<count>\d+) entr(?:ies agree|y agrees)")
 REFUSED = re.compile(r"bad|E(?:[1-9]|1[0-3]) [A-Za-z]+")
 # The replies of a console that a script doesn't have, beside those of hostile.FORMS.
 SESSION_FORMS = {**FORMS, "dbgf": FORMS["get"], "dbpf": FORMS["put"], "checkpoint": "ok", "tick": r"ok \d+"}
@@ -433,7 +433,7 @@ class Case:
         ran = self.runner.run("ioc-audit", self.database, journal, *words, *self.macros)
         want((ran.status, ran.said) == (0, ""), "the journal of a run", (ran, made))
         told = lines_of(ran.out, ran)
-        want(told.pop() == f"{len(lines)} entries agree", "how many agree", ran)
+        want(told.pop() == ("1 entry agrees" if len(lines) == 1 else f"{len(lines)} entries agree"), "how many agree", ran)
         if sets is not None:
             want(told.pop() == sets, f"other sets than {sets!r}", ran)
         if self.is_lined:
@@ -483,8 +483,9 @@ class Case:
         end = "" if self.chance(0.1) else "\n"
         text = "\n".join(changed) + end if changed else ""
         if text and not text.endswith("\n"):
-            # The last line has no end, so it is no entry.
+            # The last line has no end, so it is cut off.
             same = min(same, text.count("\n"))
+        whole = text.count("\n")
         changed = text.removesuffix("\n").split("\n") if text else []
         file = self.runner.write("changed.journal", text)
         words, most = [], None
@@ -510,8 +511,11 @@ class Case:
             want(most is None or int(fault[1]) <= most + 1, "a fault behind --at", ran)
         else:
             want(ran.said == "" and told and AGREE.fullmatch(told[-1]), "an audit that agrees", ran)
-            count = int(AGREE.fullmatch(told[-1])[1])
-            want(count == (len(changed) if most is None else min(len(changed), most + 1)), f"{count} of {len(changed)} entries", ran)
+            agree = AGREE.fullmatch(told[-1])
+            count, wanted = int(agree["count"]), whole if most is None else min(whole, most + 1)
+            want(count == wanted, f"{count} of {whole} entries", ran)
+            is_cut_off = whole < len(changed) and (most is None or whole <= most)
+            want(agree["cut"] == (str(whole + 1) if is_cut_off else None), "whether a line is cut off", ran)
             self.seen["changed journals that agree"] += changed != lines
         # A text of a changed journal may have a line end.
         if has_trace and self.is_lined and "\\0a" not in text:

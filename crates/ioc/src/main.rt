@@ -12,7 +12,7 @@ use ioc_engine::{Database, LoadError, SystemClock, load};
 use std::alloc::{Alloc, Global};
 use std::env;
 use std::fs::{File, Files};
-use std::io::{self, BufReader, ErrorKind, IsTerminal, Print, Read, Write};
+use std::io::{self, ErrorKind, IsTerminal, Print, Read, Write};
 use std::process::ExitCode;
 use std::sync::Wait;
 use std::thread::Threads;
@@ -97,15 +97,12 @@ fn console_of<I: Read + Drop, E: Write + Drop>(
     alloc: Global,
     database: &Database,
     terminal: Terminal<I, E>,
-) -> Result<Console<BufReader<I>, E>, Stop> {
+) -> Result<Console<I, E>, Stop> {
     let Terminal {
         input,
         errors,
         has_prompt,
     } = terminal;
-    let Ok(input) = BufReader::new(alloc, input) else {
-        return Err(Stop::Memory(Stage::Loading));
-    };
     Ok(Console::new(alloc, database, input, errors, has_prompt)?)
 }
 

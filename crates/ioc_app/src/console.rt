@@ -1,23 +1,24 @@
 //! The console, which answers lines.
 use crate::caller::{Caller, LineFault};
 use crate::fault::RunFault;
+use crate::journal::JournalWriter;
 use crate::listing::{RecordList, add_count, add_field, add_reply, add_shown};
-use crate::streams::Streams;
+use crate::streams::{Noted, Streams, write_entries};
 use crate::task::Task;
 use ioc_command_line::Reason;
 use ioc_commands::{Command, Dialect, Help, Request};
 use ioc_engine::{Clock, Database, Desk, Device, Engine, EngineName, IocError, Reply};
 use ioc_fields::field_list::fields;
 use ioc_fields::row_of;
-use ioc_main::{Answering, Then, answer_each, ended_line};
+use ioc_main::{PROMPT, PendingOutput, ScriptFault, Session, ended_line, run_script};
 use std::alloc::{AllocError, Global};
-use std::io::{BufRead, Write};
+use std::io::{Read, Write};
 use std::sync::Wait;
 
 /// A console: answers the lines of an input, one after another, until the input ends or a line ends
 /// it.
 #[derive(Drop)]
-pub struct Console<I: BufRead + Drop, E: Write + Drop> {
+pub struct Console<I: Read + Drop, E: Write + Drop> {
     input: I,
     answerer: Answerer<E>,
 }
@@ -35,28 +36,37 @@ struct Answerer<E: Write + Drop> {
     tick: u64,
 }
 
-// A console at work: its calls, and what it writes.
+// What is to be done after a line.
+#[derive(Clone, Copy)]
+enum Then {
+    More,
+    End,
+}
+
+// A console at work: its calls, and the journal, whose entries are written before the replies that
+// tell of them.
 #[derive(Drop)]
 struct Talk<
     'a,
-    's,
+    'j,
     'e,
     E: Write + Drop,
     B: EngineName<D>,
     D: Device,
     C: Clock + Drop,
-    W: Write + Drop,
     J: Write + Drop,
     R: Wait,
 > {
     answerer: &'a mut Answerer<E>,
     caller: Caller<'e, B, D, C, R>,
-    streams: &'s mut Streams<W, J>,
+    journal: &'j mut Option<JournalWriter<J>>,
     // The reply to a line.
     said: Vec<u8>,
+    has_ended: bool,
+    fault: Option<RunFault>,
 }
 
-impl<I: BufRead + Drop, E: Write + Drop> Console<I, E> {
+impl<I: Read + Drop, E: Write + Drop> Console<I, E> {
     /// Creates a console for an engine of this database. If it has a prompt, it is for a user; if
     /// not, it writes the number of the line of each refusal to `errors`.
     ///
@@ -114,24 +124,17 @@ impl<E: Write + Drop> Answerer<E> {
     }
 
     // Walks the periods of so many ticks.
-    fn walk<
-        B: EngineName<D>,
-        D: Device,
-        C: Clock + Drop,
-        W: Write + Drop,
-        J: Write + Drop,
-        R: Wait,
-    >(
+    fn walk<B: EngineName<D>, D: Device, C: Clock + Drop, J: Write + Drop, R: Wait>(
         &mut self,
         caller: &mut Caller<'_, B, D, C, R>,
         count: u64,
-        streams: &mut Streams<W, J>,
+        journal: &mut Option<JournalWriter<J>>,
     ) -> Result<u64, LineFault> {
         let mut requested = 0u64;
         for _ in 0..count {
             self.tick = self.tick.saturating_add(1);
             requested = requested.saturating_add(caller.tick(self.tick)?);
-            streams.write_new(caller.rt, caller.engine, caller.desk)?;
+            write_entries(journal, caller.rt, caller.engine, caller.desk)?;
         }
         Ok(requested)
     }
@@ -236,40 +239,29 @@ impl<E: Write + Drop> Answerer<E> {
     }
 
     // Makes a checkpoint. If the journal is kept, the entries that leave memory are written.
-    fn checkpoint<
-        B: EngineName<D>,
-        D: Device,
-        C: Clock + Drop,
-        W: Write + Drop,
-        J: Write + Drop,
-        R: Wait,
-    >(caller: &mut Caller<'_, B, D, C, R>, streams: &mut Streams<W, J>) -> Result<(), LineFault> {
-        match &mut streams.journal {
+    fn checkpoint<B: EngineName<D>, D: Device, C: Clock + Drop, J: Write + Drop, R: Wait>(
+        caller: &mut Caller<'_, B, D, C, R>,
+        journal: &mut Option<JournalWriter<J>>,
+    ) -> Result<(), LineFault> {
+        match journal {
             Some(writer) => Ok(writer.checkpoint(caller.rt, caller.engine, caller.desk)?),
             None => Ok(caller.engine.checkpoint(caller.rt)?),
         }
     }
 
     // Does what a line asks for, appends its reply, and returns whether the console goes on.
-    fn carry_out<
-        B: EngineName<D>,
-        D: Device,
-        C: Clock + Drop,
-        W: Write + Drop,
-        J: Write + Drop,
-        R: Wait,
-    >(
+    fn carry_out<B: EngineName<D>, D: Device, C: Clock + Drop, J: Write + Drop, R: Wait>(
         &mut self,
         caller: &mut Caller<'_, B, D, C, R>,
         line: &[u8],
         said: &mut Vec<u8>,
-        streams: &mut Streams<W, J>,
+        journal: &mut Option<JournalWriter<J>>,
     ) -> Result<Then, LineFault> {
         match Request::from_line(Dialect::Console, line) {
             Request::Command(command) => self.do_script(caller, &command, said)?,
-            Request::Tick(count) => add_count(said, self.walk(caller, count, streams)?)?,
+            Request::Tick(count) => add_count(said, self.walk(caller, count, journal)?)?,
             Request::Checkpoint => {
-                Self::checkpoint(caller, streams)?;
+                Self::checkpoint(caller, journal)?;
                 add_reply(said, &Reply::Plain)?;
             }
             Request::List(pattern) => {
@@ -291,21 +283,15 @@ impl<E: Write + Drop> Answerer<E> {
     }
 
     // Answers a line, and returns whether the console goes on.
-    fn answer<
-        B: EngineName<D>,
-        D: Device,
-        C: Clock + Drop,
-        W: Write + Drop,
-        J: Write + Drop,
-        R: Wait,
-    >(
+    fn answer<B: EngineName<D>, D: Device, C: Clock + Drop, J: Write + Drop, R: Wait>(
         &mut self,
         caller: &mut Caller<'_, B, D, C, R>,
         line: &[u8],
         said: &mut Vec<u8>,
-        streams: &mut Streams<W, J>,
+        journal: &mut Option<JournalWriter<J>>,
     ) -> Result<Then, RunFault> {
-        match self.carry_out(caller, line, said, streams) {
+        self.line = self.line.saturating_add(1);
+        match self.carry_out(caller, line, said, journal) {
             Ok(then) => Ok(then),
             Err(LineFault::Refused(refused)) => {
                 self.refuse(caller.alloc, refused, said)?;
@@ -316,7 +302,7 @@ impl<E: Write + Drop> Answerer<E> {
     }
 }
 
-impl<I: BufRead + Drop, E: Write + Drop> Task for Console<I, E> {
+impl<I: Read + Drop, E: Write + Drop> Task for Console<I, E> {
     fn work<
         B: EngineName<D>,
         D: Device,
@@ -339,14 +325,43 @@ impl<I: BufRead + Drop, E: Write + Drop> Task for Console<I, E> {
             desk,
         };
         let Console { input, answerer } = self;
+        let Streams { lines, journal } = streams;
         let has_prompt = answerer.has_prompt;
         let mut talk = Talk {
             answerer,
             caller,
-            streams,
+            journal,
             said: Vec::new(alloc),
+            has_ended: false,
+            fault: None,
         };
-        answer_each(input, has_prompt, &mut talk)
+        let mut out = Noted::new(lines);
+        let ran = run_script(alloc, &mut talk, input, &mut out);
+        let is_prompted = has_prompt && !talk.has_ended;
+        let reason = out.reason;
+        ended(talk.fault, ran, reason)?;
+        if is_prompted {
+            streams.write(b"\n")?;
+        }
+        Ok(())
+    }
+}
+
+// Returns why a console ended early, if it has: by a fault of its calls or its journal, or by one of
+// its lines, whose last write failed for this reason.
+fn ended(
+    fault: Option<RunFault>,
+    ran: Result<(), ScriptFault>,
+    reason: Reason,
+) -> Result<(), RunFault> {
+    if let Some(fault) = fault {
+        return Err(fault);
+    }
+    match ran {
+        Ok(()) => Ok(()),
+        Err(ScriptFault::Read(reason)) => Err(RunFault::Read(reason)),
+        Err(ScriptFault::Write) => Err(RunFault::Write(reason)),
+        Err(ScriptFault::Memory) => Err(RunFault::Memory),
     }
 }
 
@@ -355,33 +370,64 @@ impl<
     B: EngineName<D>,
     D: Device,
     C: Clock + Drop,
-    W: Write + Drop,
     J: Write + Drop,
     R: Wait,
-> Answering for Talk<'_, '_, '_, E, B, D, C, W, J, R> {
-    type Fault = RunFault;
+> Session for Talk<'_, '_, '_, E, B, D, C, J, R> {
+    ghost use Rattle.std.specs.Prelude.{[], ⊥};
+    ghost use Rattle.std.proofs.Common.{refl};
 
-    fn answer(&mut self, number: u64, line: &[u8]) -> Result<Then, RunFault> {
-        self.answerer.line = number;
+    ghost transcript = { λ _ _. [] };
+
+    ghost is_determined = { λ _. ⊥ };
+
+    ghost no_lines = { λ _. refl };
+
+    ghost long_lines = { λ _ _ _ _ _. refl };
+
+    /// Answers a line. After a fault of its call no more lines are answered.
+    fn answer(&mut self, line: &[u8], said: &mut PendingOutput) -> Result<(), AllocError> {
         self.said.clear();
-        let (caller, streams) = (&mut self.caller, &mut *self.streams);
-        let then = self.answerer.answer(caller, line, &mut self.said, streams)?;
-        let Caller {
-            rt,
-            engine,
-            desk,
-            ..
-        } = &mut self.caller;
-        self.streams.write_new(*rt, *engine, desk)?;
-        self.streams.write(self.said.as_slice())?;
-        Ok(then)
+        let caller = &mut self.caller;
+        match self
+            .answerer
+            .answer(caller, line, &mut self.said, self.journal)
+        {
+            Ok(Then::More) => {}
+            Ok(Then::End) => self.has_ended = true,
+            Err(fault) => {
+                self.fault = Some(fault);
+                self.has_ended = true;
+                return Ok(());
+            }
+        }
+        said.add(self.said.as_slice())
     }
 
-    fn show(&mut self, text: &[u8]) -> Result<(), RunFault> {
-        self.streams.write(text)
+    /// Writes the entries of the journal that the pending replies tell of, and those before them.
+    fn may_write(&mut self) -> bool {
+        if let Some(RunFault::Journal(_)) = self.fault {
+            return false;
+        }
+        let caller = &mut self.caller;
+        match write_entries(self.journal, caller.rt, caller.engine, caller.desk) {
+            Ok(()) => true,
+            Err(fault) => {
+                self.fault = Some(fault);
+                self.has_ended = true;
+                false
+            }
+        }
     }
 
-    fn unreadable(&self, reason: Reason) -> RunFault {
-        RunFault::Read(reason)
+    fn before_read(&mut self) -> Option<&'static [u8]> {
+        if self.answerer.has_prompt {
+            Some(PROMPT)
+        } else {
+            None
+        }
+    }
+
+    fn has_ended(&self) -> bool {
+        self.has_ended
     }
 }

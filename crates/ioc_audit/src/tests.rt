@@ -118,7 +118,7 @@ static CHANGES: [(Change, &str); 7] = [
         Change {
             from: 6,
             to: 8,
-            instead: b"6\t1\t2\t1006\tli",
+            instead: b"6\t1\t2\t1006\tli\n",
         },
         "ioc-audit: journal 'valve.journal' line 7: no entry\n",
     ),
@@ -140,6 +140,23 @@ fn all_agree(rt: HostRuntime) -> Result<(), Stop> {
         instead: b"",
     };
     assert!(rt; tells(rt.alloc(), &none, b"8 entries agree\n", "")?);
+    Ok(())
+}
+
+#[test]
+fn last_line_cut_off(rt: HostRuntime) -> Result<(), Stop> {
+    let cut = Change {
+        from: 6,
+        to: 8,
+        instead: b"6\t1\t2\t1006\tli",
+    };
+    let one = Change {
+        from: 1,
+        to: 8,
+        instead: b"1",
+    };
+    assert!(rt; tells(rt.alloc(), &cut, b"line 7 is cut off; 6 entries agree\n", "")?);
+    assert!(rt; tells(rt.alloc(), &one, b"line 2 is cut off; 1 entry agrees\n", "")?);
     Ok(())
 }
 

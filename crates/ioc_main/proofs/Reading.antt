@@ -71,3 +71,9 @@ pub reads_stop : (whole t : Transcript) (a b w v : Option (List ℕ)) (line : Li
 reads_stop whole t None b w v line inv = tt
 reads_stop whole t (Some x) None w v line inv = absurd inv
 reads_stop whole t (Some x) (Some y) w v line inv = (to_come t line y, inv)
+
+-- Where nothing was written for a prompt, and the session prints what it would have, all is as before.
+pub prompted : (whole : Transcript) (a left w v u : Option (List ℕ)) (said line : List ℕ) (t s : Transcript) → s ≡ t → u ≡ v
+    → ReadsSo whole a left w (still said t) line v → ReadsSo whole a left w (still said s) line u
+prompted whole a left w v u said line t s same kept so =
+    subst (λ (o : Option (List ℕ)). ReadsSo whole a left w (still said s) line o) (sym kept) (subst (λ (r : Transcript). ReadsSo whole a left w (still said r) line v) (sym same) so)

@@ -177,9 +177,12 @@ impl Replay {
 }
 
 impl Session for Replay {
+    ghost use Rattle.std.specs.Prelude.{⊤};
     ghost use Rattle.ioc_main.specs.ReplayLaws.{no-lines, long-lines, printed};
 
     ghost transcript = { printed };
+
+    ghost is_determined = { λ _. ⊤ };
 
     ghost no_lines = { no-lines };
 
@@ -194,5 +197,17 @@ impl Session for Replay {
             self.attend(&mut said.more)?;
         }
         Ok(())
+    }
+
+    fn may_write(&mut self) -> bool {
+        true
+    }
+
+    fn before_read(&mut self) -> Option<&'static [u8]> {
+        None
+    }
+
+    fn has_ended(&self) -> bool {
+        false
     }
 }

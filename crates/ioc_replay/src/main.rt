@@ -37,9 +37,14 @@ fn notes(alloc: Global) -> Result<String, AllocError> {
     )
 }
 
-// How many bytes of replies are written at once. A terminal shows them as they are made.
-fn room(rt: &HostRuntime) -> usize {
-    if rt.stdout().is_terminal() { 0 } else { 8192 }
+// How many bytes of replies are written at once. A terminal shows them as they are made, and
+// explanations stand behind them.
+fn room(rt: &HostRuntime, manner: Manner) -> usize {
+    if rt.stdout().is_terminal() || manner.is_explained {
+        0
+    } else {
+        8192
+    }
 }
 
 // Runs a script without any flag.
@@ -107,7 +112,7 @@ fn replay(rt: &HostRuntime) -> Result<Verdict, Stop> {
     let text = read_whole(rt, FileRole::Database, files.database)?;
     let lines = open(rt, FileRole::Script, files.other)?;
     let script = String::from_str(rt.alloc(), files.other)?;
-    let Ok(mut out) = BufWriter::with_capacity(rt.alloc(), room(rt), io::writer(rt)) else {
+    let Ok(mut out) = BufWriter::with_capacity(rt.alloc(), room(rt, manner), io::writer(rt)) else {
         return Err(Stop::Memory(Stage::Loading));
     };
     if manner.is_plain() {

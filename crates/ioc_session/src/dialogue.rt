@@ -1,23 +1,18 @@
-//! Runs of a script that tell more than the replies.
-ghost use Rattle.std.specs.Prelude.{◌≡◌, [], OnOk};
+//! Sessions that tell more than the replies.
+ghost use Rattle.std.specs.Prelude.{[]};
 
 use crate::directory::Directory;
 use crate::explanation::explained;
 use crate::user_line::script_line;
-use ioc_command_line::Reason;
 use ioc_commands::{Dialect, Help, Request, cut_at};
-use ioc_main::{
-    Answering, LineBuffer, LineFault, PendingOutput, ScriptFault, Session, Then, answer_each,
-};
+use ioc_main::{PROMPT, PendingOutput, Session};
 use ioc_trace::TraceLog;
-use std::alloc::Global;
-use std::io::{self, BufRead, Write};
+use std::alloc::{AllocError, Global};
+use std::io::Write;
 
 /// What a dialogue tells beside the replies.
 #[derive(Drop)]
-pub struct Dialogue<E: Write + Drop> {
-    /// Where explanations are written.
-    pub errors: E,
+pub struct Told {
     /// The records that explanations speak of. Nothing is explained without them.
     pub directory: Option<Directory>,
     /// Whether each line is printed with its number.
@@ -28,162 +23,166 @@ pub struct Dialogue<E: Write + Drop> {
     pub has_prompt: bool,
 }
 
-// A dialogue with the session whose replies it writes.
+/// A session that tells more than the replies of another one.
 #[derive(Drop)]
-struct Talk<'d, 's, 'o, S: Session, W: Write, E: Write + Drop> {
+pub struct Dialogue<S: Session + Drop, E: Write + Drop> {
+    session: S,
     alloc: Global,
-    dialogue: &'d mut Dialogue<E>,
-    session: &'s mut S,
-    out: &'o mut W,
+    told: Told,
+    // Where explanations are written: those of replies that are written, and those of the others.
+    errors: E,
+    due: Vec<u8>,
+    coming: Vec<u8>,
+    // The number of the line, from 1 on.
+    line: u64,
+    has_ended: bool,
 }
 
-// Returns the fault of a write, if it failed.
-fn written(wrote: io::Result<()>) -> Result<(), LineFault> {
-    match wrote {
-        Ok(()) => Ok(()),
-        Err(_) => Err(LineFault::Write),
+impl<S: Session + Drop, E: Write + Drop> Dialogue<S, E> {
+    /// A dialogue before its first line, whose explanations are written to `errors`.
+    pub fn new(alloc: Global, session: S, told: Told, errors: E) -> Self {
+        Dialogue {
+            session,
+            alloc,
+            told,
+            errors,
+            due: Vec::new(alloc),
+            coming: Vec::new(alloc),
+            line: 0,
+            has_ended: false,
+        }
     }
-}
 
-// Writes the replies to a line.
-fn write_said<W: Write>(said: &PendingOutput, out: &mut W) -> Result<(), LineFault> {
-    written(out.write_all(said.replies.as_slice()))?;
-    written(out.write_all(said.more.as_slice()))
-}
+    /// Ends the dialogue: writes what is left to explain, and returns the session and whether a user
+    /// is still at the prompt.
+    pub fn into_session(mut self) -> (S, bool) {
+        self.write_explained();
+        let is_prompted = self.told.has_prompt && !self.has_ended;
+        let Dialogue { session, .. } = self;
+        (session, is_prompted)
+    }
 
-impl<E: Write + Drop> Dialogue<E> {
     // Returns who speaks.
     fn dialect(&self) -> Dialect {
-        if self.has_prompt {
+        if self.told.has_prompt {
             Dialect::Prompt
         } else {
             Dialect::Script
         }
     }
 
-    // Writes a line with its number, if lines are echoed.
-    fn echo<W: Write>(&self, number: u64, line: &[u8], out: &mut W) -> Result<(), LineFault> {
-        if !self.has_echo {
+    // Writes the explanations of replies that are written. If that fails, nothing else changes.
+    fn write_due(&mut self) {
+        if !self.due.is_empty() {
+            let _written = self.errors.write_all(self.due.as_slice());
+            self.due.clear();
+        }
+    }
+
+    // Writes all explanations.
+    fn write_explained(&mut self) {
+        self.write_due();
+        let _written = self.errors.write_all(self.coming.as_slice());
+        self.coming.clear();
+    }
+
+    // Appends a line with its number, if lines are echoed.
+    fn echo(&self, line: &[u8], said: &mut Vec<u8>) -> Result<(), AllocError> {
+        if !self.told.has_echo {
             return Ok(());
         }
-        written(write!(out, "{number}> "))?;
-        written(out.write_all(line))?;
-        written(out.write_all(b"\n"))
+        let number = format!(in self.alloc; "{}> ", self.line)?;
+        said.extend_from_slice(number.as_bytes())?;
+        said.extend_from_slice(line)?;
+        said.push(b'\n')?;
+        Ok(())
     }
 
-    // Writes what was traced since this was last done, if events are traced.
-    fn tell_traced<W: Write>(&self, out: &mut W) -> Result<(), LineFault> {
-        let Some(trace) = &self.trace else {
+    // Explains a reply, which comes without its line feed.
+    fn explain(&mut self, line: &[u8], reply: &[u8]) -> Result<(), AllocError> {
+        let Some(directory) = &self.told.directory else {
             return Ok(());
         };
-        let lines = trace.take()?;
-        written(out.write_all(lines.as_slice()))
-    }
-
-    // Explains a reply. If the explanation can't be written, nothing else changes.
-    fn explain<W: Write>(
-        &mut self,
-        number: u64,
-        line: &[u8],
-        reply: &[u8],
-        out: &mut W,
-    ) -> Result<(), LineFault> {
-        let Some(directory) = &self.directory else {
-            return Ok(());
-        };
-        if let Some(explanation) = explained(directory, self.dialect(), line, reply)? {
-            written(out.flush())?;
-            let _written = writeln!(&mut self.errors, "line {number}: {explanation}");
+        if let Some(words) = explained(directory, self.dialect(), line, reply)? {
+            let text = format!(in self.alloc; "line {}: {words}\n", self.line)?;
+            self.coming.extend_from_slice(text.as_bytes())?;
         }
         Ok(())
     }
 
-    // Answers a line of the script.
-    fn answer<S: Session, W: Write>(
-        &mut self,
-        alloc: Global,
-        number: u64,
-        line: &[u8],
-        session: &mut S,
-        out: &mut W,
-    ) -> Result<(), LineFault> {
-        let mut said = PendingOutput::new(alloc);
-        session.answer(line, &mut said)?;
-        let mut reply = LineBuffer::new();
-        reply.extend_cut(cut_at(said.replies.as_slice(), b'\n').0);
-        self.tell_traced(out)?;
-        write_said(&said, out)?;
-        self.explain(number, line, reply.as_slice(), out)
-    }
-
-    // Does what a line of a user asks for.
-    fn answer_user<S: Session, W: Write>(
-        &mut self,
-        alloc: Global,
-        number: u64,
-        line: &[u8],
-        session: &mut S,
-        out: &mut W,
-    ) -> Result<Then, LineFault> {
-        match Request::from_line(Dialect::Prompt, line) {
-            Request::Exit => return Ok(Then::End),
-            Request::Help => written(write!(out, "{}", Help(Dialect::Prompt)))?,
-            _ => {
-                let line = script_line(line);
-                self.answer(alloc, number, line.as_slice(), session, out)?;
-            }
+    // Answers a line of a script.
+    fn answer_script(&mut self, line: &[u8], said: &mut Vec<u8>) -> Result<(), AllocError> {
+        let mut inner = PendingOutput::new(self.alloc);
+        self.session.answer(line, &mut inner)?;
+        if let Some(trace) = &self.told.trace {
+            said.extend_from_slice(trace.take()?.as_slice())?;
         }
-        Ok(Then::More)
+        let replies = inner.replies.as_slice();
+        said.extend_from_slice(replies)?;
+        said.extend_from_slice(inner.more.as_slice())?;
+        self.explain(line, cut_at(replies, b'\n').0)
     }
 
-    /// Answers the lines of an input until its end, or until a user ends it.
-    ///
-    /// # Errors
-    ///
-    /// [`ScriptFault::Read`] if a read fails, [`ScriptFault::Write`] if a write of replies fails,
-    /// and [`ScriptFault::Memory`] if allocation fails.
-    pub fn hold<S: Session, I: BufRead, W: Write>(
-        &mut self,
-        alloc: Global,
-        session: &mut S,
-        input: &mut I,
-        out: &mut W,
-    ) -> Result<(), ScriptFault> {
-        self.tell_traced(out)?;
-        let has_prompt = self.has_prompt;
-        let mut talk = Talk {
-            alloc,
-            dialogue: self,
-            session,
-            out,
-        };
-        answer_each(input, has_prompt, &mut talk)
+    // Answers a line of a user.
+    fn answer_user(&mut self, line: &[u8], said: &mut Vec<u8>) -> Result<(), AllocError> {
+        match Request::from_line(Dialect::Prompt, line) {
+            Request::Exit => {
+                self.has_ended = true;
+                Ok(())
+            }
+            Request::Help => {
+                let help = format!(in self.alloc; "{}", Help(Dialect::Prompt))?;
+                said.extend_from_slice(help.as_bytes())
+            }
+            _ => self.answer_script(script_line(line).as_slice(), said),
+        }
+    }
+
+    // Answers a line of any kind.
+    fn tell(&mut self, line: &[u8], said: &mut Vec<u8>) -> Result<(), AllocError> {
+        self.line = self.line.saturating_add(1);
+        self.echo(line, said)?;
+        if self.told.has_prompt {
+            self.answer_user(line, said)
+        } else {
+            self.answer_script(line, said)
+        }
     }
 }
 
-impl<S: Session, W: Write, E: Write + Drop> Answering for Talk<'_, '_, '_, S, W, E> {
-    type Fault = ScriptFault;
+impl<S: Session + Drop, E: Write + Drop> Session for Dialogue<S, E> {
+    ghost use Rattle.std.specs.Prelude.{⊥};
+    ghost use Rattle.std.proofs.Common.{refl};
 
-    fn answer(&mut self, number: u64, line: &[u8]) -> Result<Then, ScriptFault> {
-        self.dialogue.echo(number, line, self.out)?;
-        if self.dialogue.has_prompt {
-            let (session, out) = (&mut *self.session, &mut *self.out);
-            return Ok(
-                self.dialogue
-                    .answer_user(self.alloc, number, line, session, out)?,
-            );
+    ghost transcript = { λ _ _. [] };
+
+    ghost is_determined = { λ _. ⊥ };
+
+    ghost no_lines = { λ _. refl };
+
+    ghost long_lines = { λ _ _ _ _ _. refl };
+
+    /// Answers a line, with what is told beside its replies.
+    fn answer(&mut self, line: &[u8], said: &mut PendingOutput) -> Result<(), AllocError> {
+        self.tell(line, &mut said.more)
+    }
+
+    fn may_write(&mut self) -> bool {
+        self.write_due();
+        std::mem::swap(&mut self.due, &mut self.coming);
+        self.session.may_write()
+    }
+
+    fn before_read(&mut self) -> Option<&'static [u8]> {
+        self.write_explained();
+        if self.told.has_prompt {
+            Some(PROMPT)
+        } else {
+            self.session.before_read()
         }
-        self.dialogue
-            .answer(self.alloc, number, line, self.session, self.out)?;
-        Ok(Then::More)
     }
 
-    fn show(&mut self, text: &[u8]) -> Result<(), ScriptFault> {
-        written(self.out.write_all(text))?;
-        Ok(written(self.out.flush())?)
-    }
-
-    fn unreadable(&self, reason: Reason) -> ScriptFault {
-        ScriptFault::Read(reason)
+    fn has_ended(&self) -> bool {
+        self.has_ended || self.session.has_ended()
     }
 }

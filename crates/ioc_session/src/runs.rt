@@ -1,18 +1,17 @@
 //! Whole runs: a database text, and then a script, with what is told beside the replies.
 use crate::arguments::Manner;
-use crate::dialogue::Dialogue;
+use crate::dialogue::{Dialogue, Told};
 use crate::directory::{Directory, Listed};
 use crate::exchange::begins_as_script;
 use crate::expectation::Expectations;
 use crate::tested::Tested;
 use crate::testing::test_script;
-use ioc_command_line::Stage;
 use ioc_dbfile::{Database, Macros, load};
-use ioc_main::{Replay, RunFault, Session};
+use ioc_main::{LineFault, Replay, RunFault, ScriptFault, Session, run_script, write_text};
 use ioc_record::RecordKind;
 use ioc_trace::TraceLog;
 use std::alloc::{AllocError, Global};
-use std::io::{BufReader, Read, Write};
+use std::io::{Read, Write};
 
 // Lists records by their names and types.
 fn listed<K: RecordKind>(alloc: Global, records: &[K]) -> Result<Vec<Listed>, AllocError> {
@@ -42,26 +41,39 @@ fn log_of(alloc: Global, manner: Manner) -> Result<Option<TraceLog>, AllocError>
     }
 }
 
-// Answers a script until its end, or until a user ends it, and drops the session. It is generic
-// because dropping a database part by part is slow to prove.
+// Writes a text.
+fn written<W: Write>(out: &mut W, text: &[u8]) -> Result<(), LineFault> {
+    write_text(out, text)?;
+    Ok(())
+}
+
+// Writes what was traced before the first line, if events are traced.
+fn write_traced<W: Write>(told: &Told, out: &mut W) -> Result<(), LineFault> {
+    let Some(trace) = &told.trace else {
+        return Ok(());
+    };
+    let lines = trace.take()?;
+    written(out, lines.as_slice())
+}
+
+// Answers a script in a dialogue until its end, or until a user ends it, and returns the session. It
+// is generic because dropping a database part by part is slow to prove.
 fn converse<S: Session + Drop, R: Read + Drop, W: Write, E: Write + Drop>(
     alloc: Global,
-    mut session: S,
+    session: S,
     script: R,
     out: &mut W,
-    mut dialogue: Dialogue<E>,
-    is_tested: bool,
-) -> Result<Option<Expectations>, RunFault> {
-    let Ok(mut input) = BufReader::new(alloc, script) else {
-        return Err(RunFault::Memory(Stage::Loading));
-    };
-    if is_tested {
-        let mut tested = Tested::new(alloc, session);
-        dialogue.hold(alloc, &mut tested, &mut input, out)?;
-        return Ok(Some(tested.into_expectations()));
+    errors: E,
+    told: Told,
+) -> Result<S, ScriptFault> {
+    write_traced(&told, out)?;
+    let mut dialogue = Dialogue::new(alloc, session, told, errors);
+    run_script(alloc, &mut dialogue, script, out)?;
+    let (session, is_prompted) = dialogue.into_session();
+    if is_prompted {
+        written(out, b"\n")?;
     }
-    dialogue.hold(alloc, &mut session, &mut input, out)?;
-    Ok(None)
+    Ok(session)
 }
 
 // Answers a script in this manner.
@@ -70,13 +82,26 @@ fn answer_script<S: Session + Drop, R: Read + Drop, W: Write, E: Write + Drop>(
     session: S,
     script: R,
     out: &mut W,
-    dialogue: Dialogue<E>,
+    errors: E,
+    told: Told,
     manner: Manner,
-) -> Result<Option<Expectations>, RunFault> {
+) -> Result<Option<Expectations>, ScriptFault> {
     if manner.is_test_alone() {
         return Ok(Some(test_script(alloc, session, script, out)?));
     }
-    converse(alloc, session, script, out, dialogue, manner.is_tested)
+    if !manner.is_tested {
+        converse(alloc, session, script, out, errors, told)?;
+        return Ok(None);
+    }
+    let tested = converse(
+        alloc,
+        Tested::new(alloc, session),
+        script,
+        out,
+        errors,
+        told,
+    )?;
+    Ok(Some(tested.into_expectations()))
 }
 
 /// Loads a database text with the macros that it may use, and answers a script in this manner until
@@ -112,12 +137,11 @@ pub fn run_dialogue<R: Read + Drop, W: Write, E: Write + Drop>(
     } else {
         None
     };
-    let dialogue = Dialogue {
-        errors,
+    let told = Told {
         directory,
         has_echo: manner.has_echo,
         trace,
         has_prompt: manner.has_prompt,
     };
-    answer_script(alloc, session, script, out, dialogue, manner)
+    Ok(answer_script(alloc, session, script, out, errors, told, manner)?)
 }

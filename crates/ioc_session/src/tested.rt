@@ -52,6 +52,8 @@ impl<S: Session + Drop> Session for Tested<S> {
 
     ghost transcript = { λ t lines. S.transcript t.session (unexpecting lines) };
 
+    ghost is_determined = { λ t. S.is_determined t.session };
+
     ghost no_lines = { λ t. S.no_lines t.session };
 
     ghost long_lines = { λ t a b lines e. same-lines (S.transcript t.session) (S.long_lines t.session) a b lines e };
@@ -71,5 +73,17 @@ impl<S: Session + Drop> Session for Tested<S> {
         note(&mut self.reply, replies);
         note(&mut self.reply, said.more.as_slice());
         Ok(())
+    }
+
+    fn may_write(&mut self) -> bool {
+        self.session.may_write()
+    }
+
+    fn before_read(&mut self) -> Option<&'static [u8]> {
+        self.session.before_read()
+    }
+
+    fn has_ended(&self) -> bool {
+        self.session.has_ended()
     }
 }

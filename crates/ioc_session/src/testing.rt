@@ -12,7 +12,7 @@ use std::alloc::Global;
 use std::io::{Read, Write};
 
 /// Answers a script until its end, and returns its expectations. What is written is what is written
-/// for the lines that expect nothing.
+/// for the lines that expect nothing, if the lines alone determine what the session prints.
 ///
 /// # Errors
 ///
@@ -23,9 +23,9 @@ pub fn test_script<S: Session + Drop, R: Read + Drop, W: Write>(
     script: R,
     out: &mut W,
 ) -> Result<Expectations, ScriptFault>
-    ensures ok { OnOk result (IfSome (R.remaining script) (λ text. Appends (W.contents out.old) (W.contents out.new)
+    ensures ok { S.is_determined session → OnOk result (IfSome (R.remaining script) (λ text. Appends (W.contents out.old) (W.contents out.new)
         (S.transcript session (unexpecting (lines_of text))))) }
-    ensures err { IfErr result (λ fault. IfSome (R.remaining script)
+    ensures err { S.is_determined session → IfErr result (λ fault. IfSome (R.remaining script)
         (λ text. StopsScript fault (W.contents out.old) (S.transcript session (unexpecting (lines_of text)))
         (W.contents out.new))) }
 {

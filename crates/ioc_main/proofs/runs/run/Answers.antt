@@ -25,7 +25,7 @@ returns-in_err-run_whole-clause-err g c =
     let kept = c.in_ok-replay.ensures.names in
     let named : c.in_ok-replay.replay.names ≡ database.names = cc in
     let machine : machine_of c.in_ok-replay.replay.machine ≡ first_machine record_rules database.records = c.in_ok-replay.ensures.machine in
-    err_as _ p (runs_stop c.args.macros.now c.args.db.now database c.in_ok-replay.replay.names (machine_of c.in_ok-replay.replay.machine) c.in_ok-names.ensures named machine c.in_err-run_whole.field-0.0 (g.R.Read.remaining c.args.script) (g.W.Write.contents c.args.out.now) (g.W.Write.contents c.run_whole.new.out) c.in_err-run_whole.ensures.err)
+    err_as _ p (runs_stop c.args.macros.now c.args.db.now database c.in_ok-replay.replay.names (machine_of c.in_ok-replay.replay.machine) c.in_ok-names.ensures named machine c.in_err-run_whole.field-0.0 (g.R.Read.remaining c.args.script) (g.W.Write.contents c.args.out.now) (g.W.Write.contents c.run_whole.new.out) (c.in_err-run_whole.ensures.err tt))
 
 pub returns-clause-ok : goal.returns-clause-ok
 returns-clause-ok g c =
@@ -34,4 +34,4 @@ returns-clause-ok g c =
     let kept = c.in_ok-replay.ensures.names in
     let named : c.in_ok-replay.replay.names ≡ database.names = cc in
     let machine : machine_of c.in_ok-replay.replay.machine ≡ first_machine record_rules database.records = c.in_ok-replay.ensures.machine in
-    runs_whole c.args.macros.now c.args.db.now database c.in_ok-replay.replay.names (machine_of c.in_ok-replay.replay.machine) c.in_ok-names.ensures named machine (g.R.Read.remaining c.args.script) (g.W.Write.contents c.args.out.now) (g.W.Write.contents c.run_whole.new.out) c.in_ok-run_whole.ensures.ok
+    runs_whole c.args.macros.now c.args.db.now database c.in_ok-replay.replay.names (machine_of c.in_ok-replay.replay.machine) c.in_ok-names.ensures named machine (g.R.Read.remaining c.args.script) (g.W.Write.contents c.args.out.now) (g.W.Write.contents c.run_whole.new.out) (c.in_ok-run_whole.ensures.ok tt)
