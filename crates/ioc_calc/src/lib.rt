@@ -1,0 +1,9 @@
+//! Expressions of the calc records: the text of an expression, the program that it is compiled to,
+//! and its run on the inputs A to L.
+//!
+//! Record Reference Manual, "Calculation Record", "CALC Expression".
+#![tactic(auto)]
+
+mod bits;
+mod operations;
+pub mod operators;
