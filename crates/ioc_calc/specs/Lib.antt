@@ -1,1 +1,5 @@
 pub mod Operations
+pub mod Stack
+pub mod Tree
+pub mod Machine
+pub mod Program

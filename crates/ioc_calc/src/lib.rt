@@ -6,4 +6,6 @@
 
 mod bits;
 mod operations;
+pub mod program;
+mod stack;
 pub mod operators;

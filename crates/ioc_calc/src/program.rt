@@ -1,6 +1,126 @@
 //! The program of an expression, and its run.
 
-ghost use Rattle.std.specs.Prelude.{◌≡◌, ◌<◌, ◌≤◌, ◌∷◌, length, ◌≢◌, []};
-ghost use Rattle.ioc_calc.specs.Machine.{Stack_of};
+ghost use Rattle.std.specs.Prelude.{◌≡◌, ◌-◌, ◌≤◌, List, IsTrue, length, take};
+ghost use Rattle.ioc_calc.specs.Tree.{Statement, value_of, arguments_after};
+ghost use Rattle.ioc_calc.specs.Machine.{IsProgramOf, can_run, can_step, stepped, depth_after, unused_after};
 
+use crate::operations::{chosen, of_first, of_next, of_one, of_two, power};
 use crate::operators::{Exponent, Infix, ListFunction, Prefix};
+use crate::stack::Stack;
+use ioc_double::Double;
+
+/// The most steps of a program: an expression has at most as many bytes.
+pub const MAX_STEPS: usize = 79;
+
+/// One step of a run.
+#[derive(Clone, Copy, PartialEq, Eq, Debug)]
+pub enum Step {
+    /// The next number of the text.
+    Number,
+    /// The argument of this place: 0 for A to 11 for L.
+    Argument(u8),
+    /// VAL before the run.
+    Value,
+    /// An operator before its operand.
+    Prefix(Prefix),
+    /// A function, for its first operand.
+    First(ListFunction),
+    /// A function, for one more operand.
+    Next(ListFunction),
+    /// An operator between two operands.
+    Infix(Infix),
+    /// A power.
+    Power(Exponent),
+    /// Keeps the first of two values or the second, by the value before them.
+    Choose,
+    /// Stores a value into the argument of this place.
+    Store(u8),
+}
+
+/// The program of an expression: at most 79 steps, and at most 40 numbers, since a number and what
+/// parts it from the next one have a byte each.
+#[derive(Clone, Copy)]
+pub struct Program {
+    steps: [Step; 79],
+    length: usize,
+    numbers: [f64; 40],
+    ghost long: { length ≤ 79 },
+    ghost runs: { IsTrue (can_run (take length steps) 0 40) },
+}
+
+/// A run that goes on.
+struct Run {
+    stack: Stack,
+    used: usize,
+}
+
+impl Program {
+    ghost use Rattle.ioc_calc.specs.Program.{code_of, machine_of};
+
+    /// Makes one step.
+    #[inline(always)]
+    fn step(&self, step: Step, run: &mut Run, arguments: &mut [Double; 12], value: Double)
+        requires fits { IsTrue (can_step step (length run.old.stack) (40 - run.old.used)) }
+        requires used { run.old.used ≤ 40 }
+        ensures value { machine_of self.now run.new arguments.new ≡ stepped value step (machine_of self.now run.old arguments.old) }
+        ensures depth { length run.new.stack ≡ depth_after step (length run.old.stack) }
+        ensures unused { 40 - run.new.used ≡ unused_after step (40 - run.old.used) }
+        ensures used { run.new.used ≤ 40 }
+    {
+        match step {
+            Step::Number => {
+                run.stack.push(self.numbers[run.used]);
+                run.used += 1;
+            }
+            Step::Argument(place) => run.stack.push(arguments[usize::from(place)].number()),
+            Step::Value => run.stack.push(value.number()),
+            Step::Prefix(operator) => {
+                let x = run.stack.pop();
+                run.stack.push(of_one(operator, x));
+            }
+            Step::First(function) => {
+                let x = run.stack.pop();
+                run.stack.push(of_first(function, x));
+            }
+            Step::Next(function) => {
+                let x = run.stack.pop();
+                let before = run.stack.pop();
+                run.stack.push(of_next(function, before, x));
+            }
+            Step::Infix(operator) => {
+                let y = run.stack.pop();
+                let x = run.stack.pop();
+                run.stack.push(of_two(operator, x, y));
+            }
+            Step::Power(exponent) => {
+                let base = run.stack.pop();
+                run.stack.push(power(base, exponent));
+            }
+            Step::Choose => {
+                let y = run.stack.pop();
+                let x = run.stack.pop();
+                let condition = run.stack.pop();
+                run.stack.push(chosen(condition, x, y));
+            }
+            Step::Store(place) => {
+                arguments[usize::from(place)] = Double::new(run.stack.pop());
+            }
+        }
+    }
+
+    /// Runs the program on the values of A to L, with this VAL before the run, and returns its
+    /// value. What the expression stores is put into the arguments.
+    pub fn run(&self, arguments: &mut [Double; 12], value: Double) -> Double
+        ensures value { (s : List Statement) → IsProgramOf (code_of self.now) s → result ≡ value_of s value arguments.old }
+        ensures arguments { (s : List Statement) → IsProgramOf (code_of self.now) s → arguments.new ≡ arguments_after s value arguments.old }
+    {
+        let mut run = Run {
+            stack: Stack::new(),
+            used: 0,
+        };
+        for i in 0..self.length {
+            self.step(self.steps[i], &mut run, arguments, value);
+        }
+        Double::new(run.stack.pop())
+    }
+}
