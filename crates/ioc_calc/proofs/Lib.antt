@@ -1,3 +1,4 @@
 pub mod Powers
 pub mod Stacks
 pub mod Runs
+pub mod Turns

@@ -1,6 +1,7 @@
 -- A run of the steps of a tree puts what the tree means on the stack.
 use Rattle.std.proofs.Common.{◌≡◌, ℕ, ◌+◌, List, [], ◌∷◌, ◌++◌, refl, ap, ◌∙◌, sym, append_assoc, arith}
 use Rattle.std.specs.Float.Ieee.{Float}
+use Rattle.std.specs.Prelude.{slice_set}
 use Rattle.ioc_calc.specs.declared.program.Step.{Step}
 use Rattle.ioc_calc.specs.declared.program.Step.TheVariants as steps
 use Rattle.ioc_calc.specs.Operations.{zero_float}
@@ -52,3 +53,34 @@ runs v (Choice c s t) args more stack =
     ∙ ap (ran v (steps_of t ++ steps.Choose ∷ [])) (runs v s args (numbers_of t ++ more) (meaning args v c ∷ stack))
     ∙ ran-append v (steps_of t) (steps.Choose ∷ []) (machine args (numbers_of t ++ more) (meaning args v s ∷ meaning args v c ∷ stack))
     ∙ ap (ran v (steps.Choose ∷ [])) (runs v t args more (meaning args v s ∷ meaning args v c ∷ stack))
+
+-- statements of which none is a value leave the stack as it is
+pub runs_all : (v : Float) (ss : List Statement) (args more stack : List Float) → values_in ss ≡ 0 → ran v (all_steps ss) (machine args (all_numbers ss ++ more) stack) ≡ machine (arguments_after ss v args) more stack
+runs_all v [] args more stack h = refl
+runs_all v (Value t ∷ ss) args more stack h = absurd (omega arith)
+runs_all v (Store p t ∷ ss) args more stack h =
+    ap (λ n. ran v (steps_of t ++ (steps.Store p ∷ all_steps ss)) (machine args n stack)) (append_assoc (numbers_of t) (all_numbers ss) more)
+    ∙ ran-append v (steps_of t) (steps.Store p ∷ all_steps ss) (machine args (numbers_of t ++ (all_numbers ss ++ more)) stack)
+    ∙ ap (ran v (steps.Store p ∷ all_steps ss)) (runs v t args (all_numbers ss ++ more) stack)
+    ∙ runs_all v ss (slice_set args p (meaning args v t)) more stack h
+
+-- statements of which one is a value put it on the stack
+pub runs_one : (v : Float) (ss : List Statement) (args more stack : List Float) → values_in ss ≡ 1 → ran v (all_steps ss) (machine args (all_numbers ss ++ more) stack) ≡ machine (arguments_after ss v args) more (value_of ss v args ∷ stack)
+runs_one v [] args more stack h = absurd (omega arith)
+runs_one v (Value t ∷ ss) args more stack h =
+    ap (λ n. ran v (steps_of t ++ all_steps ss) (machine args n stack)) (append_assoc (numbers_of t) (all_numbers ss) more)
+    ∙ ran-append v (steps_of t) (all_steps ss) (machine args (numbers_of t ++ (all_numbers ss ++ more)) stack)
+    ∙ ap (ran v (all_steps ss)) (runs v t args (all_numbers ss ++ more) stack)
+    ∙ runs_all v ss args more (meaning args v t ∷ stack) (omega arith)
+runs_one v (Store p t ∷ ss) args more stack h =
+    ap (λ n. ran v (steps_of t ++ (steps.Store p ∷ all_steps ss)) (machine args n stack)) (append_assoc (numbers_of t) (all_numbers ss) more)
+    ∙ ran-append v (steps_of t) (steps.Store p ∷ all_steps ss) (machine args (numbers_of t ++ (all_numbers ss ++ more)) stack)
+    ∙ ap (ran v (steps.Store p ∷ all_steps ss)) (runs v t args (all_numbers ss ++ more) stack)
+    ∙ runs_one v ss (slice_set args p (meaning args v t)) more stack h
+
+-- the run of a program
+pub program_runs : (v : Float) (code : Code) (ss : List Statement) (args : List Float) (p : IsProgramOf code ss) → ran v code.steps (machine args code.numbers []) ≡ machine (arguments_after ss v args) p.unused (value_of ss v args ∷ [])
+program_runs v code ss args p =
+    ap (λ s. ran v s (machine args code.numbers [])) p.steps
+    ∙ ap (λ n. ran v (all_steps ss) (machine args n [])) p.numbers
+    ∙ runs_one v ss args p.unused [] p.one_value

@@ -49,6 +49,7 @@ pub struct Program {
 }
 
 /// A run that goes on.
+#[derive(Drop)]
 struct Run {
     stack: Stack,
     used: usize,

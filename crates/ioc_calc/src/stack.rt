@@ -6,6 +6,7 @@ ghost use Rattle.ioc_calc.specs.Stack.{top, below};
 use std::marker::Model;
 
 /// The values of a run that wait for their operator, the last one first.
+#[derive(Drop)]
 pub struct Stack {
     values: [f64; 40],
     depth: usize,
@@ -47,10 +48,12 @@ impl Stack {
 
     /// Takes the last value from the stack.
     #[inline(always)]
+    #[tactic(auto, using(crate::proofs::Stacks::stack_length))]
     pub fn pop(&mut self) -> f64
         requires { 0 < length self.old }
         ensures value { result ≡ top self.old }
         ensures rest { self.new ≡ below self.old }
+        ensures room { length self.new < 40 }
     {
         self.depth -= 1;
         self.values[self.depth]
