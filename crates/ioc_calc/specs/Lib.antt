@@ -3,3 +3,5 @@ pub mod Stack
 pub mod Tree
 pub mod Machine
 pub mod Program
+pub mod State
+pub mod Parsing

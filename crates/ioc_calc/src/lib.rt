@@ -6,6 +6,8 @@
 
 mod bits;
 mod operations;
+pub mod parser;
 pub mod program;
 mod stack;
+pub mod token;
 pub mod operators;

@@ -1,0 +1,185 @@
+//! The parser: from the tokens of an expression to its steps and numbers.
+
+ghost use Rattle.std.specs.Prelude.{◌≡◌, option_map};
+ghost use Rattle.ioc_calc.specs.Parsing.{Parsed, at, emitted, with_number, closed, level_of, parse, value_with, choice_with, second_with, level_with, tail_with, operator_with, power_with, operand_with, function_with, arguments_with, more_arguments_with, whole, written, closed_exponent, bracketed, in_brackets, behind_minus, exponent_of};
+
+use std::marker::Model;
+use std::num::saturating_f64_to_u8;
+
+use crate::operators::{Exponent, Infix, ListFunction, Prefix};
+use crate::program::Step;
+use crate::token::Token;
+
+/// The tokens don't follow the grammar.
+#[derive(Clone, Copy, PartialEq, Eq, Debug)]
+pub struct Refused;
+
+/// A part of the grammar.
+#[derive(Clone, Copy, PartialEq, Eq, Debug)]
+pub enum Part {
+    /// A value.
+    Value,
+    /// Operands with operators of this level and the tighter ones: 0 for a single operand, 1 for
+    /// powers, 2 for `*`, 3 for `+`, 4 for comparisons, 5 for `&` and 6 for `|`.
+    Level(u8),
+    /// What may follow an operand of a level: operators of the level, each with an operand.
+    Tail(u8),
+    /// The operands of a function, in brackets.
+    Arguments(ListFunction),
+    /// The operands of a function behind the first.
+    MoreArguments(ListFunction),
+}
+
+/// The tokens that are left, and the steps and numbers of those before.
+#[derive(Drop)]
+pub struct Parser<'a> {
+    tokens: &'a [Token],
+    steps: [Step; 79],
+    length: usize,
+    numbers: [f64; 40],
+    count: usize,
+}
+
+impl<'a> Model for Parser<'a> {
+    ghost use Rattle.std.specs.Prelude.{take, ◌≤◌};
+    ghost use Rattle.ioc_calc.specs.State.{State};
+
+    ghost Value = { State };
+
+    ghost view = { λ p. record { rest = p.tokens.now; steps = take p.length p.steps; numbers = take p.count p.numbers } };
+
+    ghost invariant = { λ p. (p.length ≤ 79) × (p.count ≤ 40) };
+}
+
+/// Returns the level of an operator.
+pub fn level_of(operator: Infix) -> u8
+    ensures { result ≡ level_of operator }
+{
+    match operator {
+        Infix::Multiply | Infix::Divide | Infix::Remainder => 2,
+        Infix::Add | Infix::Subtract => 3,
+        Infix::Less | Infix::LessOrEqual | Infix::Greater | Infix::GreaterOrEqual => 4,
+        Infix::Equal | Infix::NotEqual => 4,
+        Infix::BitAnd | Infix::And => 5,
+        Infix::ShiftLeft | Infix::ShiftRight | Infix::ShiftRightUnsigned => 5,
+        Infix::BitOr | Infix::BitXor | Infix::Or => 6,
+    }
+}
+
+/// Returns the whole number from 0 to 64 that the double is.
+#[tactic(auto, unfolding(crate::specs::Parsing::whole))]
+fn whole(x: f64) -> Option<u8>
+    ensures { result ≡ whole x }
+{
+    let n = saturating_f64_to_u8(x);
+    if n <= 64 && f64::from(n) == x {
+        Some(n)
+    } else {
+        None
+    }
+}
+
+/// Returns an exponent of this size, with the tokens behind it.
+#[tactic(auto, unfolding(crate::specs::Parsing::written))]
+fn written(negative: bool, x: f64, rest: &[Token]) -> Option<(Exponent, &[Token])>
+    ensures { option_map (λ e. (e.0, e.1.now)) result ≡ written negative x rest.now }
+{
+    let size = whole(x)?;
+    Some((Exponent { size, negative }, rest))
+}
+
+/// Returns an exponent of this size if a closing bracket is next.
+fn closed_exponent(negative: bool, x: f64, tokens: &[Token]) -> Option<(Exponent, &[Token])>
+    ensures { option_map (λ e. (e.0, e.1.now)) result ≡ closed_exponent negative x tokens.now }
+{
+    match tokens {
+        [Token::Close, rest @ ..] => written(negative, x, rest),
+        _ => None,
+    }
+}
+
+/// Returns the exponent whose number and closing bracket are next.
+fn bracketed(negative: bool, tokens: &[Token]) -> Option<(Exponent, &[Token])>
+    ensures { option_map (λ e. (e.0, e.1.now)) result ≡ bracketed negative tokens.now }
+{
+    match tokens {
+        [Token::Number(x), rest @ ..] => closed_exponent(negative, *x, rest),
+        _ => None,
+    }
+}
+
+/// Returns the exponent behind an opening bracket.
+fn in_brackets(tokens: &[Token]) -> Option<(Exponent, &[Token])>
+    ensures { option_map (λ e. (e.0, e.1.now)) result ≡ in_brackets tokens.now }
+{
+    match tokens {
+        [Token::Prefix(Prefix::Minus), rest @ ..] => bracketed(true, rest),
+        _ => bracketed(false, tokens),
+    }
+}
+
+/// Returns the exponent behind a sign.
+fn behind_minus(tokens: &[Token]) -> Option<(Exponent, &[Token])>
+    ensures { option_map (λ e. (e.0, e.1.now)) result ≡ behind_minus tokens.now }
+{
+    match tokens {
+        [Token::Number(x), rest @ ..] => written(true, *x, rest),
+        [Token::Open, rest @ ..] => bracketed(true, rest),
+        _ => None,
+    }
+}
+
+/// Returns the exponent that is written at the front, and the tokens behind it: a whole number from
+/// 0 to 64, with at most one sign and at most one pair of brackets.
+pub fn exponent_of(tokens: &[Token]) -> Option<(Exponent, &[Token])>
+    ensures { option_map (λ e. (e.0, e.1.now)) result ≡ exponent_of tokens.now }
+{
+    match tokens {
+        [Token::Number(x), rest @ ..] => written(false, *x, rest),
+        [Token::Prefix(Prefix::Minus), rest @ ..] => behind_minus(rest),
+        [Token::Open, rest @ ..] => in_brackets(rest),
+        _ => None,
+    }
+}
+
+impl Parser<'_> {
+    /// Adds a step.
+    #[tactic(auto, unfolding(crate::specs::Parsing::emitted))]
+    fn emit(&mut self, step: Step) -> Result<(), Refused>
+        ensures { Parsed result self.new (emitted step self.old) }
+    {
+        if self.length == 79 {
+            return Err(Refused);
+        }
+        self.steps[self.length] = step;
+        self.length += 1;
+        Ok(())
+    }
+
+    /// Adds a number.
+    #[tactic(auto, unfolding(crate::specs::Parsing::with_number))]
+    fn number(&mut self, x: f64) -> Result<(), Refused>
+        ensures { Parsed result self.new (with_number x self.old) }
+    {
+        if self.count == 40 {
+            return Err(Refused);
+        }
+        self.numbers[self.count] = x;
+        self.count += 1;
+        self.emit(Step::Number)
+    }
+
+    /// Passes a closing bracket.
+    #[tactic(auto, unfolding(crate::specs::Parsing::closed))]
+    fn close(&mut self) -> Result<(), Refused>
+        ensures { Parsed result self.new (closed self.old) }
+    {
+        match self.tokens {
+            [Token::Close, rest @ ..] => {
+                self.tokens = rest;
+                Ok(())
+            }
+            _ => Err(Refused),
+        }
+    }
+}
