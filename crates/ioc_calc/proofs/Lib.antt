@@ -2,3 +2,4 @@ pub mod Powers
 pub mod Stacks
 pub mod Runs
 pub mod Turns
+pub mod Parses

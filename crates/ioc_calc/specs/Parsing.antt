@@ -2,7 +2,7 @@
 use Rattle.std.specs.Prelude.{ℕ, zero, suc, ◌-◌, ◌≡◌, Option, Some, None, Result, Ok, Err, List, [], ◌∷◌, ◌++◌, length, nat_lt, nat_le, ◌==◌, ◌&&◌, if◌then◌else◌, option_and_then, option_map, pos, true, false, Bool}
 use Rattle.std.specs.Int.{w8}
 use Rattle.std.specs.Float.{float_to_unsigned}
-use Rattle.std.specs.Float.Ieee.{Float, binary64, of_int, eq, nan}
+use Rattle.std.specs.Float.Ieee.{Float, binary64, of_int, eq}
 use Rattle.ioc_calc.specs.declared.operators.Prefix.{Prefix}
 use Rattle.ioc_calc.specs.declared.operators.Prefix.TheVariants.{Minus}
 use Rattle.ioc_calc.specs.declared.operators.ListFunction.{ListFunction}
@@ -108,16 +108,16 @@ second_at reader (tokens.Colon ∷ rest) s = do
   emitted steps.Choose a
 second_at reader (_ ∷ rest) s = None
 
+-- the second value of a choice, behind its colon
+unfoldable pub second_with : Reader → State → Option State
+second_with reader s = second_at reader s.rest s
+
 abbrev pub choice_at : Reader → List Token → State → Option State
 choice_at reader [] s = Some s
 choice_at reader (tokens.Question ∷ rest) s = do
   a ← reader parts.Value (at rest s)
-  second_at reader a.rest a
+  second_with reader a
 choice_at reader (_ ∷ rest) s = Some s
-
--- the second value of a choice, behind its colon
-unfoldable pub second_with : Reader → State → Option State
-second_with reader s = second_at reader s.rest s
 
 unfoldable pub choice_with : Reader → State → Option State
 choice_with reader s = choice_at reader s.rest s
@@ -145,7 +145,7 @@ operand_at reader [] s = None
 operand_at reader (tokens.Number x ∷ rest) s = with_number x (at rest s)
 operand_at reader (tokens.Argument place ∷ rest) s = emitted (steps.Argument place) (at rest s)
 operand_at reader (tokens.Value ∷ rest) s = emitted steps.Value (at rest s)
-operand_at reader (tokens.Random ∷ rest) s = with_number nan (at rest s)
+operand_at reader (tokens.Random ∷ rest) s = emitted steps.Value (at rest s)
 operand_at reader (tokens.Prefix operator ∷ rest) s = do
   a ← reader (parts.Level 0) (at rest s)
   emitted (steps.Prefix operator) a

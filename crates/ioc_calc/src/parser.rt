@@ -1,6 +1,6 @@
 //! The parser: from the tokens of an expression to its steps and numbers.
 
-ghost use Rattle.std.specs.Prelude.{◌≡◌, option_map};
+ghost use Rattle.std.specs.Prelude.{◌≡◌, ◌<◌, option_map};
 ghost use Rattle.ioc_calc.specs.Parsing.{Parsed, at, emitted, with_number, closed, level_of, parse, value_with, choice_with, second_with, level_with, tail_with, operator_with, power_with, operand_with, function_with, arguments_with, more_arguments_with, whole, written, closed_exponent, bracketed, in_brackets, behind_minus, exponent_of};
 
 use std::marker::Model;
@@ -142,7 +142,7 @@ pub fn exponent_of(tokens: &[Token]) -> Option<(Exponent, &[Token])>
     }
 }
 
-impl Parser<'_> {
+impl<'a> Parser<'a> {
     /// Adds a step.
     #[tactic(auto, unfolding(crate::specs::Parsing::emitted))]
     fn emit(&mut self, step: Step) -> Result<(), Refused>
@@ -180,6 +180,219 @@ impl Parser<'_> {
                 Ok(())
             }
             _ => Err(Refused),
+        }
+    }
+
+    /// Reads a part, in at most so many turns into its parts.
+    #[cycle(parts)]
+    #[tactic(auto, using(crate::proofs::Parses::parse_none, crate::proofs::Parses::parse_next))]
+    fn part(&mut self, turns: u16, part: Part) -> Result<(), Refused>
+        ensures { Parsed result self.new (parse turns part self.old) }
+    {
+        if turns == 0 {
+            return Err(Refused);
+        }
+        let turns = turns - 1;
+        match part {
+            Part::Value => self.value(turns),
+            Part::Level(level) => self.level(turns, level),
+            Part::Tail(level) => self.tail(turns, level),
+            Part::Arguments(function) => self.arguments(turns, function),
+            Part::MoreArguments(function) => self.more_arguments(turns, function),
+        }
+    }
+
+    /// Reads a value.
+    #[cycle(parts)]
+    #[tactic(auto, unfolding(crate::specs::Parsing::value_with))]
+    fn value(&mut self, turns: u16) -> Result<(), Refused>
+        ensures { Parsed result self.new (value_with (parse turns) self.old) }
+    {
+        self.part(turns, Part::Level(6))?;
+        self.choice(turns)
+    }
+
+    /// Reads the two sides of a choice, if one follows its condition.
+    #[cycle(parts)]
+    #[tactic(auto, unfolding(crate::specs::Parsing::choice_with))]
+    fn choice(&mut self, turns: u16) -> Result<(), Refused>
+        ensures { Parsed result self.new (choice_with (parse turns) self.old) }
+    {
+        match self.tokens {
+            [Token::Question, rest @ ..] => {
+                self.tokens = rest;
+                self.part(turns, Part::Value)?;
+                self.second_side(turns)
+            }
+            _ => Ok(()),
+        }
+    }
+
+    /// Reads the second side of a choice.
+    #[cycle(parts)]
+    #[tactic(auto, unfolding(crate::specs::Parsing::second_with))]
+    fn second_side(&mut self, turns: u16) -> Result<(), Refused>
+        ensures { Parsed result self.new (second_with (parse turns) self.old) }
+    {
+        match self.tokens {
+            [Token::Colon, rest @ ..] => {
+                self.tokens = rest;
+                self.part(turns, Part::Value)?;
+                self.emit(Step::Choose)
+            }
+            _ => Err(Refused),
+        }
+    }
+
+    /// Reads operands with operators of this level and the tighter ones.
+    #[cycle(parts)]
+    #[tactic(auto, unfolding(crate::specs::Parsing::level_with))]
+    fn level(&mut self, turns: u16, level: u8) -> Result<(), Refused>
+        ensures { Parsed result self.new (level_with (parse turns) level self.old) }
+    {
+        if level == 0 {
+            return self.operand(turns);
+        }
+        self.part(turns, Part::Level(level - 1))?;
+        self.part(turns, Part::Tail(level))
+    }
+
+    /// Reads what may follow an operand of this level.
+    #[cycle(parts)]
+    #[tactic(auto, unfolding(crate::specs::Parsing::tail_with))]
+    fn tail(&mut self, turns: u16, level: u8) -> Result<(), Refused>
+        ensures { Parsed result self.new (tail_with (parse turns) level self.old) }
+    {
+        match self.tokens {
+            [Token::Infix(operator), rest @ ..] => {
+                if level_of(*operator) == level {
+                    self.second_operand(turns, level, *operator, rest)
+                } else {
+                    Ok(())
+                }
+            }
+            [Token::Power(_), rest @ ..] => {
+                if level == 1 {
+                    self.power(turns, rest)
+                } else {
+                    Ok(())
+                }
+            }
+            _ => Ok(()),
+        }
+    }
+
+    /// Reads the operand behind an operator of this level, and what follows.
+    #[cycle(parts)]
+    #[tactic(auto, unfolding(crate::specs::Parsing::operator_with))]
+    fn second_operand(&mut self, turns: u16, level: u8, operator: Infix, rest: &'a [Token]) -> Result<(), Refused>
+        requires { 0 < level }
+        ensures { Parsed result self.new (operator_with (parse turns) level operator rest.now self.old) }
+    {
+        self.tokens = rest;
+        self.part(turns, Part::Level(level - 1))?;
+        self.emit(Step::Infix(operator))?;
+        self.part(turns, Part::Tail(level))
+    }
+
+    /// Reads the exponent behind a power's sign, and what follows. A product stands for a power whose
+    /// exponent isn't written, which is left out.
+    #[cycle(parts)]
+    #[tactic(auto, unfolding(crate::specs::Parsing::power_with))]
+    fn power(&mut self, turns: u16, rest: &'a [Token]) -> Result<(), Refused>
+        ensures { Parsed result self.new (power_with (parse turns) rest.now self.old) }
+    {
+        match exponent_of(rest) {
+            Some((exponent, behind)) => {
+                self.tokens = behind;
+                self.emit(Step::Power(exponent))?;
+            }
+            None => {
+                self.tokens = rest;
+                self.part(turns, Part::Level(0))?;
+                self.emit(Step::Infix(Infix::Multiply))?;
+            }
+        }
+        self.part(turns, Part::Tail(1))
+    }
+
+    /// Reads one operand, with the operators before it.
+    #[cycle(parts)]
+    #[tactic(auto, unfolding(crate::specs::Parsing::operand_with))]
+    fn operand(&mut self, turns: u16) -> Result<(), Refused>
+        ensures { Parsed result self.new (operand_with (parse turns) self.old) }
+    {
+        let [first, rest @ ..] = self.tokens else {
+            return Err(Refused);
+        };
+        let before = self.tokens;
+        self.tokens = rest;
+        match first {
+            Token::Number(x) => self.number(*x),
+            Token::Argument(place) => self.emit(Step::Argument(*place)),
+            Token::Value | Token::Random => self.emit(Step::Value),
+            Token::Prefix(operator) => {
+                self.part(turns, Part::Level(0))?;
+                self.emit(Step::Prefix(*operator))
+            }
+            Token::Open => {
+                self.part(turns, Part::Value)?;
+                self.close()
+            }
+            Token::Function(function) => self.function(turns, *function),
+            Token::LeftOutFunction(_) => self.function(turns, ListFunction::Maximum),
+            _ => {
+                self.tokens = before;
+                Err(Refused)
+            }
+        }
+    }
+
+    /// Reads the operands of a function: in brackets, or one without.
+    #[cycle(parts)]
+    #[tactic(auto, unfolding(crate::specs::Parsing::function_with))]
+    fn function(&mut self, turns: u16, function: ListFunction) -> Result<(), Refused>
+        ensures { Parsed result self.new (function_with (parse turns) function self.old) }
+    {
+        match self.tokens {
+            [] => Err(Refused),
+            [Token::Open, rest @ ..] => {
+                self.tokens = rest;
+                self.part(turns, Part::Arguments(function))?;
+                self.close()
+            }
+            _ => {
+                self.part(turns, Part::Level(0))?;
+                self.emit(Step::First(function))
+            }
+        }
+    }
+
+    /// Reads the operands of a function in brackets.
+    #[cycle(parts)]
+    #[tactic(auto, unfolding(crate::specs::Parsing::arguments_with))]
+    fn arguments(&mut self, turns: u16, function: ListFunction) -> Result<(), Refused>
+        ensures { Parsed result self.new (arguments_with (parse turns) function self.old) }
+    {
+        self.part(turns, Part::Value)?;
+        self.emit(Step::First(function))?;
+        self.part(turns, Part::MoreArguments(function))
+    }
+
+    /// Reads the operands of a function behind the first.
+    #[cycle(parts)]
+    #[tactic(auto, unfolding(crate::specs::Parsing::more_arguments_with))]
+    fn more_arguments(&mut self, turns: u16, function: ListFunction) -> Result<(), Refused>
+        ensures { Parsed result self.new (more_arguments_with (parse turns) function self.old) }
+    {
+        match self.tokens {
+            [Token::Comma, rest @ ..] => {
+                self.tokens = rest;
+                self.part(turns, Part::Value)?;
+                self.emit(Step::Next(function))?;
+                self.part(turns, Part::MoreArguments(function))
+            }
+            _ => Ok(()),
         }
     }
 }
