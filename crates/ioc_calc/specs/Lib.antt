@@ -5,3 +5,5 @@ pub mod Machine
 pub mod Program
 pub mod State
 pub mod Parsing
+pub mod Words
+pub mod Tokens

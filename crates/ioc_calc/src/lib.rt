@@ -5,9 +5,12 @@
 #![tactic(auto)]
 
 mod bits;
+mod lexer;
 mod operations;
 pub mod parser;
 pub mod program;
 mod stack;
+mod tables;
 pub mod token;
+pub mod words;
 pub mod operators;
