@@ -7,3 +7,4 @@ pub mod State
 pub mod Parsing
 pub mod Words
 pub mod Tokens
+pub mod Lexer

@@ -1,5 +1,5 @@
 -- The tokens of a text.
-use Rattle.std.specs.Prelude.{ℕ, zero, suc, ◌+◌, ◌-◌, ◌*◌, Bool, true, false, List, [], ◌∷◌, ◌++◌, nat_le, ◌==◌, ◌&&◌, ◌||◌, if◌then◌else◌, Option, Some, None, option_map, option_and_then}
+use Rattle.std.specs.Prelude.{ℕ, zero, suc, ◌+◌, ◌-◌, ◌*◌, Bool, true, false, List, [], ◌∷◌, ◌++◌, nat_le, ◌==◌, ◌&&◌, ◌||◌, if◌then◌else◌, Option, Some, None, option_and_then}
 use Rattle.std.specs.Float.{float_is_finite}
 use Rattle.std.specs.Float.Parse.{read_float}
 use Rattle.std.specs.Float.Ieee.{Float, binary64}
@@ -48,9 +48,16 @@ hexadecimal_at (b ∷ digits) = if (b == 120) || (b == 88) then counted (hexadec
 unfoldable pub decimal_of : Float × ℕ → Option (Float × ℕ)
 decimal_of found = if float_is_finite found.0 then Some (found.0, found.1 - 1) else None
 
-unfoldable pub decimal_at : ℕ → List ℕ → Option (Float × ℕ)
-decimal_at first rest =
-    if (nat_le 48 first && nat_le first 57) || (first == 46) then option_and_then decimal_of (read_float binary64 (first ∷ rest)) else None
+-- the number of a hexadecimal, and else a decimal
+abbrev pub or_decimal : Option (ℕ × ℕ) → ℕ → List ℕ → Option (Float × ℕ)
+or_decimal (Some h) first text = Some (long_of h.0, h.1)
+or_decimal None first text =
+    if (nat_le 48 first && nat_le first 57) || (first == 46) then option_and_then decimal_of (read_float binary64 text) else None
+
+-- the number at the front of a text
+abbrev pub number_in : List ℕ → Option (Float × ℕ)
+number_in [] = None
+number_in (first ∷ rest) = or_decimal (if first == 48 then hexadecimal_at rest else None) first (first ∷ rest)
 
 -- ---- tokens
 
@@ -58,21 +65,18 @@ decimal_at first rest =
 abbrev pub Found : Type 0
 Found = Option (Token × ℕ)
 
-abbrev pub number_of : Option (ℕ × ℕ) → ℕ → List ℕ → Found
-number_of (Some h) first rest = Some (tokens.Number (long_of h.0), h.1)
-number_of None first rest = option_map (λ (d : Float × ℕ). (tokens.Number d.0, d.1)) (decimal_at first rest)
-
--- a number: hexadecimal, and else decimal
-unfoldable pub number_at : ℕ → List ℕ → Found
-number_at first rest = number_of (if first == 48 then hexadecimal_at rest else None) first rest
-
-abbrev pub or_word : Found → ℕ → List ℕ → Found
+abbrev pub or_word : Option (Float × ℕ) → ℕ → List ℕ → Found
 or_word None first rest = longest_in OPERANDS first rest
-or_word (Some found) first rest = Some found
+or_word (Some number) first rest = Some (tokens.Number number.0, number.1)
 
 -- the longest token at the front, where an operator may stand, or else an operand
-unfoldable pub token_at : Bool → ℕ → List ℕ → Found
-token_at operator_is_next first rest = if operator_is_next then longest_in OPERATORS first rest else or_word (number_at first rest) first rest
+abbrev pub token_in : Bool → List ℕ → Found
+token_in operator_is_next [] = None
+token_in operator_is_next (first ∷ rest) =
+    if operator_is_next then longest_in OPERATORS first rest else or_word (number_in (first ∷ rest)) first rest
+
+unfoldable pub token_at : Bool → List ℕ → Found
+token_at operator_is_next text = token_in operator_is_next text
 
 -- whether the token ends an operand, so that an operator may follow
 abbrev pub ends_operand : Token → Bool
@@ -113,7 +117,7 @@ tokens_from skip operator_is_next [] = Some []
 tokens_from (suc skip) operator_is_next (b ∷ bs) = tokens_from skip operator_is_next bs
 tokens_from zero operator_is_next (b ∷ bs) =
     if is_space b then tokens_from zero operator_is_next bs
-    else next_from (token_at operator_is_next b bs) (λ t more. with_front (t ∷ []) (tokens_from more (ends_operand t) bs))
+    else next_from (token_at operator_is_next (b ∷ bs)) (λ t more. with_front (t ∷ []) (tokens_from more (ends_operand t) bs))
 
 -- the tokens of a text
 abbrev pub tokens_of : List ℕ → Option (List Token)
