@@ -3,3 +3,4 @@ pub mod Stacks
 pub mod Runs
 pub mod Turns
 pub mod Parses
+pub mod Statements

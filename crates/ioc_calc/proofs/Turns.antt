@@ -1,8 +1,8 @@
 -- The turns of a run.
-use Rattle.std.proofs.Common.{◌≡◌, ℕ, suc, ◌+◌, ◌<◌, ◌≤◌, List, [], ◌∷◌, length, take, drop, refl, ap, arith, ◌∙◌, sym, get_or, add-one, subst, IsTrue, true, Bool}
+use Rattle.std.proofs.Common.{◌≡◌, ℕ, suc, ◌+◌, ◌-◌, ◌<◌, ◌≤◌, List, [], ◌∷◌, length, take, drop, refl, ap, arith, ◌∙◌, sym, get_or, add-one, subst, IsTrue, true, Bool}
 use Rattle.std.proofs.Math.Seq.{drop-cons}
 use Rattle.std.proofs.lemmas.List.{get_or-take, length-take}
-use Rattle.std.proofs.lemmas.List.{drop_all}
+use Rattle.std.proofs.lemmas.List.{drop_all, drop-drop, take_all, length-drop}
 use Rattle.std.proofs.lemmas.Bool.{and_parts}
 use Rattle.std.specs.Float.Ieee.{Float}
 use Rattle.std.specs.Prelude.{◌&&◌}
@@ -39,3 +39,11 @@ ended v xs n i numbers ss args m le within p same =
     let short : length (take n xs) ≤ i = omega (arith, length-take n xs) in
     let whole : m ≡ machine (arguments_after ss v args) p.unused (value_of ss v args ∷ []) = sym (ap (λ s. ran v s m) (drop_all i (take n xs) short)) ∙ same ∙ program_runs v (record { steps = take n xs; numbers = numbers }) ss args p in
     (ap (λ (x : Machine). top x.stack) whole, ap (λ (x : Machine). x.arguments) whole)
+
+-- one element less
+pub drop_one : (i : ℕ) (xs : List ℕ) → drop 1 (drop i xs) ≡ drop (i + 1) xs
+drop_one i xs = drop-drop 1 i xs
+
+-- what a slice from i on holds
+pub from_on : (i : ℕ) (xs : List ℕ) → take (length xs - i) (drop i xs) ≡ drop i xs
+from_on i xs = take_all (length xs - i) (drop i xs) (omega (arith, length-drop i xs))

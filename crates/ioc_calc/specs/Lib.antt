@@ -8,3 +8,4 @@ pub mod Parsing
 pub mod Words
 pub mod Tokens
 pub mod Lexer
+pub mod Statements

@@ -169,7 +169,7 @@ impl Lexer {
     ghost use Rattle.ioc_calc.specs.Lexer.{read_by};
 
     /// Makes a lexer that has read nothing.
-    fn new() -> Self
+    pub fn new() -> Self
         ensures tokens { read_by result ≡ [] }
         ensures length { result.length ≡ 0 }
         ensures skip { result.skip ≡ 0 }
@@ -200,7 +200,7 @@ impl Lexer {
     }
 
     /// Reads the byte at the front of the text. Returns `Err` if no token begins with it.
-    fn read(&mut self, text: &[u8], byte: u8) -> Result<(), Refused>
+    pub fn read(&mut self, text: &[u8], byte: u8) -> Result<(), Refused>
         requires room { self.old.length < 79 }
         requires text { (0 < length text.now) × (length text.now < 2 ^ 62) }
         ensures ok { OnOk result (with_front (read_by self.old) (tokens_from self.old.skip self.old.operator_is_next text.now)
@@ -221,6 +221,23 @@ impl Lexer {
                 Ok(())
             }
             None => Err(Refused),
+        }
+    }
+
+    /// Returns the tokens.
+    pub fn tokens(&self) -> &[Token]
+        ensures { result.now ≡ read_by self.now }
+    {
+        &self.tokens[..self.length]
+    }
+
+    /// Returns the byte at which the token stands that has so many tokens from it on, or the end
+    /// where there is none.
+    pub fn byte_of(&self, remaining: usize, end: usize) -> usize {
+        if remaining == 0 || remaining > self.length {
+            end
+        } else {
+            usize::from(self.bytes[self.length - remaining])
         }
     }
 }

@@ -5,8 +5,11 @@
 #![tactic(auto)]
 
 mod bits;
+pub mod compile;
+mod grammar;
 mod lexer;
 mod operations;
+mod scan;
 pub mod parser;
 pub mod program;
 mod stack;

@@ -1,14 +1,19 @@
 //! The parser: from the tokens of an expression to its steps and numbers.
 
-ghost use Rattle.std.specs.Prelude.{◌≡◌, ◌<◌, option_map};
+ghost use Rattle.std.specs.Prelude.{◌≡◌, ◌<◌, ◌&&◌, ◌||◌, [], length, option_map};
 ghost use Rattle.ioc_calc.specs.Parsing.{Parsed, at, emitted, with_number, closed, level_of, parse, value_with, choice_with, second_with, level_with, tail_with, operator_with, power_with, operand_with, function_with, arguments_with, more_arguments_with, whole, written, closed_exponent, bracketed, in_brackets, behind_minus, exponent_of};
+
+ghost use Rattle.ioc_calc.specs.Statements.{stored_in, stored_behind, statement_with, statements, ended};
 
 use std::marker::Model;
 use std::num::saturating_f64_to_u8;
 
 use crate::operators::{Exponent, Infix, ListFunction, Prefix};
-use crate::program::Step;
+use crate::program::{Program, Step};
 use crate::token::Token;
+
+/// As many turns as no expression of 79 bytes needs.
+const TURNS: u16 = 2000;
 
 /// The tokens don't follow the grammar.
 #[derive(Clone, Copy, PartialEq, Eq, Debug)]
@@ -142,7 +147,66 @@ pub fn exponent_of(tokens: &[Token]) -> Option<(Exponent, &[Token])>
     }
 }
 
+/// Returns the place of the argument and the tokens behind `:=`, if an argument and `:=` are next.
+pub fn stored_in(tokens: &[Token]) -> Option<(u8, &[Token])>
+    ensures { option_map (λ found. (found.0, found.1.now)) result ≡ stored_in tokens.now }
+{
+    match tokens {
+        [Token::Argument(place), rest @ ..] => stored_behind(*place, rest),
+        _ => None,
+    }
+}
+
+/// Returns the place and the tokens behind `:=`, if it is next.
+fn stored_behind(place: u8, tokens: &[Token]) -> Option<(u8, &[Token])>
+    ensures { option_map (λ found. (found.0, found.1.now)) result ≡ stored_behind place tokens.now }
+{
+    match tokens {
+        [Token::Assign, rest @ ..] => Some((place, rest)),
+        _ => None,
+    }
+}
+
+fn both(a: bool, b: bool) -> bool
+    ensures { result ≡ (a && b) }
+{
+    a && b
+}
+
+fn either(a: bool, b: bool) -> bool
+    ensures { result ≡ (a || b) }
+{
+    a || b
+}
+
 impl<'a> Parser<'a> {
+    /// Makes a parser of these tokens.
+    pub fn new(tokens: &'a [Token]) -> Self
+        ensures rest { result.rest ≡ tokens.now }
+        ensures steps { result.steps ≡ [] }
+        ensures numbers { result.numbers ≡ [] }
+    {
+        Parser {
+            tokens,
+            steps: [Step::Choose; 79],
+            length: 0,
+            numbers: [0.0; 40],
+            count: 0,
+        }
+    }
+
+    /// Returns how many tokens are left.
+    pub fn remaining(&self) -> usize
+        ensures { result ≡ length self.now.rest }
+    {
+        self.tokens.len()
+    }
+
+    /// Returns the program of the tokens that were read, if it can run.
+    pub fn program(&self) -> Option<Program> {
+        Program::new(&self.steps, self.length, &self.numbers)
+    }
+
     /// Adds a step.
     #[tactic(auto, unfolding(crate::specs::Parsing::emitted))]
     fn emit(&mut self, step: Step) -> Result<(), Refused>
@@ -393,6 +457,61 @@ impl<'a> Parser<'a> {
                 self.part(turns, Part::MoreArguments(function))
             }
             _ => Ok(()),
+        }
+    }
+
+    /// Reads a statement.
+    #[tactic(auto, unfolding(crate::specs::Statements::statement_with))]
+    fn statement(&mut self) -> Result<(), Refused>
+        ensures { Parsed result self.new (statement_with self.old) }
+    {
+        match stored_in(self.tokens) {
+            Some((place, rest)) => {
+                self.tokens = rest;
+                self.part(TURNS, Part::Value)?;
+                self.emit(Step::Store(place))
+            }
+            None => self.part(TURNS, Part::Value),
+        }
+    }
+
+    /// Reads statements up to the end. `has_value` says whether one before them is a value: exactly one
+    /// has to be.
+    #[cycle(statements)]
+    #[tactic(auto, unfolding(crate::specs::Statements::statement_and), using(crate::proofs::Statements::statements_none, crate::proofs::Statements::statements_next))]
+    pub fn statements(&mut self, turns: u8, has_value: bool) -> Result<(), Refused>
+        ensures { Parsed result self.new (statements turns has_value self.old) }
+    {
+        if turns == 0 {
+            return Err(Refused);
+        }
+        let is_value = stored_in(self.tokens).is_none();
+        if both(is_value, has_value) {
+            return Err(Refused);
+        }
+        self.statement()?;
+        self.ended(turns - 1, either(has_value, is_value))
+    }
+
+    /// Reads what follows a statement: the end, or a semicolon and other statements.
+    #[cycle(statements)]
+    #[tactic(auto, unfolding(crate::specs::Statements::ended))]
+    fn ended(&mut self, turns: u8, has_value: bool) -> Result<(), Refused>
+        ensures { Parsed result self.new (ended (statements turns has_value) has_value self.old) }
+    {
+        match self.tokens {
+            [] => {
+                if has_value {
+                    Ok(())
+                } else {
+                    Err(Refused)
+                }
+            }
+            [Token::Semicolon, rest @ ..] => {
+                self.tokens = rest;
+                self.statements(turns, has_value)
+            }
+            _ => Err(Refused),
         }
     }
 }

@@ -37,6 +37,62 @@ pub enum Step {
     Store(u8),
 }
 
+/// Returns whether a step can be made with so many values on the stack and so many numbers unused.
+fn can_step(step: Step, depth: usize, numbers: usize) -> bool
+    ensures { result ≡ can_step step depth numbers }
+{
+    match step {
+        Step::Number => depth < 40 && numbers > 0,
+        Step::Argument(place) => depth < 40 && place < 12,
+        Step::Value => depth < 40,
+        Step::Prefix(_) | Step::First(_) | Step::Power(_) => depth > 0,
+        Step::Next(_) | Step::Infix(_) => depth > 1,
+        Step::Choose => depth > 2,
+        Step::Store(place) => depth > 0 && place < 12,
+    }
+}
+
+/// Returns how many values are on the stack after a step.
+fn depth_after(step: Step, depth: usize) -> usize
+    requires { depth ≤ 40 }
+    ensures { result ≡ depth_after step depth }
+{
+    match step {
+        Step::Number | Step::Argument(_) | Step::Value => depth + 1,
+        Step::Prefix(_) | Step::First(_) | Step::Power(_) => depth,
+        Step::Next(_) | Step::Infix(_) | Step::Store(_) => depth.saturating_sub(1),
+        Step::Choose => depth.saturating_sub(2),
+    }
+}
+
+/// Returns how many numbers are unused after a step.
+fn unused_after(step: Step, numbers: usize) -> usize
+    ensures { result ≡ unused_after step numbers }
+{
+    match step {
+        Step::Number => numbers.saturating_sub(1),
+        _ => numbers,
+    }
+}
+
+/// Returns whether steps can run with so many values on the stack and so many numbers unused, and
+/// leave one value.
+fn can_run(steps: &[Step], depth: usize, numbers: usize) -> bool
+    requires { depth ≤ 40 }
+    ensures { result ≡ can_run steps.now depth numbers }
+{
+    match steps {
+        [] => depth == 1,
+        [step, rest @ ..] => {
+            if can_step(*step, depth, numbers) {
+                can_run(rest, depth_after(*step, depth), unused_after(*step, numbers))
+            } else {
+                false
+            }
+        }
+    }
+}
+
 /// The program of an expression: at most 79 steps, and at most 40 numbers, since a number and what
 /// parts it from the next one have a byte each.
 #[derive(Clone, Copy)]
@@ -57,6 +113,21 @@ struct Run {
 
 impl Program {
     ghost use Rattle.ioc_calc.specs.Program.{code_of, machine_of};
+
+    /// Makes a program, if its steps can run.
+    pub fn new(steps: &[Step; 79], length: usize, numbers: &[f64; 40]) -> Option<Self>
+        requires { length ≤ 79 }
+    {
+        if can_run(&steps[..length], 0, 40) {
+            Some(Program {
+                steps: *steps,
+                length,
+                numbers: *numbers,
+            })
+        } else {
+            None
+        }
+    }
 
     /// Makes one step.
     #[inline(always)]
