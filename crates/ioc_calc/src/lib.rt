@@ -5,7 +5,7 @@
 #![tactic(auto)]
 
 mod bits;
-pub mod compile;
+mod compiling;
 mod grammar;
 mod lexer;
 mod operations;
@@ -17,3 +17,7 @@ mod tables;
 pub mod token;
 pub mod words;
 pub mod operators;
+
+pub use compiling::{CalcFault, CalcFaultKind, compile};
+pub use program::Program;
+pub use token::LeftOut;

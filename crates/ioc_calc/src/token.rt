@@ -63,3 +63,28 @@ pub enum Token {
     /// `;`
     Semicolon,
 }
+
+impl LeftOut {
+    /// Returns the name, in capitals, or the sign.
+    pub fn name(self) -> &'static str {
+        match self {
+            LeftOut::Acos => "ACOS",
+            LeftOut::Asin => "ASIN",
+            LeftOut::Atan => "ATAN",
+            LeftOut::Atan2 => "ATAN2",
+            LeftOut::Cos => "COS",
+            LeftOut::Cosh => "COSH",
+            LeftOut::Exp => "EXP",
+            LeftOut::Ln => "LN",
+            LeftOut::Log => "LOG",
+            LeftOut::Loge => "LOGE",
+            LeftOut::Rndm => "RNDM",
+            LeftOut::Sin => "SIN",
+            LeftOut::Sinh => "SINH",
+            LeftOut::Tan => "TAN",
+            LeftOut::Tanh => "TANH",
+            LeftOut::Caret => "^",
+            LeftOut::Stars => "**",
+        }
+    }
+}
