@@ -6,7 +6,6 @@
 use ioc_calc::{CalcFaultKind, compile};
 use ioc_double::Double;
 use std::alloc::Global;
-use std::fmt::Write;
 use std::io;
 use std::num::{f64_from_bits_with_nan, f64_to_bits_with_nan};
 
@@ -15,12 +14,39 @@ fn double(text: &str) -> Double {
     Double::new(f64_from_bits_with_nan(bits))
 }
 
-fn shown(alloc: Global, value: Double) -> Result<String, io::Error> {
+fn push_double(alloc: Global, text: &mut String, value: Double) -> Result<(), io::Error> {
     let x = value.number();
     if x.is_nan() {
-        return Ok(format!(in alloc; "nan")?);
+        text.push_str("nan")?;
+        return Ok(());
     }
-    Ok(format!(in alloc; "{:016x}", f64_to_bits_with_nan(x))?)
+    let digits = format!(in alloc; "{:016x}", f64_to_bits_with_nan(x))?;
+    text.push_str(&digits)?;
+    Ok(())
+}
+
+fn push_stores(alloc: Global, text: &mut String, before: &[Double], after: &[Double]) -> Result<(), io::Error> {
+    let names = "ABCDEFGHIJKL";
+    for (name, (old, new)) in names.chars().zip(before.iter().zip(after.iter())) {
+        if *old != *new {
+            text.push(' ')?;
+            text.push(name)?;
+            text.push('=')?;
+            push_double(alloc, text, *new)?;
+        }
+    }
+    Ok(())
+}
+
+fn refusal(alloc: Global, kind: CalcFaultKind) -> Result<String, io::Error> {
+    match kind {
+        CalcFaultKind::Bad => Ok(String::from_str(alloc, "bad calc")?),
+        CalcFaultKind::LeftOut(word) => {
+            let mut text = String::from_str(alloc, "left out in calc: ")?;
+            text.push_str(word.name())?;
+            Ok(text)
+        }
+    }
 }
 
 fn answer(alloc: Global, line: &str) -> Result<String, io::Error> {
@@ -34,22 +60,12 @@ fn answer(alloc: Global, line: &str) -> Result<String, io::Error> {
     let before = arguments;
     let program = match compile(expression.as_bytes()) {
         Ok(program) => program,
-        Err(fault) => {
-            return match fault.kind {
-                CalcFaultKind::Bad => Ok(format!(in alloc; "bad calc")?),
-                CalcFaultKind::LeftOut(word) => Ok(format!(in alloc; "left out in calc: {}", word.name())?),
-            };
-        }
+        Err(fault) => return refusal(alloc, fault.kind),
     };
     let result = program.run(&mut arguments, value);
-    let result_text = shown(alloc, result)?;
-    let mut text = format!(in alloc; "ok {result_text}")?;
-    for (i, name) in ["A", "B", "C", "D", "E", "F", "G", "H", "I", "J", "K", "L"].iter().enumerate() {
-        if arguments[i] != before[i] {
-            let stored = shown(alloc, arguments[i])?;
-            write!(text, " {name}={stored}").map_err(|_| io::Error::from(io::ErrorKind::OutOfMemory))?;
-        }
-    }
+    let mut text = String::from_str(alloc, "ok ")?;
+    push_double(alloc, &mut text, result)?;
+    push_stores(alloc, &mut text, &before, &arguments)?;
     Ok(text)
 }
 
