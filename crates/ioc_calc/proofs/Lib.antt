@@ -4,3 +4,4 @@ pub mod Runs
 pub mod Turns
 pub mod Parses
 pub mod Statements
+pub mod Sound

@@ -9,3 +9,4 @@ pub mod Words
 pub mod Tokens
 pub mod Lexer
 pub mod Statements
+pub mod Grammar
