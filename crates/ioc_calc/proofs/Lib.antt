@@ -5,3 +5,8 @@ pub mod Turns
 pub mod Parses
 pub mod Statements
 pub mod Sound
+pub mod SoundStatements
+pub mod Codes
+pub mod Sizes
+pub mod Compiled
+pub mod Complete

@@ -192,7 +192,7 @@ level_sound r sound (suc k) s s' h =
                 (record { tree = g.tree; reads = tighter k s.rest b.0.rest g.tree g.reads; steps = g.steps; numbers = g.numbers })
     ]
 
-some_same : {A : Type 0} (x y : A) → Some x ≡ Some y → x ≡ y
+pub some_same : {A : Type 0} (x y : A) → Some x ≡ Some y → x ≡ y
 some_same x y h = cc
 
 unchanged : (p : Phrase) (us : List Token) (base : List Step) (known : List Float) (s s' : State) → Some s ≡ Some s' → Grown p us base known s → Grown p us base known s'

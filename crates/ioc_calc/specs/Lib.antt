@@ -10,3 +10,5 @@ pub mod Tokens
 pub mod Lexer
 pub mod Statements
 pub mod Grammar
+pub mod HasCode
+pub mod Compiles

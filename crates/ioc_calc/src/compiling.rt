@@ -1,11 +1,12 @@
 //! From the text of an expression to its program.
 
-use crate::grammar::left_out_in;
-use crate::lexer::Lexer;
-use crate::parser::Parser;
+ghost use Rattle.std.specs.Prelude.{◌≡◌, IfOk};
+ghost use Rattle.ioc_calc.specs.Program.{code_of};
+ghost use Rattle.ioc_calc.specs.Compiles.{IsProgramOfTokens};
+
+use crate::parser::{Parser, Refused};
 use crate::program::Program;
-use crate::scan::lexed;
-use crate::token::LeftOut;
+use crate::token::{LeftOut, Token};
 
 /// What is wrong with an expression.
 #[derive(Clone, Copy, PartialEq, Eq, Debug)]
@@ -23,33 +24,17 @@ pub struct CalcFault {
     pub byte: usize,
 }
 
-/// Compiles an expression of 1 to 79 bytes.
-pub fn compile(text: &[u8]) -> Result<Program, CalcFault> {
-    if text.is_empty() || text.len() > 79 {
-        return Err(bad(text.len().min(79)));
-    }
-    let lexer = match lexed(text) {
-        Ok(lexer) => lexer,
-        Err(byte) => return Err(bad(byte)),
-    };
-    let tokens = lexer.tokens();
+/// Returns the program of the tokens. Returns how many tokens are left at the fault, if they don't
+/// follow the grammar.
+pub fn parsed(tokens: &[Token]) -> Result<Program, usize>
+    ensures ok { IfOk result (λ p. IsProgramOfTokens tokens.now (code_of p)) }
+{
     let mut parser = Parser::new(tokens);
-    if parser.statements(80, false).is_err() {
-        return Err(bad(lexer.byte_of(parser.remaining(), text.len())));
-    }
-    if let Some((word, rest)) = left_out_in(tokens) {
-        let byte = lexer.byte_of(rest.len(), text.len());
-        return Err(CalcFault {
-            kind: CalcFaultKind::LeftOut(word),
-            byte,
-        });
-    }
-    parser.program().ok_or(bad(0))
-}
-
-fn bad(byte: usize) -> CalcFault {
-    CalcFault {
-        kind: CalcFaultKind::Bad,
-        byte,
+    match parser.statements(80, false) {
+        Ok(()) => match parser.program() {
+            Some(program) => Ok(program),
+            None => Err(0),
+        },
+        Err(Refused) => Err(parser.remaining()),
     }
 }

@@ -6,6 +6,7 @@
 
 mod bits;
 mod compiling;
+mod expression;
 mod grammar;
 mod lexer;
 mod operations;
@@ -18,6 +19,7 @@ pub mod token;
 pub mod words;
 pub mod operators;
 
-pub use compiling::{CalcFault, CalcFaultKind, compile};
+pub use compiling::{CalcFault, CalcFaultKind};
+pub use expression::compile;
 pub use program::Program;
 pub use token::LeftOut;

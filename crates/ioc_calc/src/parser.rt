@@ -1,9 +1,13 @@
 //! The parser: from the tokens of an expression to its steps and numbers.
 
-ghost use Rattle.std.specs.Prelude.{◌≡◌, ◌<◌, ◌&&◌, ◌||◌, [], length, option_map};
+ghost use Rattle.std.specs.Prelude.{◌≡◌, ◌<◌, ◌&&◌, ◌||◌, [], length, option_map, IfSome, IfNone, false};
 ghost use Rattle.ioc_calc.specs.Parsing.{Parsed, at, emitted, with_number, closed, level_of, parse, value_with, choice_with, second_with, level_with, tail_with, operator_with, power_with, operand_with, function_with, arguments_with, more_arguments_with, whole, written, closed_exponent, bracketed, in_brackets, behind_minus, exponent_of};
 
 ghost use Rattle.ioc_calc.specs.Statements.{stored_in, stored_behind, statement_with, statements, ended};
+
+ghost use Rattle.ioc_calc.specs.Program.{code_of};
+ghost use Rattle.ioc_calc.specs.Machine.{can_run};
+ghost use Rattle.ioc_calc.specs.HasCode.{HasCode};
 
 use std::marker::Model;
 use std::num::saturating_f64_to_u8;
@@ -203,7 +207,10 @@ impl<'a> Parser<'a> {
     }
 
     /// Returns the program of the tokens that were read, if it can run.
-    pub fn program(&self) -> Option<Program> {
+    pub fn program(&self) -> Option<Program>
+        ensures some { IfSome result (λ p. HasCode (code_of p) self.now) }
+        ensures none { IfNone result (can_run self.now.steps 0 40 ≡ false) }
+    {
         Program::new(&self.steps, self.length, &self.numbers)
     }
 

@@ -1,6 +1,6 @@
 //! The program of an expression, and its run.
 
-ghost use Rattle.std.specs.Prelude.{◌≡◌, ◌-◌, ◌≤◌, List, IsTrue, length, take};
+ghost use Rattle.std.specs.Prelude.{◌≡◌, ◌-◌, ◌≤◌, List, IsTrue, IfSome, IfNone, false, length, take};
 ghost use Rattle.ioc_calc.specs.Tree.{Statement, value_of, arguments_after};
 ghost use Rattle.ioc_calc.specs.Machine.{IsProgramOf, can_run, can_step, stepped, depth_after, unused_after};
 
@@ -117,6 +117,8 @@ impl Program {
     /// Makes a program, if its steps can run.
     pub fn new(steps: &[Step; 79], length: usize, numbers: &[f64; 40]) -> Option<Self>
         requires { length ≤ 79 }
+        ensures some { IfSome result (λ p. code_of p ≡ record { steps = take length steps.now; numbers = numbers.now }) }
+        ensures none { IfNone result (can_run (take length steps.now) 0 40 ≡ false) }
     {
         if can_run(&steps[..length], 0, 40) {
             Some(Program {
