@@ -10,3 +10,4 @@ pub mod Codes
 pub mod Sizes
 pub mod Compiled
 pub mod Complete
+pub mod Fits

@@ -95,7 +95,7 @@ ran before (step ∷ rest) m = ran before rest (stepped before step m)
 -- the values that it needs, and the stack never has more than 40.
 abbrev pub can_step : Step → ℕ → ℕ → Bool
 can_step steps.Number depth numbers = nat_lt depth 40 && nat_lt 0 numbers
-can_step (steps.Argument place) depth numbers = nat_lt depth 40 && nat_lt place 12
+can_step (steps.Argument place) depth numbers = nat_lt depth 40
 can_step steps.Value depth numbers = nat_lt depth 40
 can_step (steps.Prefix operator) depth numbers = nat_lt 0 depth
 can_step (steps.First function) depth numbers = nat_lt 0 depth
@@ -103,7 +103,7 @@ can_step (steps.Next function) depth numbers = nat_lt 1 depth
 can_step (steps.Infix operator) depth numbers = nat_lt 1 depth
 can_step (steps.Power exponent) depth numbers = nat_lt 0 depth
 can_step steps.Choose depth numbers = nat_lt 2 depth
-can_step (steps.Store place) depth numbers = nat_lt 0 depth && nat_lt place 12
+can_step (steps.Store place) depth numbers = nat_lt 0 depth
 
 -- how many values are on the stack after a step
 abbrev pub depth_after : Step → ℕ → ℕ

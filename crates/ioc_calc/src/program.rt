@@ -1,6 +1,7 @@
 //! The program of an expression, and its run.
 
-ghost use Rattle.std.specs.Prelude.{◌≡◌, ◌-◌, ◌≤◌, List, IsTrue, IfSome, IfNone, false, length, take};
+ghost use Rattle.std.specs.Prelude.{◌≡◌, ◌-◌, ◌≤◌, List, IsTrue, IfSome, IfNone, false, length, take, slice_index_or, slice_set};
+ghost use Rattle.ioc_calc.specs.Operations.{zero_float};
 ghost use Rattle.ioc_calc.specs.Tree.{Statement, value_of, arguments_after};
 ghost use Rattle.ioc_calc.specs.Machine.{IsProgramOf, can_run, can_step, stepped, depth_after, unused_after};
 
@@ -43,12 +44,10 @@ fn can_step(step: Step, depth: usize, numbers: usize) -> bool
 {
     match step {
         Step::Number => depth < 40 && numbers > 0,
-        Step::Argument(place) => depth < 40 && place < 12,
-        Step::Value => depth < 40,
-        Step::Prefix(_) | Step::First(_) | Step::Power(_) => depth > 0,
+        Step::Argument(_) | Step::Value => depth < 40,
+        Step::Prefix(_) | Step::First(_) | Step::Power(_) | Step::Store(_) => depth > 0,
         Step::Next(_) | Step::Infix(_) => depth > 1,
         Step::Choose => depth > 2,
-        Step::Store(place) => depth > 0 && place < 12,
     }
 }
 
@@ -111,6 +110,28 @@ struct Run {
     used: usize,
 }
 
+/// Returns the argument of this place. There are 12.
+#[inline(always)]
+fn argument_at(arguments: &[Double; 12], place: usize) -> f64
+    ensures { result ≡ slice_index_or arguments.now place zero_float }
+{
+    if place < 12 {
+        arguments[place].number()
+    } else {
+        0.0
+    }
+}
+
+/// Stores a value into the argument of this place. There are 12.
+#[inline(always)]
+fn store_at(arguments: &mut [Double; 12], place: usize, x: f64)
+    ensures { arguments.new ≡ slice_set arguments.old place x }
+{
+    if place < 12 {
+        arguments[place] = Double::new(x);
+    }
+}
+
 impl Program {
     ghost use Rattle.ioc_calc.specs.Program.{code_of, machine_of};
 
@@ -146,7 +167,10 @@ impl Program {
                 run.stack.push(self.numbers[run.used]);
                 run.used += 1;
             }
-            Step::Argument(place) => run.stack.push(arguments[usize::from(place)].number()),
+            Step::Argument(place) => {
+                let x = argument_at(arguments, usize::from(place));
+                run.stack.push(x);
+            }
             Step::Value => run.stack.push(value.number()),
             Step::Prefix(operator) => {
                 let x = run.stack.pop();
@@ -177,7 +201,8 @@ impl Program {
                 run.stack.push(chosen(condition, x, y));
             }
             Step::Store(place) => {
-                arguments[usize::from(place)] = Double::new(run.stack.pop());
+                let x = run.stack.pop();
+                store_at(arguments, usize::from(place), x);
             }
         }
     }
