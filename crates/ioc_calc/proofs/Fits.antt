@@ -72,7 +72,7 @@ true_and true b c h e = e
 true_and false b c h e = cc
 
 -- one step
-step_runs : (s : Step) (more' : List Step) (d n e m : ℕ) → can_step s d n ≡ true → depth_after s d ≡ e → unused_after s n ≡ m → can_run (s ∷ more') d n ≡ can_run more' e m
+pub step_runs : (s : Step) (more' : List Step) (d n e m : ℕ) → can_step s d n ≡ true → depth_after s d ≡ e → unused_after s n ≡ m → can_run (s ∷ more') d n ≡ can_run more' e m
 step_runs s more' d n e m h de ue = true_and (can_step s d n) _ (can_run more' e m) h (ap (λ x. can_run more' x (unused_after s n)) de ∙ ap (λ x. can_run more' e x) ue)
 
 -- a tree puts one value on the stack

@@ -11,3 +11,5 @@ pub mod Sizes
 pub mod Compiled
 pub mod Complete
 pub mod Fits
+pub mod CompleteStatements
+pub mod Refused

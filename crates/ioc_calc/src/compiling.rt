@@ -1,8 +1,8 @@
 //! From the text of an expression to its program.
 
-ghost use Rattle.std.specs.Prelude.{◌≡◌, IfOk};
+ghost use Rattle.std.specs.Prelude.{◌≡◌, ◌≤◌, IfOk, OnErr, length};
 ghost use Rattle.ioc_calc.specs.Program.{code_of};
-ghost use Rattle.ioc_calc.specs.Compiles.{IsProgramOfTokens};
+ghost use Rattle.ioc_calc.specs.Compiles.{IsProgramOfTokens, AreNoStatements};
 
 use crate::parser::{Parser, Refused};
 use crate::program::Program;
@@ -27,7 +27,9 @@ pub struct CalcFault {
 /// Returns the program of the tokens. Returns how many tokens are left at the fault, if they don't
 /// follow the grammar.
 pub fn parsed(tokens: &[Token]) -> Result<Program, usize>
+    requires { length tokens.now ≤ 79 }
     ensures ok { IfOk result (λ p. IsProgramOfTokens tokens.now (code_of p)) }
+    ensures err { OnErr result (AreNoStatements tokens.now) }
 {
     let mut parser = Parser::new(tokens);
     match parser.statements(80, false) {

@@ -1,34 +1,75 @@
-//! From the text of an expression to its program.
+//! The text of an expression and its program.
 
-ghost use Rattle.std.specs.Prelude.{◌≡◌, ◌≤◌, IfOk, IfErr, OnErr, length, List};
+ghost use Rattle.std.specs.Prelude.{◌≡◌, ◌<◌, ◌≤◌, IfOk, IfErr, OnErr, Some, length, List};
+ghost use Rattle.ioc_calc.specs.Lexer.{read_by};
+ghost use Rattle.ioc_calc.specs.Program.{code_of};
+ghost use Rattle.ioc_calc.specs.Tree.{Statement};
+ghost use Rattle.ioc_calc.specs.Tokens.{tokens_of};
+ghost use Rattle.ioc_calc.specs.Grammar.{IsExpression};
+ghost use Rattle.ioc_calc.specs.Compiles.{Compiles, IsFault};
 
 use crate::compiling::{CalcFault, CalcFaultKind, parsed};
 use crate::grammar::left_out_in;
+use crate::lexer::Lexer;
 use crate::program::Program;
 use crate::scan::lexed;
 
-/// Compiles an expression of 1 to 79 bytes.
-pub fn compile(text: &[u8]) -> Result<Program, CalcFault> {
-    if text.is_empty() || text.len() > 79 {
-        return Err(bad(text.len().min(79)));
+/// Compiles an expression, a text of 1 to 79 bytes. Returns why the text is refused, if it doesn't
+/// follow the grammar of expressions or if something in it is left out: then the first that is.
+///
+/// For `A*B+1` the program returns 7 where A is 1.5 and B is 4. `B:=A+1;A*B` stores A+1 into B and
+/// returns A*B. `SIN(A)` is refused as left out, and `A+` as bad.
+pub fn compile(text: &[u8]) -> Result<Program, CalcFault>
+    ensures compiled { IfOk result (λ p. Compiles text.now (code_of p)) }
+    ensures refused { OnErr result ((statements : List Statement) → IsExpression text.now statements → ⊥) }
+    ensures fault { IfErr result (λ fault. IsFault text.now fault.kind) }
+{
+    let compiled = compiled(text);
+    compiled
+}
+
+/// Compiles an expression.
+fn compiled(text: &[u8]) -> Result<Program, CalcFault>
+    ensures compiled { IfOk result (λ p. Compiles text.now (code_of p)) }
+    ensures fault { IfErr result (λ fault. IsFault text.now fault.kind) }
+{
+    if text.is_empty() {
+        return Err(bad(0));
     }
-    let lexer = match lexed(text) {
-        Ok(lexer) => lexer,
-        Err(byte) => return Err(bad(byte)),
-    };
-    match parsed(lexer.tokens()) {
-        Err(remaining) => Err(bad(lexer.byte_of(remaining, text.len()))),
-        Ok(program) => match left_out_in(lexer.tokens()) {
-            None => Ok(program),
-            Some((word, rest)) => Err(CalcFault {
-                kind: CalcFaultKind::LeftOut(word),
-                byte: lexer.byte_of(rest.len(), text.len()),
-            }),
-        },
+    if text.len() > 79 {
+        return Err(bad(79));
+    }
+    match lexed(text) {
+        Ok(lexer) => compiled_tokens(text, &lexer),
+        Err(byte) => Err(bad(byte)),
     }
 }
 
-fn bad(byte: usize) -> CalcFault {
+/// Compiles an expression that has these tokens.
+fn compiled_tokens(text: &[u8], lexer: &Lexer) -> Result<Program, CalcFault>
+    requires some { 0 < length text.now }
+    requires short { length text.now ≤ 79 }
+    requires tokens { tokens_of text.now ≡ Some (read_by lexer.now) }
+    ensures compiled { IfOk result (λ p. Compiles text.now (code_of p)) }
+    ensures fault { IfErr result (λ fault. IsFault text.now fault.kind) }
+{
+    let tokens = lexer.tokens();
+    let program = match parsed(tokens) {
+        Ok(program) => program,
+        Err(remaining) => return Err(bad(lexer.byte_of(remaining, text.len()))),
+    };
+    match left_out_in(tokens) {
+        None => Ok(program),
+        Some((word, rest)) => Err(CalcFault {
+            kind: CalcFaultKind::LeftOut(word),
+            byte: lexer.byte_of(rest.len(), text.len()),
+        }),
+    }
+}
+
+fn bad(byte: usize) -> CalcFault
+    ensures { result.kind ≡ CalcFaultKind.Bad }
+{
     CalcFault {
         kind: CalcFaultKind::Bad,
         byte,

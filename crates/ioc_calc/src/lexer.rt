@@ -226,7 +226,8 @@ impl Lexer {
 
     /// Returns the tokens.
     pub fn tokens(&self) -> &[Token]
-        ensures { result.now ≡ read_by self.now }
+        ensures value { result.now ≡ read_by self.now }
+        ensures short { length result.now ≤ 79 }
     {
         &self.tokens[..self.length]
     }
