@@ -1,5 +1,5 @@
 -- Which texts are refused.
-use Rattle.std.proofs.Common.{◌≡◌, ℕ, ◌+◌, ◌<◌, ◌≤◌, List, [], ◌∷◌, ◌++◌, length, refl, ap, arith, ◌∙◌, sym, subst, true, false}
+use Rattle.std.proofs.Common.{◌≡◌, ℕ, ◌+◌, ◌<◌, ◌≤◌, List, [], ◌∷◌, ◌++◌, length, refl, ap, arith, ◌∙◌, sym, subst, true, false, IsTrue}
 use Rattle.std.specs.Prelude.{Option, Some, None}
 use Rattle.std.specs.Float.Ieee.{Float}
 use Rattle.ioc_calc.specs.declared.program.Step.{Step}
@@ -16,6 +16,7 @@ use Rattle.ioc_calc.specs.Tokens.{tokens_of, left_out_in}
 use Rattle.ioc_calc.specs.Compiles.{IsProgramOfTokens, Compiles, AreNoStatements, LeavesOut, IsFault}
 use Rattle.ioc_calc.proofs.Sound.{some_same}
 use Rattle.ioc_calc.proofs.Complete.{state}
+use Rattle.ioc_calc.proofs.SoundStatements.{statements_sound}
 use Rattle.ioc_calc.proofs.CompleteStatements.{statements_complete, statements_run}
 
 begun : (ts : List Token) (s : State) → s.rest ≡ ts → s.steps ≡ [] → s.numbers ≡ [] → s ≡ state ts [] []
@@ -28,13 +29,12 @@ reads_all ts s ss re se ne h d v = ap (λ x. statements 80 false x) (begun ts s 
 pub refused_none : (ts : List Token) (s : State) → s.rest ≡ ts → s.steps ≡ [] → s.numbers ≡ [] → length ts ≤ 79 → statements 80 false s ≡ None → AreNoStatements ts
 refused_none ts s re se ne h none = λ ss d v. let some = reads_all ts s ss re se ne h d v in cc
 
--- tokens whose steps could not run
-pub cannot_run : (ts : List Token) (s s' : State) → s.rest ≡ ts → s.steps ≡ [] → s.numbers ≡ [] → length ts ≤ 79 → statements 80 false s ≡ Some s' → can_run s'.steps 0 40 ≡ false → AreNoStatements ts
-cannot_run ts s s' re se ne h some stuck = λ ss d v.
-    let same : s' ≡ state [] ([] ++ all_steps ss) ([] ++ all_numbers ss) = some_same s' _ (sym some ∙ reads_all ts s ss re se ne h d v) in
-    let fine : can_run (all_steps ss) 0 40 ≡ true = statements_run ts ss d 0 40 (omega arith) (omega arith) (omega arith) in
-    let here : can_run s'.steps 0 40 ≡ can_run (all_steps ss) 0 40 = ap (λ (x : State). can_run x.steps 0 40) same in
-    cc
+-- the steps of tokens that the parser reads can run
+pub can_run_of : (ts : List Token) (s s' : State) → s.rest ≡ ts → s.steps ≡ [] → s.numbers ≡ [] → length ts ≤ 79 → statements 80 false s ≡ Some s' → IsTrue (can_run s'.steps 0 40)
+can_run_of ts s s' re se ne h some =
+    let g = statements_sound 80 false s s' some in
+    let reads = subst (λ x. AreStatements x g.statements) re g.reads in
+    ap (λ x. can_run x 0 40) (g.steps ∙ ap (λ x. x ++ all_steps g.statements) se) ∙ statements_run ts g.statements reads 0 40 (omega arith) (omega arith) (omega (arith, g.values))
 
 -- ---- texts
 

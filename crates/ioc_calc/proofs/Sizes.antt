@@ -12,7 +12,7 @@ use Rattle.ioc_calc.specs.declared.token.Token.TheVariants as tokens
 use Rattle.ioc_calc.specs.Tree.{Tree, Constant, Argument, Before, One, First, More, Two, Power, Choice}
 use Rattle.ioc_calc.specs.Machine.{steps_of, numbers_of}
 use Rattle.ioc_calc.specs.Grammar.{Phrase, AValue, ALevel, AList, Reads, number, argument, before, random, brackets, prefix, of_one, of_list, tighter, two, power, other_power, whole, choice, first, next}
-use Rattle.ioc_calc.specs.Parsing.{exponent_of, in_brackets, behind_minus, bracketed, closed_exponent, written, whole as whole_of}
+use Rattle.ioc_calc.specs.Exponents.{exponent_of, in_brackets, behind_minus, bracketed, closed_exponent, written, whole as whole_of}
 use Rattle.ioc_calc.proofs.Sound.{some_same}
 
 -- ---- exponents are shorter than what they stand in

@@ -19,7 +19,9 @@ use Rattle.ioc_calc.specs.declared.parser.Part.TheVariants as parts
 use Rattle.ioc_calc.specs.Tree.{Tree, Constant, Argument, Before, One, First, More, Two, Power, Choice, Statement, Value, Store}
 use Rattle.ioc_calc.specs.Machine.{steps_of, numbers_of}
 use Rattle.ioc_calc.specs.Grammar.{Phrase, AValue, ALevel, AList, Reads, number, argument, before, random, brackets, prefix, of_one, of_list, tighter, two, power, other_power, whole, choice, first, next, IsFunction, named, left_out, is_open}
-use Rattle.ioc_calc.specs.Parsing.{State, ◌>>=◌, at, emitted, with_number, closed, closed_at, exponent_of, level_of, parse, part_with, value_with, choice_with, choice_at, second_with, second_at, level_with, tail_with, tail_at, operator_with, power_with, power_from, operand_with, operand_at, function_with, function_at, arguments_with, more_arguments_with, more_arguments_at}
+use Rattle.ioc_calc.specs.Parsing.{State, ◌>>=◌, at, emitted, with_number, closed, closed_at, parse, part_with, value_with, choice_with, choice_at, second_with, second_at, level_with, tail_with, tail_at, operator_with, power_with, power_from, operand_with, operand_at, function_with, function_at, arguments_with, more_arguments_with, more_arguments_at}
+use Rattle.ioc_calc.specs.Exponents.{exponent_of}
+use Rattle.ioc_calc.specs.Levels.{level_of}
 
 -- ---- steps that may fail
 

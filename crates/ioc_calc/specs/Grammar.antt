@@ -11,7 +11,8 @@ use Rattle.ioc_calc.specs.declared.token.LeftOut.{LeftOut}
 use Rattle.ioc_calc.specs.declared.token.Token.{Token}
 use Rattle.ioc_calc.specs.declared.token.Token.TheVariants as tokens
 use Rattle.std.specs.Float.Ieee.{Float}
-use Rattle.ioc_calc.specs.Parsing.{exponent_of, level_of}
+use Rattle.ioc_calc.specs.Exponents.{exponent_of}
+use Rattle.ioc_calc.specs.Levels.{level_of}
 use Rattle.ioc_calc.specs.Tokens.{tokens_of, left_out_in}
 use Rattle.ioc_calc.specs.Tree.{Tree, Constant, Argument, Before, One, First, More, Two, Power, Choice, Statement, Value, Store, values_in}
 

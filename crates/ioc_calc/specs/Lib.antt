@@ -12,3 +12,5 @@ pub mod Statements
 pub mod Grammar
 pub mod HasCode
 pub mod Compiles
+pub mod Exponents
+pub mod Levels

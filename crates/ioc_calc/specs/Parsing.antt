@@ -1,14 +1,10 @@
 -- What the parser does with its state. The grammar itself is in Grammar.
-use Rattle.std.specs.Prelude.{ℕ, zero, suc, ◌-◌, ◌≡◌, Option, Some, None, Result, Ok, Err, List, [], ◌∷◌, ◌++◌, length, nat_lt, nat_le, ◌==◌, ◌&&◌, if◌then◌else◌, option_and_then, option_map, pos, true, false, Bool}
-use Rattle.std.specs.Int.{w8}
-use Rattle.std.specs.Float.{float_to_unsigned}
-use Rattle.std.specs.Float.Ieee.{Float, binary64, of_int, eq}
-use Rattle.ioc_calc.specs.declared.operators.Prefix.{Prefix}
-use Rattle.ioc_calc.specs.declared.operators.Prefix.TheVariants.{Minus}
+use Rattle.std.specs.Prelude.{ℕ, zero, suc, ◌-◌, ◌≡◌, Option, Some, None, Result, Ok, Err, List, [], ◌∷◌, ◌++◌, length, nat_lt, ◌==◌, if◌then◌else◌, option_and_then}
+use Rattle.std.specs.Float.Ieee.{Float}
 use Rattle.ioc_calc.specs.declared.operators.ListFunction.{ListFunction}
 use Rattle.ioc_calc.specs.declared.operators.ListFunction.TheVariants.{Maximum}
 use Rattle.ioc_calc.specs.declared.operators.Infix.{Infix}
-use Rattle.ioc_calc.specs.declared.operators.Infix.TheVariants.{Multiply, Divide, Remainder, Add, Subtract, Less, LessOrEqual, Greater, GreaterOrEqual, Equal, NotEqual, BitAnd, And, ShiftLeft, ShiftRight, ShiftRightUnsigned, BitOr, BitXor, Or}
+use Rattle.ioc_calc.specs.declared.operators.Infix.TheVariants.{Multiply}
 use Rattle.ioc_calc.specs.declared.operators.Exponent.{Exponent}
 use Rattle.ioc_calc.specs.declared.program.Step.{Step}
 use Rattle.ioc_calc.specs.declared.program.Step.TheVariants as steps
@@ -17,6 +13,8 @@ use Rattle.ioc_calc.specs.declared.token.Token.TheVariants as tokens
 use Rattle.ioc_calc.specs.declared.parser.Part.{Part}
 use Rattle.ioc_calc.specs.declared.parser.Part.TheVariants as parts
 use Rattle.ioc_calc.specs.declared.parser.Refused.{Refused}
+use Rattle.ioc_calc.specs.Exponents.{exponent_of}
+use Rattle.ioc_calc.specs.Levels.{level_of}
 pub use Rattle.ioc_calc.specs.State.{State}
 
 infixl 10 ◌>>=◌
@@ -27,49 +25,6 @@ o >>= f = option_and_then f o
 abbrev pub Parsed : Result (Unit {0}) Refused → State → Option State → Type 0
 Parsed (Ok _) new parsed = parsed ≡ Some new
 Parsed (Err _) new parsed = parsed ≡ None
-
--- ---- exponents
-
--- the whole number from 0 to 64 that a double is
-unfoldable pub whole : Float → Option ℕ
-whole x = let n = float_to_unsigned w8 x in if nat_le n 64 && eq (of_int binary64 (pos n)) x then Some n else None
-
--- an exponent of this size, and the tokens behind it
-unfoldable pub written : Bool → Float → List Token → Option (Exponent × List Token)
-written negative x rest = option_map (λ (n : ℕ). (record { size = n; negative = negative }, rest)) (whole x)
-
-abbrev pub closed_exponent : Bool → Float → List Token → Option (Exponent × List Token)
-closed_exponent negative x [] = None
-closed_exponent negative x (tokens.Close ∷ rest) = written negative x rest
-closed_exponent negative x (_ ∷ rest) = None
-
--- a number and a closing bracket
-abbrev pub bracketed : Bool → List Token → Option (Exponent × List Token)
-bracketed negative [] = None
-bracketed negative (tokens.Number x ∷ rest) = closed_exponent negative x rest
-bracketed negative (_ ∷ rest) = None
-
--- behind an opening bracket: a number, perhaps with a sign, and a closing bracket
-abbrev pub in_brackets : List Token → Option (Exponent × List Token)
-in_brackets [] = None
-in_brackets (tokens.Prefix Minus ∷ rest) = bracketed true rest
-in_brackets (token ∷ rest) = bracketed false (token ∷ rest)
-
--- behind a sign: a number, perhaps in brackets
-abbrev pub behind_minus : List Token → Option (Exponent × List Token)
-behind_minus [] = None
-behind_minus (tokens.Number x ∷ rest) = written true x rest
-behind_minus (tokens.Open ∷ rest) = bracketed true rest
-behind_minus (_ ∷ rest) = None
-
--- The exponent that is written at the front, and the tokens behind it: a number that is whole and from
--- 0 to 64, with at most one sign and at most one pair of brackets.
-abbrev pub exponent_of : List Token → Option (Exponent × List Token)
-exponent_of [] = None
-exponent_of (tokens.Number x ∷ rest) = written false x rest
-exponent_of (tokens.Prefix Minus ∷ rest) = behind_minus rest
-exponent_of (tokens.Open ∷ rest) = in_brackets rest
-exponent_of (_ ∷ rest) = None
 
 -- ---- steps
 
@@ -158,27 +113,6 @@ operand_at reader (_ ∷ rest) s = None
 
 unfoldable pub operand_with : Reader → State → Option State
 operand_with reader s = operand_at reader s.rest s
-
-abbrev pub level_of : Infix → ℕ
-level_of Multiply = 2
-level_of Divide = 2
-level_of Remainder = 2
-level_of Add = 3
-level_of Subtract = 3
-level_of Less = 4
-level_of LessOrEqual = 4
-level_of Greater = 4
-level_of GreaterOrEqual = 4
-level_of Equal = 4
-level_of NotEqual = 4
-level_of BitAnd = 5
-level_of And = 5
-level_of ShiftLeft = 5
-level_of ShiftRight = 5
-level_of ShiftRightUnsigned = 5
-level_of BitOr = 6
-level_of BitXor = 6
-level_of Or = 6
 
 -- operands of the next tighter level, with the operators of this one between them
 unfoldable pub level_with : Reader → ℕ → State → Option State

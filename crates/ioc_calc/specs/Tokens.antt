@@ -10,7 +10,7 @@ use Rattle.ioc_calc.specs.declared.token.LeftOut.TheVariants.{Rndm}
 use Rattle.ioc_calc.specs.declared.tables.TheConstants.{OPERANDS, OPERATORS}
 use Rattle.ioc_calc.specs.Operations.{long_of}
 use Rattle.ioc_calc.specs.Words.{longest_in}
-use Rattle.ioc_calc.specs.Parsing.{exponent_of}
+use Rattle.ioc_calc.specs.Exponents.{exponent_of}
 
 -- ---- numbers
 

@@ -33,10 +33,7 @@ pub fn parsed(tokens: &[Token]) -> Result<Program, usize>
 {
     let mut parser = Parser::new(tokens);
     match parser.statements(80, false) {
-        Ok(()) => match parser.program() {
-            Some(program) => Ok(program),
-            None => Err(0),
-        },
+        Ok(()) => Ok(parser.program()),
         Err(Refused) => Err(parser.remaining()),
     }
 }

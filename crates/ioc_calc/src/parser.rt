@@ -1,7 +1,9 @@
 //! The parser: from the tokens of an expression to its steps and numbers.
 
-ghost use Rattle.std.specs.Prelude.{◌≡◌, ◌<◌, ◌&&◌, ◌||◌, [], length, option_map, IfSome, IfNone, false};
-ghost use Rattle.ioc_calc.specs.Parsing.{Parsed, at, emitted, with_number, closed, level_of, parse, value_with, choice_with, second_with, level_with, tail_with, operator_with, power_with, operand_with, function_with, arguments_with, more_arguments_with, whole, written, closed_exponent, bracketed, in_brackets, behind_minus, exponent_of};
+ghost use Rattle.std.specs.Prelude.{◌≡◌, ◌<◌, ◌&&◌, ◌||◌, [], length, option_map, IsTrue};
+ghost use Rattle.ioc_calc.specs.Parsing.{Parsed, at, emitted, with_number, closed, parse, value_with, choice_with, second_with, level_with, tail_with, operator_with, power_with, operand_with, function_with, arguments_with, more_arguments_with};
+ghost use Rattle.ioc_calc.specs.Exponents.{whole, written, closed_exponent, bracketed, in_brackets, behind_minus, exponent_of};
+ghost use Rattle.ioc_calc.specs.Levels.{level_of};
 
 ghost use Rattle.ioc_calc.specs.Statements.{stored_in, stored_behind, statement_with, statements, ended};
 
@@ -76,7 +78,7 @@ pub fn level_of(operator: Infix) -> u8
 }
 
 /// Returns the whole number from 0 to 64 that the double is.
-#[tactic(auto, unfolding(crate::specs::Parsing::whole))]
+#[tactic(auto, unfolding(crate::specs::Exponents::whole))]
 fn whole(x: f64) -> Option<u8>
     ensures { result ≡ whole x }
 {
@@ -89,7 +91,7 @@ fn whole(x: f64) -> Option<u8>
 }
 
 /// Returns an exponent of this size, with the tokens behind it.
-#[tactic(auto, unfolding(crate::specs::Parsing::written))]
+#[tactic(auto, unfolding(crate::specs::Exponents::written))]
 fn written(negative: bool, x: f64, rest: &[Token]) -> Option<(Exponent, &[Token])>
     ensures { option_map (λ e. (e.0, e.1.now)) result ≡ written negative x rest.now }
 {
@@ -206,10 +208,10 @@ impl<'a> Parser<'a> {
         self.tokens.len()
     }
 
-    /// Returns the program of the tokens that were read, if it can run.
-    pub fn program(&self) -> Option<Program>
-        ensures some { IfSome result (λ p. HasCode (code_of p) self.now) }
-        ensures none { IfNone result (can_run self.now.steps 0 40 ≡ false) }
+    /// Returns the program of the tokens that were read, whose steps can run.
+    pub fn program(&self) -> Program
+        requires { IsTrue (can_run self.now.steps 0 40) }
+        ensures { HasCode (code_of result) self.now }
     {
         Program::new(&self.steps, self.length, &self.numbers)
     }

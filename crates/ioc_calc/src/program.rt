@@ -1,6 +1,6 @@
 //! The program of an expression, and its run.
 
-ghost use Rattle.std.specs.Prelude.{◌≡◌, ◌-◌, ◌≤◌, List, IsTrue, IfSome, IfNone, false, length, take, slice_index_or, slice_set};
+ghost use Rattle.std.specs.Prelude.{◌≡◌, ◌-◌, ◌≤◌, List, IsTrue, length, take, slice_index_or, slice_set};
 ghost use Rattle.ioc_calc.specs.Operations.{zero_float};
 ghost use Rattle.ioc_calc.specs.Tree.{Statement, value_of, arguments_after};
 ghost use Rattle.ioc_calc.specs.Machine.{IsProgramOf, can_run, can_step, stepped, depth_after, unused_after};
@@ -36,60 +36,6 @@ pub enum Step {
     Choose,
     /// Stores a value into the argument of this place.
     Store(u8),
-}
-
-/// Returns whether a step can be made with so many values on the stack and so many numbers unused.
-fn can_step(step: Step, depth: usize, numbers: usize) -> bool
-    ensures { result ≡ can_step step depth numbers }
-{
-    match step {
-        Step::Number => depth < 40 && numbers > 0,
-        Step::Argument(_) | Step::Value => depth < 40,
-        Step::Prefix(_) | Step::First(_) | Step::Power(_) | Step::Store(_) => depth > 0,
-        Step::Next(_) | Step::Infix(_) => depth > 1,
-        Step::Choose => depth > 2,
-    }
-}
-
-/// Returns how many values are on the stack after a step.
-fn depth_after(step: Step, depth: usize) -> usize
-    requires { depth ≤ 40 }
-    ensures { result ≡ depth_after step depth }
-{
-    match step {
-        Step::Number | Step::Argument(_) | Step::Value => depth + 1,
-        Step::Prefix(_) | Step::First(_) | Step::Power(_) => depth,
-        Step::Next(_) | Step::Infix(_) | Step::Store(_) => depth.saturating_sub(1),
-        Step::Choose => depth.saturating_sub(2),
-    }
-}
-
-/// Returns how many numbers are unused after a step.
-fn unused_after(step: Step, numbers: usize) -> usize
-    ensures { result ≡ unused_after step numbers }
-{
-    match step {
-        Step::Number => numbers.saturating_sub(1),
-        _ => numbers,
-    }
-}
-
-/// Returns whether steps can run with so many values on the stack and so many numbers unused, and
-/// leave one value.
-fn can_run(steps: &[Step], depth: usize, numbers: usize) -> bool
-    requires { depth ≤ 40 }
-    ensures { result ≡ can_run steps.now depth numbers }
-{
-    match steps {
-        [] => depth == 1,
-        [step, rest @ ..] => {
-            if can_step(*step, depth, numbers) {
-                can_run(rest, depth_after(*step, depth), unused_after(*step, numbers))
-            } else {
-                false
-            }
-        }
-    }
 }
 
 /// The program of an expression: at most 79 steps, and at most 40 numbers, since a number and what
@@ -135,20 +81,16 @@ fn store_at(arguments: &mut [Double; 12], place: usize, x: f64)
 impl Program {
     ghost use Rattle.ioc_calc.specs.Program.{code_of, machine_of};
 
-    /// Makes a program, if its steps can run.
-    pub fn new(steps: &[Step; 79], length: usize, numbers: &[f64; 40]) -> Option<Self>
-        requires { length ≤ 79 }
-        ensures some { IfSome result (λ p. code_of p ≡ record { steps = take length steps.now; numbers = numbers.now }) }
-        ensures none { IfNone result (can_run (take length steps.now) 0 40 ≡ false) }
+    /// Makes a program of the first of these steps, which can run.
+    pub fn new(steps: &[Step; 79], length: usize, numbers: &[f64; 40]) -> Self
+        requires long { length ≤ 79 }
+        requires runs { IsTrue (can_run (take length steps.now) 0 40) }
+        ensures { code_of result ≡ record { steps = take length steps.now; numbers = numbers.now } }
     {
-        if can_run(&steps[..length], 0, 40) {
-            Some(Program {
-                steps: *steps,
-                length,
-                numbers: *numbers,
-            })
-        } else {
-            None
+        Program {
+            steps: *steps,
+            length,
+            numbers: *numbers,
         }
     }
 

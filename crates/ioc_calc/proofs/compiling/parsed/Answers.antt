@@ -1,17 +1,14 @@
 use Rattle.ioc_calc.proofs.Compiled.{compiled}
-use Rattle.ioc_calc.proofs.Refused.{refused_none, cannot_run}
+use Rattle.ioc_calc.proofs.Refused.{refused_none, can_run_of}
 use Rattle.ioc_calc.proofs.compiling.parsed.Goals as goal
 
-pub returns-in-Some : goal.returns-in-Some
-returns-in-Some c = record {
-  ok = compiled 80 _ _ _ _ c.new-parser.ensures.rest c.new-parser.ensures.steps c.new-parser.ensures.numbers c.in-Ok.ensures c.in-Some.ensures.some;
-  err = tt
-}
+pub program-requires : goal.program-requires
+program-requires c = can_run_of _ _ _ c.new-parser.ensures.rest c.new-parser.ensures.steps c.new-parser.ensures.numbers c.requires c.in-Ok.ensures
 
-pub returns-in-None : goal.returns-in-None
-returns-in-None c = record {
-  ok = tt;
-  err = cannot_run _ _ _ c.new-parser.ensures.rest c.new-parser.ensures.steps c.new-parser.ensures.numbers c.requires c.in-Ok.ensures c.in-None.ensures.none
+pub returns-in-Ok : goal.returns-in-Ok
+returns-in-Ok c = record {
+  ok = compiled 80 _ _ _ _ c.new-parser.ensures.rest c.new-parser.ensures.steps c.new-parser.ensures.numbers c.in-Ok.ensures c.program.ensures;
+  err = tt
 }
 
 pub returns-in-Err : goal.returns-in-Err
