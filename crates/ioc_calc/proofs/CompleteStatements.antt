@@ -1,7 +1,7 @@
 -- The parser reads all statements of the grammar, and their program can run.
-use Rattle.std.proofs.Common.{◌≡◌, ◌≢◌, ℕ, zero, suc, ◌+◌, ◌-◌, ◌*◌, ◌<◌, ◌≤◌, ◌⊎◌, List, [], ◌∷◌, ◌++◌, length, length-append, refl, ap, arith, ◌∙◌, sym, subst, append_assoc, append-nil, inl, inr, true, false, Bool}
+use Rattle.std.proofs.Common.{◌≡◌, ℕ, zero, suc, ◌+◌, ◌-◌, ◌*◌, ◌<◌, ◌≤◌, ◌⊎◌, List, [], ◌∷◌, ◌++◌, length, length-append, refl, ap, arith, ◌∙◌, sym, subst, append_assoc, append-nil, inl, inr, true, false, Bool}
 use Rattle.std.proofs.lemmas.Bool.{lt-ltb, eq-eqb}
-use Rattle.std.specs.Prelude.{Option, Some, None, ◌&&◌, ◌||◌, ◌==◌, if◌then◌else◌}
+use Rattle.std.specs.Prelude.{Option, Some, None, ◌&&◌, ◌||◌}
 use Rattle.std.specs.Float.Ieee.{Float}
 use Rattle.ioc_calc.specs.declared.program.Step.{Step}
 use Rattle.ioc_calc.specs.declared.program.Step.TheVariants as steps
@@ -11,12 +11,12 @@ use Rattle.ioc_calc.specs.declared.parser.Part.TheVariants as parts
 use Rattle.ioc_calc.specs.declared.parser.TheConstants.{TURNS}
 use Rattle.ioc_calc.specs.Tree.{Tree, Argument, Statement, Value, Store, values_in}
 use Rattle.ioc_calc.specs.Machine.{steps_of, numbers_of, all_steps, all_numbers, can_run}
-use Rattle.ioc_calc.specs.Grammar.{AValue, ALevel, Reads, argument, tighter, whole, ReadsStatement, value, store, AreStatements, last, more}
-use Rattle.ioc_calc.specs.Parsing.{State, ◌>>=◌, at, emitted, parse}
-use Rattle.ioc_calc.specs.Statements.{stored_in, stored_behind, is_none, statement_with, statement_from, statements, statement_and, ended, ended_at}
-use Rattle.ioc_calc.proofs.Sizes.{Sized, sized}
-use Rattle.ioc_calc.proofs.Fits.{leaves, leaves_fit, tree_runs, step_runs}
-use Rattle.ioc_calc.proofs.Complete.{complete, Complete, Ends, Room, state, read_to, bind_ok, emits, if_true, if_false, same_state}
+use Rattle.ioc_calc.specs.Grammar.{AValue, Reads, argument, tighter, whole, ReadsStatement, value, store, AreStatements, last, more}
+use Rattle.ioc_calc.specs.Parsing.{State, ◌>>=◌, emitted, parse}
+use Rattle.ioc_calc.specs.Statements.{stored_in, is_none, statement_with, statement_from, statements, statement_and, ended}
+use Rattle.ioc_calc.proofs.Sizes.{sized}
+use Rattle.ioc_calc.proofs.Fits.{leaves_fit, tree_runs, step_runs}
+use Rattle.ioc_calc.proofs.Complete.{complete, Ends, Room, state, read_to, bind_ok, emits, if_true, if_false, same_state}
 use Rattle.ioc_calc.proofs.Sound.{some_same}
 use Rattle.ioc_calc.proofs.SoundStatements.{steps_in, numbers_in, is_value, all_steps-cons, all_numbers-cons, stored_in_some, one_unless}
 
@@ -62,12 +62,12 @@ argument_first place us =
 value_is_none : (ts : List Token) (t : Tree) (rest : List Token) → length ts ≤ 79 → Reads AValue ts t rest → Closes rest → stored_in ts ≡ None
 value_is_none ts t rest h d c =
     elim (option_cases (stored_in ts)) [
-        inl none ↦ none
+      | inl none ↦ none
       | inr found ↦
-            let begins = stored_in_some ts found.0.0 found.0.1 found.1 in
-            let moved : Reads AValue (tokens.Argument found.0.0 ∷ tokens.Assign ∷ found.0.1) t rest = subst (λ x. Reads AValue x t rest) begins d in
-            let short : length (tokens.Argument found.0.0 ∷ tokens.Assign ∷ found.0.1) ≤ 79 = subst (λ x. length x ≤ 79) begins h in
-            absurd (no_assign rest found.0.1 c (one_rest (tokens.Argument found.0.0 ∷ tokens.Assign ∷ found.0.1) t (Argument found.0.0) rest (tokens.Assign ∷ found.0.1) short moved (argument_first found.0.0 found.0.1) (closes_ends rest c) tt))
+          let begins = stored_in_some ts found.0.0 found.0.1 found.1 in
+          let moved : Reads AValue (tokens.Argument found.0.0 ∷ tokens.Assign ∷ found.0.1) t rest = subst (λ x. Reads AValue x t rest) begins d in
+          let short : length (tokens.Argument found.0.0 ∷ tokens.Assign ∷ found.0.1) ≤ 79 = subst (λ x. length x ≤ 79) begins h in
+          absurd (no_assign rest found.0.1 c (one_rest (tokens.Argument found.0.0 ∷ tokens.Assign ∷ found.0.1) t (Argument found.0.0) rest (tokens.Assign ∷ found.0.1) short moved (argument_first found.0.0 found.0.1) (closes_ends rest c) tt))
     ]
 
 -- ---- one statement
@@ -99,7 +99,7 @@ statement_complete ts s rest (value ts' rest' t d) c st nu h k =
 statement_complete ts s rest (store place ts' rest' t d) c st nu h k =
     let z = sized AValue ts' t rest' d in
     bind_ok (parse TURNS parts.Value (state ts' st nu)) (λ a. emitted (steps.Store place) a) (read_to t rest' st nu)
-        (complete AValue ts' t rest' d TURNS st nu (closes_ends rest' c) (record { turns = value_turns ts' (omega arith); steps = omega arith; numbers = omega arith }))
+    (complete AValue ts' t rest' d TURNS st nu (closes_ends rest' c) (record { turns = value_turns ts' (omega arith); steps = omega arith; numbers = omega arith }))
     ∙ emits (steps.Store place) rest' (st ++ steps_of t) (nu ++ numbers_of t) (omega (arith, length-append st (steps_of t), z.steps))
     ∙ ap (λ x. Some (state rest' x (nu ++ numbers_of t))) (append_assoc st (steps_of t) (steps.Store place ∷ []))
 
@@ -151,10 +151,10 @@ statements_complete ts ss (more ts' us s ss' d e) (suc n) has st nu le v h k =
     statements_suc n has (state ts' st nu)
     ∙ and_complete (statements n) ts' s (tokens.Semicolon ∷ us) ss' has st nu d tt v h k
     ∙ statements_complete us ss' e n (has || is_value s) (st ++ steps_in s) (nu ++ numbers_in s) (omega (arith, z.shorter)) (values_after s ss' has v)
-        (omega (arith, z.steps, length-append st (steps_in s))) (omega (arith, z.numbers, length-append nu (numbers_in s)))
+    (omega (arith, z.steps, length-append st (steps_in s))) (omega (arith, z.numbers, length-append nu (numbers_in s)))
     ∙ ap Some (same_state [] _ _ _ _
-        (append_assoc st (steps_in s) (all_steps ss') ∙ ap (λ x. st ++ x) (sym (all_steps-cons s ss')))
-        (append_assoc nu (numbers_in s) (all_numbers ss') ∙ ap (λ x. nu ++ x) (sym (all_numbers-cons s ss'))))
+    (append_assoc st (steps_in s) (all_steps ss') ∙ ap (λ x. st ++ x) (sym (all_steps-cons s ss')))
+    (append_assoc nu (numbers_in s) (all_numbers ss') ∙ ap (λ x. nu ++ x) (sym (all_numbers-cons s ss'))))
 
 -- ---- runs
 

@@ -1,16 +1,15 @@
 -- The program of an expression can run.
-use Rattle.std.proofs.Common.{◌≡◌, ℕ, zero, suc, ◌+◌, ◌-◌, ◌*◌, ◌<◌, ◌≤◌, List, [], ◌∷◌, ◌++◌, length, length-append, refl, ap, arith, ◌∙◌, sym, append_assoc, true, false, Bool}
-use Rattle.std.proofs.lemmas.Bool.{lt-ltb, and_from, eq-eqb}
-use Rattle.std.specs.Prelude.{◌&&◌, ◌==◌, nat_lt}
-use Rattle.std.specs.Float.Ieee.{Float}
+use Rattle.std.proofs.Common.{◌≡◌, ℕ, suc, ◌+◌, ◌-◌, ◌*◌, ◌≤◌, List, [], ◌∷◌, ◌++◌, length, length-append, refl, ap, arith, ◌∙◌, append_assoc, true, false, Bool}
+use Rattle.std.proofs.lemmas.Bool.{lt-ltb, and_from}
+use Rattle.std.specs.Prelude.{◌&&◌, nat_lt}
 use Rattle.ioc_calc.specs.declared.program.Step.{Step}
 use Rattle.ioc_calc.specs.declared.program.Step.TheVariants as steps
 use Rattle.ioc_calc.specs.declared.token.Token.{Token}
 use Rattle.ioc_calc.specs.declared.token.Token.TheVariants as tokens
-use Rattle.ioc_calc.specs.Tree.{Tree, Constant, Argument, Before, One, First, More, Two, Power, Choice, Statement, Value, Store, values_in}
-use Rattle.ioc_calc.specs.Machine.{steps_of, numbers_of, all_steps, all_numbers, can_run, can_step, depth_after, unused_after}
-use Rattle.ioc_calc.specs.Grammar.{Phrase, AValue, ALevel, AList, Reads, number, argument, before, random, brackets, prefix, of_one, of_list, tighter, two, power, other_power, whole, choice, first, next, ReadsStatement, value, store, AreStatements, last, more}
-use Rattle.ioc_calc.proofs.Sizes.{exponent_short, Sized, sized}
+use Rattle.ioc_calc.specs.Tree.{Tree, Constant, Argument, Before, One, First, More, Two, Power, Choice}
+use Rattle.ioc_calc.specs.Machine.{steps_of, numbers_of, can_run, can_step, depth_after, unused_after}
+use Rattle.ioc_calc.specs.Grammar.{Phrase, AValue, ALevel, AList, Reads, number, argument, before, random, brackets, prefix, of_one, of_list, tighter, two, power, other_power, whole, choice, first, next}
+use Rattle.ioc_calc.proofs.Sizes.{exponent_short}
 
 -- how many operands a tree has, each of which may be on the stack at once
 abbrev pub leaves : Tree → ℕ

@@ -1,6 +1,6 @@
 -- A turn of the parser.
-use Rattle.std.proofs.Common.{◌≡◌, ◌≢◌, ℕ, zero, suc, ◌+◌, ◌-◌, refl, ap, arith, ◌∙◌}
-use Rattle.std.specs.Prelude.{Option, None}
+use Rattle.std.proofs.Common.{◌≡◌, ◌≢◌, ℕ, zero, suc, ◌-◌, refl, ap, arith, ◌∙◌}
+use Rattle.std.specs.Prelude.{None}
 use Rattle.ioc_calc.specs.declared.parser.Part.{Part}
 use Rattle.ioc_calc.specs.Parsing.{State, parse, part_with}
 

@@ -1,19 +1,17 @@
 -- Which texts are refused.
-use Rattle.std.proofs.Common.{◌≡◌, ℕ, ◌+◌, ◌<◌, ◌≤◌, List, [], ◌∷◌, ◌++◌, length, refl, ap, arith, ◌∙◌, sym, subst, true, false, IsTrue}
-use Rattle.std.specs.Prelude.{Option, Some, None}
-use Rattle.std.specs.Float.Ieee.{Float}
-use Rattle.ioc_calc.specs.declared.program.Step.{Step}
+use Rattle.std.proofs.Common.{◌≡◌, ℕ, ◌<◌, ◌≤◌, List, [], ◌++◌, length, ap, arith, ◌∙◌, sym, subst, false, IsTrue}
+use Rattle.std.specs.Prelude.{Some, None}
 use Rattle.ioc_calc.specs.declared.token.Token.{Token}
 use Rattle.ioc_calc.specs.declared.token.LeftOut.{LeftOut as Word}
 use Rattle.ioc_calc.specs.declared.compiling.CalcFaultKind.{CalcFaultKind}
 use Rattle.ioc_calc.specs.declared.compiling.CalcFaultKind.TheVariants.{Bad, LeftOut}
 use Rattle.ioc_calc.specs.State.{State}
 use Rattle.ioc_calc.specs.Tree.{Statement, values_in}
-use Rattle.ioc_calc.specs.Machine.{Code, IsProgramOf, can_run, all_steps, all_numbers}
+use Rattle.ioc_calc.specs.Machine.{Code, can_run, all_steps, all_numbers}
 use Rattle.ioc_calc.specs.Grammar.{AreStatements, Follows, IsExpression}
 use Rattle.ioc_calc.specs.Statements.{statements}
 use Rattle.ioc_calc.specs.Tokens.{tokens_of, left_out_in}
-use Rattle.ioc_calc.specs.Compiles.{IsProgramOfTokens, Compiles, AreNoStatements, LeavesOut, IsFault}
+use Rattle.ioc_calc.specs.Compiles.{IsProgramOfTokens, Compiles, AreNoStatements, IsFault}
 use Rattle.ioc_calc.proofs.Sound.{some_same}
 use Rattle.ioc_calc.proofs.Complete.{state}
 use Rattle.ioc_calc.proofs.SoundStatements.{statements_sound}
@@ -56,9 +54,10 @@ follows text ts code some short e p = record { some = some; short = short; spell
 
 pub compiles : (text : List ℕ) (ts : List Token) (code : Code) → 0 < length text → length text ≤ 79 → tokens_of text ≡ Some ts → IsProgramOfTokens ts code → left_out_in ts ≡ None → Compiles text code
 compiles text ts code some short e p none = record {
-    statements = p.statements;
-    expression = record { tokens = ts; follows = follows text ts code some short e p; complete = none };
-    program = p.program }
+  statements = p.statements;
+  expression = record { tokens = ts; follows = follows text ts code some short e p; complete = none };
+  program = p.program;
+}
 
 pub leaves_out : (text : List ℕ) (ts : List Token) (code : Code) (word : Word) → 0 < length text → length text ≤ 79 → tokens_of text ≡ Some ts → IsProgramOfTokens ts code → left_out_in ts ≡ Some word → IsFault text (LeftOut word)
 leaves_out text ts code word some short e p found = record { tokens = ts; statements = p.statements; follows = follows text ts code some short e p; first = found }

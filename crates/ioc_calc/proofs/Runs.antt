@@ -1,11 +1,9 @@
 -- A run of the steps of a tree puts what the tree means on the stack.
-use Rattle.std.proofs.Common.{◌≡◌, ℕ, ◌+◌, List, [], ◌∷◌, ◌++◌, refl, ap, ◌∙◌, sym, append_assoc, arith}
+use Rattle.std.proofs.Common.{◌≡◌, List, [], ◌∷◌, ◌++◌, refl, ap, ◌∙◌, append_assoc, arith}
 use Rattle.std.specs.Float.Ieee.{Float}
 use Rattle.std.specs.Prelude.{slice_set}
 use Rattle.ioc_calc.specs.declared.program.Step.{Step}
 use Rattle.ioc_calc.specs.declared.program.Step.TheVariants as steps
-use Rattle.ioc_calc.specs.Operations.{zero_float}
-use Rattle.ioc_calc.specs.Stack.{top, below}
 use Rattle.ioc_calc.specs.Tree.{Tree, Constant, Argument, Before, One, First, More, Two, Power, Choice, Statement, Value, Store, meaning, arguments_after, value_of, values_in}
 use Rattle.ioc_calc.specs.Machine.{steps_of, numbers_of, all_steps, all_numbers, Code, IsProgramOf, Machine, stepped, ran}
 
@@ -46,7 +44,7 @@ runs v (Two op s t) args more stack =
     ∙ ap (ran v (steps.Infix op ∷ [])) (runs v t args more (meaning args v s ∷ stack))
 runs v (Choice c s t) args more stack =
     ap (λ n. ran v (steps_of c ++ (steps_of s ++ (steps_of t ++ steps.Choose ∷ []))) (machine args n stack))
-       (append_assoc (numbers_of c) (numbers_of s ++ numbers_of t) more ∙ ap (λ n. numbers_of c ++ n) (append_assoc (numbers_of s) (numbers_of t) more))
+    (append_assoc (numbers_of c) (numbers_of s ++ numbers_of t) more ∙ ap (λ n. numbers_of c ++ n) (append_assoc (numbers_of s) (numbers_of t) more))
     ∙ ran-append v (steps_of c) (steps_of s ++ (steps_of t ++ steps.Choose ∷ [])) (machine args (numbers_of c ++ (numbers_of s ++ (numbers_of t ++ more))) stack)
     ∙ ap (ran v (steps_of s ++ (steps_of t ++ steps.Choose ∷ []))) (runs v c args (numbers_of s ++ (numbers_of t ++ more)) stack)
     ∙ ran-append v (steps_of s) (steps_of t ++ steps.Choose ∷ []) (machine args (numbers_of s ++ (numbers_of t ++ more)) (meaning args v c ∷ stack))

@@ -1,5 +1,5 @@
 -- How many steps and numbers a phrase has.
-use Rattle.std.proofs.Common.{◌≡◌, ℕ, zero, suc, ◌+◌, ◌*◌, ◌<◌, ◌≤◌, List, [], ◌∷◌, ◌++◌, length, length-append, refl, ap, arith, ◌∙◌}
+use Rattle.std.proofs.Common.{◌≡◌, ℕ, suc, ◌+◌, ◌*◌, ◌<◌, ◌≤◌, List, [], ◌∷◌, ◌++◌, length, length-append, ap, arith}
 use Rattle.std.specs.Prelude.{Bool, true, false, Option, Some, None, option_map}
 use Rattle.ioc_calc.specs.declared.operators.Infix.TheVariants.{Multiply}
 use Rattle.std.specs.Float.Ieee.{Float}
@@ -9,7 +9,7 @@ use Rattle.ioc_calc.specs.declared.program.Step.{Step}
 use Rattle.ioc_calc.specs.declared.program.Step.TheVariants as steps
 use Rattle.ioc_calc.specs.declared.token.Token.{Token}
 use Rattle.ioc_calc.specs.declared.token.Token.TheVariants as tokens
-use Rattle.ioc_calc.specs.Tree.{Tree, Constant, Argument, Before, One, First, More, Two, Power, Choice}
+use Rattle.ioc_calc.specs.Tree.{Tree}
 use Rattle.ioc_calc.specs.Machine.{steps_of, numbers_of}
 use Rattle.ioc_calc.specs.Grammar.{Phrase, AValue, ALevel, AList, Reads, number, argument, before, random, brackets, prefix, of_one, of_list, tighter, two, power, other_power, whole, choice, first, next}
 use Rattle.ioc_calc.specs.Exponents.{exponent_of, in_brackets, behind_minus, bracketed, closed_exponent, written, whole as whole_of}

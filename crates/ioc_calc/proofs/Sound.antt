@@ -1,9 +1,8 @@
 -- What the parser reads follows the grammar.
-use Rattle.std.proofs.Common.{◌≡◌, ◌≢◌, ℕ, zero, suc, ◌+◌, ◌-◌, ◌<◌, ◌≤◌, List, [], ◌∷◌, ◌++◌, length, refl, ap, arith, ◌∙◌, sym, subst, append_assoc, append-nil, inl, inr, IsTrue, true, false, Bool}
+use Rattle.std.proofs.Common.{◌≡◌, ℕ, zero, suc, ◌-◌, List, [], ◌∷◌, ◌++◌, length, refl, ap, arith, ◌∙◌, sym, subst, append_assoc, append-nil, inl, inr, true, false, Bool}
 use Rattle.std.specs.Prelude.{Option, Some, None, nat_lt, if◌then◌else◌, ◌==◌, ◌⊎◌}
 use Rattle.std.proofs.lemmas.Bool.{eqb-true}
 use Rattle.std.specs.Float.Ieee.{Float}
-use Rattle.ioc_calc.specs.declared.operators.Prefix.TheVariants.{Minus}
 use Rattle.ioc_calc.specs.declared.operators.ListFunction.{ListFunction}
 use Rattle.ioc_calc.specs.declared.operators.ListFunction.TheVariants.{Maximum}
 use Rattle.ioc_calc.specs.declared.operators.Infix.{Infix}
@@ -16,7 +15,7 @@ use Rattle.ioc_calc.specs.declared.token.Token.{Token}
 use Rattle.ioc_calc.specs.declared.token.Token.TheVariants as tokens
 use Rattle.ioc_calc.specs.declared.parser.Part.{Part}
 use Rattle.ioc_calc.specs.declared.parser.Part.TheVariants as parts
-use Rattle.ioc_calc.specs.Tree.{Tree, Constant, Argument, Before, One, First, More, Two, Power, Choice, Statement, Value, Store}
+use Rattle.ioc_calc.specs.Tree.{Tree, Constant, Argument, Before, One, First, More, Two, Power, Choice}
 use Rattle.ioc_calc.specs.Machine.{steps_of, numbers_of}
 use Rattle.ioc_calc.specs.Grammar.{Phrase, AValue, ALevel, AList, Reads, number, argument, before, random, brackets, prefix, of_one, of_list, tighter, two, power, other_power, whole, choice, first, next, IsFunction, named, left_out, is_open}
 use Rattle.ioc_calc.specs.Parsing.{State, ◌>>=◌, at, emitted, with_number, closed, closed_at, parse, part_with, value_with, choice_with, choice_at, second_with, second_at, level_with, tail_with, tail_at, operator_with, power_with, power_from, operand_with, operand_at, function_with, function_at, arguments_with, more_arguments_with, more_arguments_at}
@@ -79,10 +78,11 @@ pub grown_one : (p q : Phrase) (ts us : List Token) (base : List Step) (known : 
     → Grown p ts base known a → emitted step a ≡ Some s' → Grown q us base known s'
 grown_one p q ts us base known step a s' make makes same builds g h =
     subst (λ x. Grown q us base known x) (sym (emitted_some step a s' h)) (record {
-        tree = make g.tree;
-        reads = builds g.tree a.rest g.reads;
-        steps = ap (λ x. x ++ step ∷ []) g.steps ∙ append_assoc base (steps_of g.tree) (step ∷ []) ∙ ap (λ x. base ++ x) (sym (makes g.tree));
-        numbers = g.numbers ∙ ap (λ x. known ++ x) (sym (same g.tree)) })
+      tree = make g.tree;
+      reads = builds g.tree a.rest g.reads;
+      steps = ap (λ x. x ++ step ∷ []) g.steps ∙ append_assoc base (steps_of g.tree) (step ∷ []) ∙ ap (λ x. base ++ x) (sym (makes g.tree));
+      numbers = g.numbers ∙ ap (λ x. known ++ x) (sym (same g.tree));
+    })
 
 -- one more step behind two trees
 pub grown_two : (p q r : Phrase) (ts us vs : List Token) (base : List Step) (known : List Float) (step : Step) (a b s' : State) (make : Tree → Tree → Tree)
@@ -92,13 +92,14 @@ pub grown_two : (p q r : Phrase) (ts us vs : List Token) (base : List Step) (kno
     → emitted step b ≡ Some s' → Grown r vs base known s'
 grown_two p q r ts us vs base known step a b s' make makes same g k reads h =
     subst (λ x. Grown r vs base known x) (sym (emitted_some step b s' h)) (record {
-        tree = make g.tree k.tree;
-        reads = reads;
-        steps = ap (λ x. x ++ step ∷ []) (k.steps ∙ ap (λ x. x ++ steps_of k.tree) g.steps)
-            ∙ append_assoc (base ++ steps_of g.tree) (steps_of k.tree) (step ∷ [])
-            ∙ append_assoc base (steps_of g.tree) (steps_of k.tree ++ step ∷ [])
-            ∙ ap (λ x. base ++ x) (sym (makes g.tree k.tree));
-        numbers = k.numbers ∙ ap (λ x. x ++ numbers_of k.tree) g.numbers ∙ append_assoc known (numbers_of g.tree) (numbers_of k.tree) ∙ ap (λ x. known ++ x) (sym (same g.tree k.tree)) })
+      tree = make g.tree k.tree;
+      reads = reads;
+      steps = ap (λ x. x ++ step ∷ []) (k.steps ∙ ap (λ x. x ++ steps_of k.tree) g.steps)
+          ∙ append_assoc (base ++ steps_of g.tree) (steps_of k.tree) (step ∷ [])
+          ∙ append_assoc base (steps_of g.tree) (steps_of k.tree ++ step ∷ [])
+          ∙ ap (λ x. base ++ x) (sym (makes g.tree k.tree));
+      numbers = k.numbers ∙ ap (λ x. x ++ numbers_of k.tree) g.numbers ∙ append_assoc known (numbers_of g.tree) (numbers_of k.tree) ∙ ap (λ x. known ++ x) (sym (same g.tree k.tree));
+    })
 
 -- ---- operands
 
@@ -115,10 +116,11 @@ unfolding closed
 bracketed_grown p ts us base known a s' builds g h =
     let c = closed_some a.rest a s' h in
     subst (λ x. Grown (ALevel 0) us base known x) (sym c.2) (record {
-        tree = g.tree;
-        reads = builds g.tree c.0 (subst (λ x. Reads p ts g.tree x) c.1 g.reads);
-        steps = g.steps;
-        numbers = g.numbers })
+      tree = g.tree;
+      reads = builds g.tree c.0 (subst (λ x. Reads p ts g.tree x) c.1 g.reads);
+      steps = g.steps;
+      numbers = g.numbers;
+    })
 
 suc_zero : (k : ℕ) → suc k ≡ 0 → ⊥
 suc_zero k h = absurd (omega arith)
@@ -133,16 +135,17 @@ one_behind : (r : Part → State → Option State) → IsSound r → (token : To
 one_behind r sound token f is ts shut steps' numbers' s' h =
     let b = bind_some (r (parts.Level 0) (record { rest = ts; steps = steps'; numbers = numbers' })) (λ a. emitted (steps.First f) a) s' h in
     grown_one (ALevel 0) (ALevel 0) ts (token ∷ ts) steps' numbers' (steps.First f) b.0 s' (First f) (λ t. refl) (λ t. refl)
-        (λ t rest k. of_one token f ts rest t is shut k)
-        (sound (parts.Level 0) (record { rest = ts; steps = steps'; numbers = numbers' }) b.0 b.1) b.2
+    (λ t rest k. of_one token f ts rest t is shut k)
+    (sound (parts.Level 0) (record { rest = ts; steps = steps'; numbers = numbers' }) b.0 b.1) b.2
+
 function_at_sound : (r : Part → State → Option State) → IsSound r → (token : Token) (f : ListFunction) → IsFunction token f → (ts : List Token) (steps' : List Step) (numbers' : List Float) (s' : State)
     → function_at r f ts (record { rest = ts; steps = steps'; numbers = numbers' }) ≡ Some s' → Grown (ALevel 0) (token ∷ ts) steps' numbers' s'
 function_at_sound r sound token f is [] steps' numbers' s' h = cc
 function_at_sound r sound token f is (tokens.Open ∷ rest) steps' numbers' s' h =
     let b = bind_some (r (parts.Arguments f) (record { rest = rest; steps = steps'; numbers = numbers' })) closed s' h in
     bracketed_grown (AList f) rest (token ∷ tokens.Open ∷ rest) steps' numbers' b.0 s'
-        (λ t behind k. of_list token f rest behind t is k)
-        (sound (parts.Arguments f) (record { rest = rest; steps = steps'; numbers = numbers' }) b.0 b.1) b.2
+    (λ t behind k. of_list token f rest behind t is k)
+    (sound (parts.Arguments f) (record { rest = rest; steps = steps'; numbers = numbers' }) b.0 b.1) b.2
 function_at_sound r sound token f is (other ∷ rest) steps' numbers' s' h = one_behind r sound token f is (other ∷ rest) refl steps' numbers' s' h
 
 operand_at_sound : (r : Part → State → Option State) → IsSound r → (ts : List Token) (steps' : List Step) (numbers' : List Float) (s' : State)
@@ -151,29 +154,29 @@ unfolding function_with
 operand_at_sound r sound [] steps' numbers' s' h = cc
 operand_at_sound r sound (tokens.Number x ∷ rest) steps' numbers' s' h =
     subst (λ y. Grown (ALevel 0) (tokens.Number x ∷ rest) steps' numbers' y)
-        (sym (with_number_some x (record { rest = rest; steps = steps'; numbers = numbers' }) s' h))
-        (record { tree = Constant x; reads = number x rest; steps = refl; numbers = refl })
+    (sym (with_number_some x (record { rest = rest; steps = steps'; numbers = numbers' }) s' h))
+    (record { tree = Constant x; reads = number x rest; steps = refl; numbers = refl })
 operand_at_sound r sound (tokens.Argument place ∷ rest) steps' numbers' s' h =
     subst (λ y. Grown (ALevel 0) (tokens.Argument place ∷ rest) steps' numbers' y)
-        (sym (emitted_some (steps.Argument place) (record { rest = rest; steps = steps'; numbers = numbers' }) s' h))
-        (record { tree = Argument place; reads = argument place rest; steps = refl; numbers = sym (append-nil numbers') })
+    (sym (emitted_some (steps.Argument place) (record { rest = rest; steps = steps'; numbers = numbers' }) s' h))
+    (record { tree = Argument place; reads = argument place rest; steps = refl; numbers = sym (append-nil numbers') })
 operand_at_sound r sound (tokens.Value ∷ rest) steps' numbers' s' h =
     subst (λ y. Grown (ALevel 0) (tokens.Value ∷ rest) steps' numbers' y)
-        (sym (emitted_some steps.Value (record { rest = rest; steps = steps'; numbers = numbers' }) s' h))
-        (record { tree = Before; reads = before rest; steps = refl; numbers = sym (append-nil numbers') })
+    (sym (emitted_some steps.Value (record { rest = rest; steps = steps'; numbers = numbers' }) s' h))
+    (record { tree = Before; reads = before rest; steps = refl; numbers = sym (append-nil numbers') })
 operand_at_sound r sound (tokens.Random ∷ rest) steps' numbers' s' h =
     subst (λ y. Grown (ALevel 0) (tokens.Random ∷ rest) steps' numbers' y)
-        (sym (emitted_some steps.Value (record { rest = rest; steps = steps'; numbers = numbers' }) s' h))
-        (record { tree = Before; reads = random rest; steps = refl; numbers = sym (append-nil numbers') })
+    (sym (emitted_some steps.Value (record { rest = rest; steps = steps'; numbers = numbers' }) s' h))
+    (record { tree = Before; reads = random rest; steps = refl; numbers = sym (append-nil numbers') })
 operand_at_sound r sound (tokens.Prefix op ∷ rest) steps' numbers' s' h =
     let b = bind_some (r (parts.Level 0) (record { rest = rest; steps = steps'; numbers = numbers' })) (λ a. emitted (steps.Prefix op) a) s' h in
     grown_one (ALevel 0) (ALevel 0) rest (tokens.Prefix op ∷ rest) steps' numbers' (steps.Prefix op) b.0 s' (One op) (λ t. refl) (λ t. refl)
-        (λ t behind k. prefix op rest behind t k)
-        (sound (parts.Level 0) (record { rest = rest; steps = steps'; numbers = numbers' }) b.0 b.1) b.2
+    (λ t behind k. prefix op rest behind t k)
+    (sound (parts.Level 0) (record { rest = rest; steps = steps'; numbers = numbers' }) b.0 b.1) b.2
 operand_at_sound r sound (tokens.Open ∷ rest) steps' numbers' s' h =
     let b = bind_some (r parts.Value (record { rest = rest; steps = steps'; numbers = numbers' })) closed s' h in
     bracketed_grown AValue rest (tokens.Open ∷ rest) steps' numbers' b.0 s' (λ t behind k. brackets rest behind t k)
-        (sound parts.Value (record { rest = rest; steps = steps'; numbers = numbers' }) b.0 b.1) b.2
+    (sound parts.Value (record { rest = rest; steps = steps'; numbers = numbers' }) b.0 b.1) b.2
 operand_at_sound r sound (tokens.Function f ∷ rest) steps' numbers' s' h = function_at_sound r sound (tokens.Function f) f (named f) rest steps' numbers' s' h
 operand_at_sound r sound (tokens.LeftOutFunction w ∷ rest) steps' numbers' s' h = function_at_sound r sound (tokens.LeftOutFunction w) Maximum (left_out w) rest steps' numbers' s' h
 operand_at_sound r sound (_ ∷ rest) steps' numbers' s' h = cc
@@ -185,13 +188,13 @@ unfolding level_with operand_with
 level_sound r sound zero s s' h = operand_at_sound r sound s.rest s.steps s.numbers s' h
 level_sound r sound (suc k) s s' h =
     elim (either_way (suc k == 0) (operand_at r s.rest s) (r (parts.Level (suc k - 1)) s >>= (λ a. r (parts.Tail (suc k)) a)) (Some s') h) [
-        inl w ↦ absurd (suc_zero k (eqb-true (suc k) 0 w.0))
+      | inl w ↦ absurd (suc_zero k (eqb-true (suc k) 0 w.0))
       | inr w ↦
-            let b = bind_some (r (parts.Level (suc k - 1)) s) (λ a. r (parts.Tail (suc k)) a) s' w.1 in
-            let one_less : suc k - 1 ≡ k = omega arith in
-            let g = sound (parts.Level k) s b.0 (subst (λ j. r (parts.Level j) s ≡ Some b.0) one_less b.1) in
-            sound (parts.Tail (suc k)) b.0 s' b.2 k refl s.rest s.steps s.numbers
-                (record { tree = g.tree; reads = tighter k s.rest b.0.rest g.tree g.reads; steps = g.steps; numbers = g.numbers })
+          let b = bind_some (r (parts.Level (suc k - 1)) s) (λ a. r (parts.Tail (suc k)) a) s' w.1 in
+          let one_less : suc k - 1 ≡ k = omega arith in
+          let g = sound (parts.Level k) s b.0 (subst (λ j. r (parts.Level j) s ≡ Some b.0) one_less b.1) in
+          sound (parts.Tail (suc k)) b.0 s' b.2 k refl s.rest s.steps s.numbers
+          (record { tree = g.tree; reads = tighter k s.rest b.0.rest g.tree g.reads; steps = g.steps; numbers = g.numbers })
     ]
 
 pub some_same : {A : Type 0} (x y : A) → Some x ≡ Some y → x ≡ y
@@ -211,8 +214,8 @@ operator_sound r sound k level le op oe rest us base known steps' numbers' s' g 
     let one_less : level - 1 ≡ k = omega arith in
     let ga = sound (parts.Level k) here a.0 (subst (λ j. r (parts.Level j) here ≡ Some a.0) one_less a.1) in
     sound (parts.Tail level) b.0 s' b.2 k le us base known
-        (grown_two (ALevel (suc k)) (ALevel k) (ALevel (suc k)) us rest us base known (steps.Infix op) (record { rest = tokens.Infix op ∷ rest; steps = steps'; numbers = numbers' }) a.0 b.0 (Two op) (λ s t. refl) (λ s t. refl) g ga
-            (two k op us rest a.0.rest g.tree ga.tree (oe ∙ le) g.reads ga.reads) b.1)
+    (grown_two (ALevel (suc k)) (ALevel k) (ALevel (suc k)) us rest us base known (steps.Infix op) (record { rest = tokens.Infix op ∷ rest; steps = steps'; numbers = numbers' }) a.0 b.0 (Two op) (λ s t. refl) (λ s t. refl) g ga
+    (two k op us rest a.0.rest g.tree ga.tree (oe ∙ le) g.reads ga.reads) b.1)
 
 power_sound : (r : Part → State → Option State) → IsSound r → (sign : LeftOut) (found : Option (Exponent × List Token)) (rest us : List Token) → exponent_of rest ≡ found → (base : List Step) (known : List Float) (steps' : List Step) (numbers' : List Float) (s' : State)
     → Grown (ALevel 1) us base known (record { rest = tokens.Power sign ∷ rest; steps = steps'; numbers = numbers' })
@@ -221,19 +224,20 @@ power_sound r sound sign (Some e) rest us is base known steps' numbers' s' g h =
     let here : State = record { rest = e.1; steps = steps'; numbers = numbers' } in
     let a = bind_some (emitted (steps.Power e.0) here) (λ y. r (parts.Tail 1) y) s' h in
     sound (parts.Tail 1) a.0 s' a.2 0 refl us base known
-        (subst (λ x. Grown (ALevel 1) us base known x) (sym (emitted_some (steps.Power e.0) here a.0 a.1)) (record {
-            tree = Power g.tree e.0;
-            reads = power sign e.0 us rest e.1 g.tree g.reads is;
-            steps = ap (λ x. x ++ steps.Power e.0 ∷ []) g.steps ∙ append_assoc base (steps_of g.tree) (steps.Power e.0 ∷ []);
-            numbers = g.numbers }))
+    (subst (λ x. Grown (ALevel 1) us base known x) (sym (emitted_some (steps.Power e.0) here a.0 a.1)) (record {
+      tree = Power g.tree e.0;
+      reads = power sign e.0 us rest e.1 g.tree g.reads is;
+      steps = ap (λ x. x ++ steps.Power e.0 ∷ []) g.steps ∙ append_assoc base (steps_of g.tree) (steps.Power e.0 ∷ []);
+      numbers = g.numbers;
+    }))
 power_sound r sound sign None rest us is base known steps' numbers' s' g h =
     let here : State = record { rest = rest; steps = steps'; numbers = numbers' } in
     let a = bind_some (r (parts.Level 0) here) (λ x. emitted (steps.Infix Multiply) x >>= (λ y. r (parts.Tail 1) y)) s' h in
     let b = bind_some (emitted (steps.Infix Multiply) a.0) (λ y. r (parts.Tail 1) y) s' a.2 in
     let ga = sound (parts.Level 0) here a.0 a.1 in
     sound (parts.Tail 1) b.0 s' b.2 0 refl us base known
-        (grown_two (ALevel 1) (ALevel 0) (ALevel 1) us rest us base known (steps.Infix Multiply) (record { rest = tokens.Power sign ∷ rest; steps = steps'; numbers = numbers' }) a.0 b.0 (Two Multiply) (λ s t. refl) (λ s t. refl) g ga
-            (other_power sign us rest a.0.rest g.tree ga.tree g.reads is ga.reads) b.1)
+    (grown_two (ALevel 1) (ALevel 0) (ALevel 1) us rest us base known (steps.Infix Multiply) (record { rest = tokens.Power sign ∷ rest; steps = steps'; numbers = numbers' }) a.0 b.0 (Two Multiply) (λ s t. refl) (λ s t. refl) g ga
+    (other_power sign us rest a.0.rest g.tree ga.tree g.reads is ga.reads) b.1)
 
 tail_at_sound : (r : Part → State → Option State) → IsSound r → (ts : List Token) (k level : ℕ) → level ≡ suc k → (us : List Token) (base : List Step) (known : List Float) (steps' : List Step) (numbers' : List Float) (s' : State)
     → Grown (ALevel (suc k)) us base known (record { rest = ts; steps = steps'; numbers = numbers' })
@@ -243,19 +247,19 @@ tail_at_sound r sound [] k level le us base known steps' numbers' s' g h = uncha
 tail_at_sound r sound (tokens.Infix op ∷ rest) k level le us base known steps' numbers' s' g h =
     let here : State = record { rest = tokens.Infix op ∷ rest; steps = steps'; numbers = numbers' } in
     elim (either_way (level_of op == level) (operator_with r level op rest here) (Some here) (Some s') h) [
-        inl w ↦ operator_sound r sound k level le op (eqb-true (level_of op) level w.0) rest us base known steps' numbers' s' g w.1
+      | inl w ↦ operator_sound r sound k level le op (eqb-true (level_of op) level w.0) rest us base known steps' numbers' s' g w.1
       | inr w ↦ unchanged (ALevel (suc k)) us base known here s' w.1 g
     ]
 tail_at_sound r sound (tokens.Power sign ∷ rest) zero level le us base known steps' numbers' s' g h =
     let here : State = record { rest = tokens.Power sign ∷ rest; steps = steps'; numbers = numbers' } in
     elim (either_way (level == 1) (power_with r rest here) (Some here) (Some s') h) [
-        inl w ↦ power_sound r sound sign (exponent_of rest) rest us refl base known steps' numbers' s' g w.1
+      | inl w ↦ power_sound r sound sign (exponent_of rest) rest us refl base known steps' numbers' s' g w.1
       | inr w ↦ unchanged (ALevel 1) us base known here s' w.1 g
     ]
 tail_at_sound r sound (tokens.Power sign ∷ rest) (suc k) level le us base known steps' numbers' s' g h =
     let here : State = record { rest = tokens.Power sign ∷ rest; steps = steps'; numbers = numbers' } in
     elim (either_way (level == 1) (power_with r rest here) (Some here) (Some s') h) [
-        inl w ↦ absurd (not_one k level le (eqb-true level 1 w.0))
+      | inl w ↦ absurd (not_one k level le (eqb-true level 1 w.0))
       | inr w ↦ unchanged (ALevel (suc (suc k))) us base known here s' w.1 g
     ]
 tail_at_sound r sound (_ ∷ rest) k level le us base known steps' numbers' s' g h = unchanged (ALevel (suc k)) us base known _ s' h g
@@ -272,10 +276,11 @@ second_at_sound r sound (tokens.Colon ∷ rest) us vs base known a b s' ga ae gb
     let c = bind_some (r parts.Value (at rest b)) (λ x. emitted steps.Choose x) s' h in
     let gc = sound parts.Value (at rest b) c.0 c.1 in
     subst (λ x. Grown AValue vs base known x) (sym (emitted_some steps.Choose c.0 s' c.2)) (record {
-        tree = Choice ga.tree gb.tree gc.tree;
-        reads = choice vs us rest c.0.rest ga.tree gb.tree gc.tree (subst (λ x. Reads (ALevel 6) vs ga.tree x) ae ga.reads) (subst (λ x. Reads AValue us gb.tree x) be gb.reads) gc.reads;
-        steps = three_steps base (steps_of ga.tree) (steps_of gb.tree) (steps_of gc.tree) c.0.steps steps.Choose (gc.steps ∙ ap (λ x. x ++ steps_of gc.tree) (gb.steps ∙ ap (λ x. x ++ steps_of gb.tree) ga.steps));
-        numbers = gc.numbers ∙ ap (λ x. x ++ numbers_of gc.tree) (gb.numbers ∙ ap (λ x. x ++ numbers_of gb.tree) ga.numbers) ∙ simp append_assoc })
+      tree = Choice ga.tree gb.tree gc.tree;
+      reads = choice vs us rest c.0.rest ga.tree gb.tree gc.tree (subst (λ x. Reads (ALevel 6) vs ga.tree x) ae ga.reads) (subst (λ x. Reads AValue us gb.tree x) be gb.reads) gc.reads;
+      steps = three_steps base (steps_of ga.tree) (steps_of gb.tree) (steps_of gc.tree) c.0.steps steps.Choose (gc.steps ∙ ap (λ x. x ++ steps_of gc.tree) (gb.steps ∙ ap (λ x. x ++ steps_of gb.tree) ga.steps));
+      numbers = gc.numbers ∙ ap (λ x. x ++ numbers_of gc.tree) (gb.numbers ∙ ap (λ x. x ++ numbers_of gb.tree) ga.numbers) ∙ simp append_assoc;
+    })
 second_at_sound r sound (_ ∷ rest) us vs base known a b s' ga ae gb be h = cc
 
 choice_at_sound : (r : Part → State → Option State) → IsSound r → (ts vs : List Token) (base : List Step) (known : List Float) (a s' : State) → Grown (ALevel 6) vs base known a → a.rest ≡ ts
@@ -299,7 +304,7 @@ arguments_sound r sound f s s' h =
     let a = bind_some (r parts.Value s) (λ x. emitted (steps.First f) x >>= (λ y. r (parts.MoreArguments f) y)) s' h in
     let b = bind_some (emitted (steps.First f) a.0) (λ y. r (parts.MoreArguments f) y) s' a.2 in
     sound (parts.MoreArguments f) b.0 s' b.2 s.rest s.steps s.numbers
-        (grown_one AValue (AList f) s.rest s.rest s.steps s.numbers (steps.First f) a.0 b.0 (First f) (λ t. refl) (λ t. refl) (λ t rest k. first f s.rest rest t k) (sound parts.Value s a.0 a.1) b.1)
+    (grown_one AValue (AList f) s.rest s.rest s.steps s.numbers (steps.First f) a.0 b.0 (First f) (λ t. refl) (λ t. refl) (λ t rest k. first f s.rest rest t k) (sound parts.Value s a.0 a.1) b.1)
 
 more_at_sound : (r : Part → State → Option State) → IsSound r → (f : ListFunction) (ts us : List Token) (base : List Step) (known : List Float) (s s' : State) → s.rest ≡ ts → Grown (AList f) us base known s
     → more_arguments_at r f ts s ≡ Some s' → Grown (AList f) us base known s'
@@ -309,8 +314,8 @@ more_at_sound r sound f (tokens.Comma ∷ rest) us base known s s' se g h =
     let b = bind_some (emitted (steps.Next f) a.0) (λ y. r (parts.MoreArguments f) y) s' a.2 in
     let ga = sound parts.Value (at rest s) a.0 a.1 in
     sound (parts.MoreArguments f) b.0 s' b.2 us base known
-        (grown_two (AList f) AValue (AList f) us rest us base known (steps.Next f) s a.0 b.0 (More f) (λ x t. refl) (λ x t. refl) g ga
-            (next f us rest a.0.rest g.tree ga.tree (subst (λ x. Reads (AList f) us g.tree x) se g.reads) ga.reads) b.1)
+    (grown_two (AList f) AValue (AList f) us rest us base known (steps.Next f) s a.0 b.0 (More f) (λ x t. refl) (λ x t. refl) g ga
+    (next f us rest a.0.rest g.tree ga.tree (subst (λ x. Reads (AList f) us g.tree x) se g.reads) ga.reads) b.1)
 more_at_sound r sound f (_ ∷ rest) us base known s s' se g h = unchanged (AList f) us base known s s' h g
 
 -- ---- all parts

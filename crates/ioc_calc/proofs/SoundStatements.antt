@@ -1,5 +1,5 @@
 -- What the parser reads as statements follows the grammar.
-use Rattle.std.proofs.Common.{◌≡◌, ℕ, zero, suc, ◌+◌, List, [], ◌∷◌, ◌++◌, refl, ap, arith, ◌∙◌, sym, subst, append_assoc, append-nil, inl, inr, true, false, Bool}
+use Rattle.std.proofs.Common.{◌≡◌, ℕ, zero, suc, ◌+◌, List, [], ◌∷◌, ◌++◌, refl, ap, ◌∙◌, sym, subst, append_assoc, append-nil, true, false, Bool}
 use Rattle.std.specs.Prelude.{Option, Some, None, ◌&&◌, ◌||◌, if◌then◌else◌}
 use Rattle.std.specs.Float.Ieee.{Float}
 use Rattle.ioc_calc.specs.declared.program.Step.{Step}
@@ -8,12 +8,12 @@ use Rattle.ioc_calc.specs.declared.token.Token.{Token}
 use Rattle.ioc_calc.specs.declared.token.Token.TheVariants as tokens
 use Rattle.ioc_calc.specs.declared.parser.Part.TheVariants as parts
 use Rattle.ioc_calc.specs.declared.parser.TheConstants.{TURNS}
-use Rattle.ioc_calc.specs.Tree.{Tree, Statement, Value, Store, values_in}
+use Rattle.ioc_calc.specs.Tree.{Statement, Value, Store, values_in}
 use Rattle.ioc_calc.specs.Machine.{steps_of, numbers_of, all_steps, all_numbers}
-use Rattle.ioc_calc.specs.Grammar.{AValue, Reads, ReadsStatement, value, store, AreStatements, last, more}
+use Rattle.ioc_calc.specs.Grammar.{ReadsStatement, value, store, AreStatements, last, more}
 use Rattle.ioc_calc.specs.Parsing.{State, ◌>>=◌, at, emitted, parse}
 use Rattle.ioc_calc.specs.Statements.{stored_in, stored_behind, is_none, statement_with, statement_from, statements, statement_and, ended, ended_at}
-use Rattle.ioc_calc.proofs.Sound.{bind_some, emitted_some, some_same, parse_sound, Grown}
+use Rattle.ioc_calc.proofs.Sound.{bind_some, emitted_some, some_same, parse_sound}
 
 -- the steps of one statement, its numbers and whether it is a value
 abbrev pub steps_in : Statement → List Step
@@ -64,11 +64,12 @@ statement_from_sound (Some stored) s s' e h =
     let a = bind_some (parse TURNS parts.Value (at stored.1 s)) (λ x. emitted (steps.Store stored.0) x) s' h in
     let g = parse_sound TURNS parts.Value (at stored.1 s) a.0 a.1 in
     subst (λ x. Said s x) (sym (emitted_some (steps.Store stored.0) a.0 s' a.2)) (record {
-        statement = Store stored.0 g.tree;
-        reads = subst (λ ts. ReadsStatement ts (Store stored.0 g.tree) a.0.rest) (sym (stored_in_some s.rest stored.0 stored.1 e)) (store stored.0 stored.1 a.0.rest g.tree g.reads);
-        steps = ap (λ x. x ++ steps.Store stored.0 ∷ []) g.steps ∙ append_assoc s.steps (steps_of g.tree) (steps.Store stored.0 ∷ []);
-        numbers = g.numbers;
-        kind = sym (ap is_none e) })
+      statement = Store stored.0 g.tree;
+      reads = subst (λ ts. ReadsStatement ts (Store stored.0 g.tree) a.0.rest) (sym (stored_in_some s.rest stored.0 stored.1 e)) (store stored.0 stored.1 a.0.rest g.tree g.reads);
+      steps = ap (λ x. x ++ steps.Store stored.0 ∷ []) g.steps ∙ append_assoc s.steps (steps_of g.tree) (steps.Store stored.0 ∷ []);
+      numbers = g.numbers;
+      kind = sym (ap is_none e);
+    })
 
 statement_sound : (s s' : State) → statement_with s ≡ Some s' → Said s s'
 unfolding statement_with
@@ -126,19 +127,21 @@ ended_sound : (later : Bool → State → Option State) → Reads_all later → 
 ended_sound later all has is s a s' [] g e both ae h =
     let t = test_true (has || is) a s' h in
     subst (λ x. SaidAll has s x) t.1 (record {
-        statements = g.statement ∷ [];
-        reads = last s.rest g.statement (subst (λ x. ReadsStatement s.rest g.statement x) ae g.reads);
-        steps = g.steps ∙ ap (λ x. s.steps ++ x) (sym (append-nil (steps_in g.statement)) ∙ sym (all_steps-cons g.statement []));
-        numbers = g.numbers ∙ ap (λ x. s.numbers ++ x) (sym (append-nil (numbers_in g.statement)) ∙ sym (all_numbers-cons g.statement []));
-        values = values_of_last g.statement has is e both t.0 })
+      statements = g.statement ∷ [];
+      reads = last s.rest g.statement (subst (λ x. ReadsStatement s.rest g.statement x) ae g.reads);
+      steps = g.steps ∙ ap (λ x. s.steps ++ x) (sym (append-nil (steps_in g.statement)) ∙ sym (all_steps-cons g.statement []));
+      numbers = g.numbers ∙ ap (λ x. s.numbers ++ x) (sym (append-nil (numbers_in g.statement)) ∙ sym (all_numbers-cons g.statement []));
+      values = values_of_last g.statement has is e both t.0;
+    })
 ended_sound later all has is s a s' (tokens.Semicolon ∷ rest) g e both ae h =
     let k = all (has || is) (at rest a) s' h in
     record {
-        statements = g.statement ∷ k.statements;
-        reads = more s.rest rest g.statement k.statements (subst (λ x. ReadsStatement s.rest g.statement x) ae g.reads) k.reads;
-        steps = k.steps ∙ ap (λ x. x ++ all_steps k.statements) g.steps ∙ append_assoc s.steps (steps_in g.statement) (all_steps k.statements) ∙ ap (λ x. s.steps ++ x) (sym (all_steps-cons g.statement k.statements));
-        numbers = k.numbers ∙ ap (λ x. x ++ all_numbers k.statements) g.numbers ∙ append_assoc s.numbers (numbers_in g.statement) (all_numbers k.statements) ∙ ap (λ x. s.numbers ++ x) (sym (all_numbers-cons g.statement k.statements));
-        values = values_of_cons g.statement k.statements has is e both k.values }
+      statements = g.statement ∷ k.statements;
+      reads = more s.rest rest g.statement k.statements (subst (λ x. ReadsStatement s.rest g.statement x) ae g.reads) k.reads;
+      steps = k.steps ∙ ap (λ x. x ++ all_steps k.statements) g.steps ∙ append_assoc s.steps (steps_in g.statement) (all_steps k.statements) ∙ ap (λ x. s.steps ++ x) (sym (all_steps-cons g.statement k.statements));
+      numbers = k.numbers ∙ ap (λ x. x ++ all_numbers k.statements) g.numbers ∙ append_assoc s.numbers (numbers_in g.statement) (all_numbers k.statements) ∙ ap (λ x. s.numbers ++ x) (sym (all_numbers-cons g.statement k.statements));
+      values = values_of_cons g.statement k.statements has is e both k.values;
+    }
 ended_sound later all has is s a s' (_ ∷ rest) g e both ae h = cc
 
 and_sound : (later : Bool → State → Option State) → Reads_all later → (has is : Bool) (s s' : State) → is ≡ is_none (stored_in s.rest) → statement_and later has is s ≡ Some s' → SaidAll has s s'

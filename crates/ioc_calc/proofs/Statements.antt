@@ -1,6 +1,6 @@
 -- A turn over the statements.
 use Rattle.std.proofs.Common.{◌≡◌, ◌≢◌, ℕ, zero, suc, ◌-◌, refl, ap, arith, ◌∙◌, Bool}
-use Rattle.std.specs.Prelude.{Option, None}
+use Rattle.std.specs.Prelude.{None}
 use Rattle.ioc_calc.specs.Parsing.{State}
 use Rattle.ioc_calc.specs.Statements.{statements, statement_and, stored_in, is_none}
 

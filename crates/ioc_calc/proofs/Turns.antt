@@ -1,5 +1,5 @@
 -- The turns of a run.
-use Rattle.std.proofs.Common.{◌≡◌, ℕ, suc, ◌+◌, ◌-◌, ◌<◌, ◌≤◌, List, [], ◌∷◌, length, take, drop, refl, ap, arith, ◌∙◌, sym, get_or, add-one, subst, IsTrue, true, Bool}
+use Rattle.std.proofs.Common.{◌≡◌, ℕ, suc, ◌+◌, ◌-◌, ◌<◌, ◌≤◌, List, [], ◌∷◌, length, take, drop, ap, arith, ◌∙◌, sym, get_or, add-one, subst, IsTrue, Bool}
 use Rattle.std.proofs.Math.Seq.{drop-cons}
 use Rattle.std.proofs.lemmas.List.{get_or-take, length-take}
 use Rattle.std.proofs.lemmas.List.{drop_all, drop-drop, take_all, length-drop}
@@ -10,7 +10,7 @@ use Rattle.ioc_calc.specs.declared.program.Step.{Step}
 use Rattle.ioc_calc.specs.Stack.{top}
 use Rattle.ioc_calc.specs.Tree.{Statement, value_of, arguments_after}
 use Rattle.ioc_calc.proofs.Runs.{machine, program_runs}
-use Rattle.ioc_calc.specs.Machine.{Code, IsProgramOf, Machine, can_run, can_step, depth_after, unused_after, stepped, ran}
+use Rattle.ioc_calc.specs.Machine.{IsProgramOf, Machine, can_run, can_step, depth_after, unused_after, stepped, ran}
 
 -- the steps that are left begin with this one
 pub drop-step : (xs : List Step) (n i : ℕ) (d : Step) → i < n → n ≤ length xs → drop i (take n xs) ≡ get_or xs i d ∷ drop (i + 1) (take n xs)

@@ -48,4 +48,3 @@ exponent_of (tokens.Number x ∷ rest) = written false x rest
 exponent_of (tokens.Prefix Minus ∷ rest) = behind_minus rest
 exponent_of (tokens.Open ∷ rest) = in_brackets rest
 exponent_of (_ ∷ rest) = None
-

@@ -1,6 +1,6 @@
 -- The grammar of expressions, over tokens. Record Reference Manual, "Calculation Record", "CALC
 -- Expression".
-use Rattle.std.specs.Prelude.{ℕ, suc, ◌≡◌, Bool, true, false, IsTrue, Option, Some, None, List, [], ◌∷◌, length, ◌≤◌, ◌<◌}
+use Rattle.std.specs.Prelude.{ℕ, suc, ◌≡◌, Bool, true, false, Some, None, List, [], ◌∷◌, length, ◌≤◌, ◌<◌}
 use Rattle.ioc_calc.specs.declared.operators.Prefix.{Prefix}
 use Rattle.ioc_calc.specs.declared.operators.ListFunction.{ListFunction}
 use Rattle.ioc_calc.specs.declared.operators.ListFunction.TheVariants.{Maximum}

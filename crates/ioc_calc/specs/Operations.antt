@@ -1,6 +1,6 @@
 -- What the operators and functions of an expression give. Record Reference Manual, "Calculation
 -- Record", "CALC Expression"; each operation on doubles is IEEE 754's on 64 bits, rounded to nearest.
-use Rattle.std.specs.Prelude.{ℕ, zero, suc, ℤ, pos, Bool, false, bit_and, bit_or, bit_xor, ◌+◌, ◌-◌, ◌/◌, ◌%◌, ◌^◌, ◌==◌, ◌&&◌, ◌||◌, if◌then◌else◌}
+use Rattle.std.specs.Prelude.{ℕ, zero, suc, ℤ, pos, Bool, false, bit_and, bit_or, bit_xor, ◌-◌, ◌/◌, ◌%◌, ◌^◌, ◌==◌, ◌&&◌, ◌||◌, if◌then◌else◌}
 use Rattle.std.specs.Ordering.{int_eq}
 use Rattle.std.specs.Int.{w32, w64, cast_signed, cast_unsigned, int_shl, int_shr}
 use Rattle.std.specs.Float.{float_with_sign, float_is_finite, float_is_infinite, trunc, floor, ceil, sqrt, float_to_signed}

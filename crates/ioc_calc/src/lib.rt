@@ -10,14 +10,14 @@ mod expression;
 mod grammar;
 mod lexer;
 mod operations;
-mod scan;
+pub mod operators;
 pub mod parser;
 pub mod program;
+mod scan;
 mod stack;
 mod tables;
 pub mod token;
 pub mod words;
-pub mod operators;
 
 pub use compiling::{CalcFault, CalcFaultKind};
 pub use expression::compile;

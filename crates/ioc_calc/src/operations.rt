@@ -7,7 +7,9 @@ use crate::bits::{bits_of, long_of};
 use crate::operators::{Exponent, Infix, ListFunction, Prefix};
 
 const ZERO: f64 = 0.0;
+
 const HALF: f64 = 0.5;
+
 const ONE: f64 = 1.0;
 
 /// Returns 1 for a truth and else 0.

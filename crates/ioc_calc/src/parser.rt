@@ -4,19 +4,16 @@ ghost use Rattle.std.specs.Prelude.{◌≡◌, ◌<◌, ◌&&◌, ◌||◌, [], 
 ghost use Rattle.ioc_calc.specs.Parsing.{Parsed, at, emitted, with_number, closed, parse, value_with, choice_with, second_with, level_with, tail_with, operator_with, power_with, operand_with, function_with, arguments_with, more_arguments_with};
 ghost use Rattle.ioc_calc.specs.Exponents.{whole, written, closed_exponent, bracketed, in_brackets, behind_minus, exponent_of};
 ghost use Rattle.ioc_calc.specs.Levels.{level_of};
-
 ghost use Rattle.ioc_calc.specs.Statements.{stored_in, stored_behind, statement_with, statements, ended};
-
 ghost use Rattle.ioc_calc.specs.Program.{code_of};
 ghost use Rattle.ioc_calc.specs.Machine.{can_run};
 ghost use Rattle.ioc_calc.specs.HasCode.{HasCode};
 
-use std::marker::Model;
-use std::num::saturating_f64_to_u8;
-
 use crate::operators::{Exponent, Infix, ListFunction, Prefix};
 use crate::program::{Program, Step};
 use crate::token::Token;
+use std::marker::Model;
+use std::num::saturating_f64_to_u8;
 
 /// As many turns as no expression of 79 bytes needs.
 const TURNS: u16 = 2000;
@@ -358,7 +355,13 @@ impl<'a> Parser<'a> {
     /// Reads the operand behind an operator of this level, and what follows.
     #[cycle(parts)]
     #[tactic(auto, unfolding(crate::specs::Parsing::operator_with))]
-    fn second_operand(&mut self, turns: u16, level: u8, operator: Infix, rest: &'a [Token]) -> Result<(), Refused>
+    fn second_operand(
+        &mut self,
+        turns: u16,
+        level: u8,
+        operator: Infix,
+        rest: &'a [Token],
+    ) -> Result<(), Refused>
         requires { 0 < level }
         ensures { Parsed result self.new (operator_with (parse turns) level operator rest.now self.old) }
     {
@@ -509,13 +512,7 @@ impl<'a> Parser<'a> {
         ensures { Parsed result self.new (ended (statements turns has_value) has_value self.old) }
     {
         match self.tokens {
-            [] => {
-                if has_value {
-                    Ok(())
-                } else {
-                    Err(Refused)
-                }
-            }
+            [] => { if has_value { Ok(()) } else { Err(Refused) } }
             [Token::Semicolon, rest @ ..] => {
                 self.tokens = rest;
                 self.statements(turns, has_value)

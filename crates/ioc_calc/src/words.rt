@@ -58,13 +58,7 @@ fn longer_of(one: Option<(Token, usize)>, other: Option<(Token, usize)>) -> Opti
         None => other,
         Some(a) => match other {
             None => one,
-            Some(b) => {
-                if a.1 < b.1 {
-                    other
-                } else {
-                    one
-                }
-            }
+            Some(b) => { if a.1 < b.1 { other } else { one } }
         },
     }
 }
@@ -90,6 +84,9 @@ pub fn longest_in(words: &[Word], first: u8, rest: &[u8]) -> Option<(Token, usiz
 {
     match words {
         [] => None,
-        [word, others @ ..] => longer_of(fitting(word, first, rest), longest_in(others, first, rest)),
+        [word, others @ ..] => longer_of(
+            fitting(word, first, rest),
+            longest_in(others, first, rest),
+        ),
     }
 }

@@ -8,11 +8,11 @@ program-requires c = can_run_of _ _ _ c.new-parser.ensures.rest c.new-parser.ens
 pub returns-in-Ok : goal.returns-in-Ok
 returns-in-Ok c = record {
   ok = compiled 80 _ _ _ _ c.new-parser.ensures.rest c.new-parser.ensures.steps c.new-parser.ensures.numbers c.in-Ok.ensures c.program.ensures;
-  err = tt
+  err = tt;
 }
 
 pub returns-in-Err : goal.returns-in-Err
 returns-in-Err c = record {
   ok = tt;
-  err = refused_none _ _ c.new-parser.ensures.rest c.new-parser.ensures.steps c.new-parser.ensures.numbers c.requires c.in-Err.ensures
+  err = refused_none _ _ c.new-parser.ensures.rest c.new-parser.ensures.steps c.new-parser.ensures.numbers c.requires c.in-Err.ensures;
 }

@@ -1,5 +1,5 @@
-use Rattle.std.proofs.Common.{◌≡◌, sym, ◌∙◌, ap, ◌-◌, ◌+◌, ◌/◌, arith}
-use Rattle.std.specs.Float.Ieee.{Float, binary64, mul}
+use Rattle.std.proofs.Common.{sym, ◌∙◌, ap, ◌-◌, ◌+◌, ◌/◌, arith}
+use Rattle.std.specs.Float.Ieee.{binary64, mul}
 use Rattle.ioc_calc.specs.Operations.{multiplied}
 use Rattle.ioc_calc.proofs.Powers.{multiplied_done, multiplied_turn, multiplied_over}
 use Rattle.ioc_calc.proofs.operations.multiplied.Goals as goal
