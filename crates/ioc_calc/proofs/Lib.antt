@@ -13,3 +13,4 @@ pub mod Complete
 pub mod Fits
 pub mod CompleteStatements
 pub mod Refused
+pub mod WholeSizes

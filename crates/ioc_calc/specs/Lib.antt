@@ -14,3 +14,4 @@ pub mod HasCode
 pub mod Compiles
 pub mod Exponents
 pub mod Levels
+pub mod Wholes

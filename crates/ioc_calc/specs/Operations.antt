@@ -4,7 +4,8 @@ use Rattle.std.specs.Prelude.{ℕ, zero, suc, ℤ, pos, Bool, false, bit_and, bi
 use Rattle.std.specs.Ordering.{int_eq}
 use Rattle.std.specs.Int.{w32, w64, cast_signed, cast_unsigned, int_shl, int_shr}
 use Rattle.std.specs.Float.{float_with_sign, float_is_finite, float_is_infinite, trunc, floor, ceil, sqrt, float_to_signed}
-use Rattle.std.specs.Float.Ieee.{Float, binary64, of_bits, of_int, add, sub, mul, div, rem, neg, lt, le, eq, ne, is_nan}
+use Rattle.std.specs.Float.Ieee.{Float, binary64, of_bits, of_int, add, sub, mul, div, neg, lt, le, eq, ne, is_nan}
+use Rattle.ioc_calc.specs.Wholes.{remainder}
 use Rattle.ioc_calc.specs.declared.operators.Prefix.{Prefix}
 use Rattle.ioc_calc.specs.declared.operators.Prefix.TheVariants.{Minus, Not, Complement, Abs, SquareRoot, Ceiling, Floor, NearestInteger, IsInfinite}
 use Rattle.ioc_calc.specs.declared.operators.ListFunction.{ListFunction}
@@ -63,10 +64,6 @@ unfoldable pub shifted_right_unsigned : Float → Float → Float
 shifted_right_unsigned x y = of_int binary64 (pos (bits_of x / 2 ^ (bits_of y % 32)))
 
 -- ---- numbers
-
--- the remainder of the whole parts, with the first one's sign, and 0 in place of -0
-unfoldable pub remainder : Float → Float → Float
-remainder x y = add binary64 (rem binary64 (trunc binary64 x) (trunc binary64 y)) zero_float
 
 -- the smaller and the larger of two: NaN where one is, and the first where neither is below
 unfoldable pub smaller : Float → Float → Float

@@ -17,6 +17,7 @@ mod scan;
 mod stack;
 mod tables;
 pub mod token;
+mod wholes;
 pub mod words;
 
 pub use compiling::{CalcFault, CalcFaultKind};

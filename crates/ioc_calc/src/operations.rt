@@ -1,10 +1,11 @@
 //! What the operators and functions give.
 
 ghost use Rattle.std.specs.Prelude.{◌≡◌};
-ghost use Rattle.ioc_calc.specs.Operations.{truth, is_true, remainder, shifted_left, shifted_right, shifted_right_unsigned, smaller, larger, nearest_integer, sign_of_infinity, of_one, of_first, of_next, of_two, power, multiplied, multiplied_once, chosen};
+ghost use Rattle.ioc_calc.specs.Operations.{truth, is_true, shifted_left, shifted_right, shifted_right_unsigned, smaller, larger, nearest_integer, sign_of_infinity, of_one, of_first, of_next, of_two, power, multiplied, multiplied_once, chosen};
 
 use crate::bits::{bits_of, long_of};
 use crate::operators::{Exponent, Infix, ListFunction, Prefix};
+use crate::wholes::remainder;
 
 const ZERO: f64 = 0.0;
 
@@ -26,14 +27,6 @@ fn is_true(x: f64) -> bool
     ensures { result ≡ is_true x }
 {
     x != ZERO
-}
-
-/// Returns the remainder of the whole parts, with the sign of the first and never -0.
-#[tactic(auto, unfolding(crate::specs::Operations::remainder))]
-fn remainder(x: f64, y: f64) -> f64
-    ensures { result ≡ remainder x y }
-{
-    x.trunc() % y.trunc() + ZERO
 }
 
 /// Returns the first one's 32 bits shifted to the left by the second one's low five bits.
