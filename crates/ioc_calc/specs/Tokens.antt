@@ -1,8 +1,8 @@
 -- The tokens of a text.
-use Rattle.std.specs.Prelude.{ℕ, zero, suc, ◌+◌, ◌-◌, ◌*◌, Bool, true, false, List, [], ◌∷◌, ◌++◌, nat_le, ◌==◌, ◌&&◌, ◌||◌, if◌then◌else◌, Option, Some, None, option_and_then}
-use Rattle.std.specs.Float.{float_is_finite}
-use Rattle.std.specs.Float.Parse.{read_float}
-use Rattle.std.specs.Float.Ieee.{Float, binary64}
+use Rattle.std.specs.Prelude.{ℕ, zero, suc, ◌+◌, ◌-◌, ◌*◌, Bool, true, false, List, [], ◌∷◌, ◌++◌, nat_le, ◌==◌, ◌&&◌, ◌||◌, if◌then◌else◌, Option, Some, None, option_map, take}
+use Rattle.std.specs.Float.Ieee.{Float}
+use Rattle.ioc_double.specs.Decimal.{decimal_length}
+use Rattle.ioc_double.specs.Spelled.{double_of_text}
 use Rattle.ioc_calc.specs.declared.token.Token.{Token}
 use Rattle.ioc_calc.specs.declared.token.Token.TheVariants as tokens
 use Rattle.ioc_calc.specs.declared.token.LeftOut.{LeftOut}
@@ -44,15 +44,16 @@ abbrev pub hexadecimal_at : List ℕ → Option (ℕ × ℕ)
 hexadecimal_at [] = None
 hexadecimal_at (b ∷ digits) = if (b == 120) || (b == 88) then counted (hexadecimal_from 0 0 digits) else None
 
--- a decimal that isn't infinite, with the number of its bytes behind the first
-unfoldable pub decimal_of : Float × ℕ → Option (Float × ℕ)
-decimal_of found = if float_is_finite found.0 then Some (found.0, found.1 - 1) else None
+-- the decimal of so many bytes at the front, and how many it has behind its first: none where it is
+-- infinite, or has none
+unfoldable pub decimal_of : ℕ → List ℕ → Option (Float × ℕ)
+decimal_of count text = if count == 0 then None else option_map (λ x. (x, count - 1)) (double_of_text (take count text))
 
 -- the number of a hexadecimal, and else a decimal
 abbrev pub or_decimal : Option (ℕ × ℕ) → ℕ → List ℕ → Option (Float × ℕ)
 or_decimal (Some h) first text = Some (long_of h.0, h.1)
 or_decimal None first text =
-    if (nat_le 48 first && nat_le first 57) || (first == 46) then option_and_then decimal_of (read_float binary64 text) else None
+    if (nat_le 48 first && nat_le first 57) || (first == 46) then decimal_of (decimal_length text) text else None
 
 -- the number at the front of a text
 abbrev pub number_in : List ℕ → Option (Float × ℕ)

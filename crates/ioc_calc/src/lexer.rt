@@ -1,8 +1,7 @@
 //! The tokens of a text.
 
-ghost use Rattle.std.specs.Prelude.{◌≡◌, ◌+◌, ◌^◌, ◌<◌, ◌≤◌, ◌∷◌, ◌++◌, [], IfSome, OnOk, OnErr, option_and_then, length, drop, false};
-ghost use Rattle.std.specs.Float.Parse.{read_float};
-ghost use Rattle.std.specs.Float.Ieee.{binary64};
+ghost use Rattle.std.specs.Prelude.{◌≡◌, ◌+◌, ◌^◌, ◌<◌, ◌≤◌, ◌∷◌, ◌++◌, [], IfSome, OnOk, OnErr, length, drop, false};
+ghost use Rattle.ioc_double.specs.Decimal.{decimal_length};
 ghost use Rattle.ioc_calc.specs.Tokens.{hex_digit, with_digit, hexadecimal_from, hexadecimal_at, decimal_of, number_in, token_at, ends_operand, is_space, with_front, tokens_from};
 
 use crate::bits::long_of;
@@ -10,6 +9,7 @@ use crate::parser::Refused;
 use crate::tables::{OPERANDS, OPERATORS};
 use crate::token::Token;
 use crate::words::longest_in;
+use ioc_double::{decimal_length, double_of_text};
 
 /// Returns the value of a hexadecimal digit.
 #[tactic(auto, unfolding(crate::specs::Tokens::hex_digit))]
@@ -82,14 +82,14 @@ fn hexadecimal(rest: &[u8]) -> Option<(u32, usize)>
 /// first.
 #[tactic(auto, unfolding(crate::specs::Tokens::decimal_of))]
 fn finite_decimal(text: &[u8]) -> Option<(f64, usize)>
-    ensures { result ≡ option_and_then decimal_of (read_float binary64 text.now) }
+    ensures { result ≡ decimal_of (decimal_length text.now) text.now }
 {
-    let (x, count) = fast_float::parse_partial::<f64, &[u8]>(text).ok()?;
-    if x.is_finite() {
-        Some((x, count - 1))
-    } else {
-        None
+    let count = decimal_length(text);
+    if count == 0 {
+        return None;
     }
+    let x = double_of_text(&text[..count])?;
+    Some((x.number(), count - 1))
 }
 
 /// Returns the number at the front, and how many bytes it has behind its first: a decimal, or a

@@ -1,5 +1,5 @@
 -- Doubles of 64 bits are the same exactly where their bits are.
-use Rattle.std.proofs.Common.{◌≡◌, ◌==◌, ℕ, T, true, sym, ap, ◌∙◌}
+use Rattle.std.proofs.Common.{◌≡◌, ◌==◌, ℕ, T, sym, ap, ◌∙◌}
 use Rattle.std.specs.Bool.{one_answer}
 use Rattle.std.specs.Cmp.{unsigned_Decides}
 use Rattle.std.specs.Float.Ieee.{Float, binary64, fits, to_bits, of_bits}

@@ -1,2 +1,15 @@
+pub mod Decimal
+pub mod Exact
+pub mod Fixed
+pub mod Groups
+pub mod Leading
+pub mod Nearest
+pub mod Pieces
+pub mod Reading
+pub mod Rounded
 pub mod Same
 pub mod SameLaws
+pub mod Size
+pub mod Spelled
+pub mod Text
+pub mod Whole

@@ -7,6 +7,10 @@ use std::num::f64_to_bits_with_nan;
 
 /// An IEEE 754 double. Two are equal where they are the same value: both NaN, or with the same
 /// bits, so `-0` and `0` differ and NaN equals itself.
+///
+/// ```text
+/// Double::new(2.5).number() == 2.5, Double::from(3i64), Double::new(-0.5).whole() == Some(0)
+/// ```
 #[derive(Clone, Copy, Debug)]
 pub struct Double {
     number: f64,
