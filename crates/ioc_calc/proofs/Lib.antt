@@ -14,3 +14,5 @@ pub mod Fits
 pub mod CompleteStatements
 pub mod Refused
 pub mod WholeSizes
+pub mod Longest
+pub mod OneMeaning

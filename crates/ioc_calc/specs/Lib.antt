@@ -15,3 +15,4 @@ pub mod Compiles
 pub mod Exponents
 pub mod Levels
 pub mod Wholes
+pub mod Longest

@@ -23,15 +23,16 @@ pub fn compile(text: &[u8]) -> Result<Program, CalcFault>
     ensures compiled { IfOk result (λ p. Compiles text.now (code_of p)) }
     ensures refused { OnErr result ((statements : List Statement) → IsExpression text.now statements → ⊥) }
     ensures fault { IfErr result (λ fault. IsFault text.now fault.kind) }
+    ensures byte { IfErr result (λ fault. fault.byte ≤ length text.now) }
 {
-    let compiled = compiled(text);
-    compiled
+    compiled(text)
 }
 
 /// Compiles an expression.
 fn compiled(text: &[u8]) -> Result<Program, CalcFault>
     ensures compiled { IfOk result (λ p. Compiles text.now (code_of p)) }
     ensures fault { IfErr result (λ fault. IsFault text.now fault.kind) }
+    ensures byte { IfErr result (λ fault. fault.byte ≤ length text.now) }
 {
     if text.is_empty() {
         return Err(bad(0));
@@ -52,6 +53,7 @@ fn compiled_tokens(text: &[u8], lexer: &Lexer) -> Result<Program, CalcFault>
     requires tokens { tokens_of text.now ≡ Some (read_by lexer.now) }
     ensures compiled { IfOk result (λ p. Compiles text.now (code_of p)) }
     ensures fault { IfErr result (λ fault. IsFault text.now fault.kind) }
+    ensures byte { IfErr result (λ fault. fault.byte ≤ length text.now) }
 {
     let tokens = lexer.tokens();
     let program = match parsed(tokens) {
@@ -68,7 +70,8 @@ fn compiled_tokens(text: &[u8], lexer: &Lexer) -> Result<Program, CalcFault>
 }
 
 fn bad(byte: usize) -> CalcFault
-    ensures { result.kind ≡ CalcFaultKind.Bad }
+    ensures kind { result.kind ≡ CalcFaultKind.Bad }
+    ensures byte { result.byte ≡ byte }
 {
     CalcFault {
         kind: CalcFaultKind::Bad,

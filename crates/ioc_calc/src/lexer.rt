@@ -234,11 +234,13 @@ impl Lexer {
 
     /// Returns the byte at which the token stands that has so many tokens from it on, or the end
     /// where there is none.
-    pub fn byte_of(&self, remaining: usize, end: usize) -> usize {
+    pub fn byte_of(&self, remaining: usize, end: usize) -> usize
+        ensures { result ≤ end }
+    {
         if remaining == 0 || remaining > self.length {
             end
         } else {
-            usize::from(self.bytes[self.length - remaining])
+            usize::from(self.bytes[self.length - remaining]).min(end)
         }
     }
 }

@@ -8,6 +8,7 @@ mod bits;
 mod compiling;
 mod expression;
 mod grammar;
+pub mod laws;
 mod lexer;
 mod operations;
 pub mod operators;
