@@ -10,7 +10,8 @@ use Rattle.ioc_calc.specs.Statements.{statements}
 use Rattle.ioc_calc.specs.Compiles.{IsProgramOfTokens}
 use Rattle.ioc_calc.proofs.SoundStatements.{statements_sound}
 
-pub compiled : (n : ℕ) (ts : List Token) (s s' : State) (code : Code) → s.rest ≡ ts → s.steps ≡ [] → s.numbers ≡ [] → statements n false s ≡ Some s' → HasCode code s' → IsProgramOfTokens ts code
+pub compiled : (n : ℕ) (ts : List Token) (s s' : State) (code : Code) → s.rest ≡ ts → s.steps ≡ [] → s.numbers ≡ []
+    → statements n false s ≡ Some s' → HasCode code s' → IsProgramOfTokens ts code
 compiled n ts s s' code re se ne h c =
     let g = statements_sound n false s s' h in
     record {

@@ -35,7 +35,8 @@ some_leaves (Power t exponent) = some_leaves t
 some_leaves (Choice c s t) = let h = some_leaves c in omega arith
 
 -- operands have a token each, and between two of them there is one
-pub leaves_fit : (p : Phrase) (ts : List Token) (t : Tree) (rest : List Token) → Reads p ts t rest → 2 * leaves t + length rest ≤ length ts + 1
+pub leaves_fit : (p : Phrase) (ts : List Token) (t : Tree) (rest : List Token) → Reads p ts t rest
+    → 2 * leaves t + length rest ≤ length ts + 1
 leaves_fit p ts t rest (number x rest') = omega arith
 leaves_fit p ts t rest (argument place rest') = omega arith
 leaves_fit p ts t rest (before rest') = omega arith
@@ -71,43 +72,57 @@ true_and true b c h e = e
 true_and false b c h e = cc
 
 -- one step
-pub step_runs : (s : Step) (more' : List Step) (d n e m : ℕ) → can_step s d n ≡ true → depth_after s d ≡ e → unused_after s n ≡ m → can_run (s ∷ more') d n ≡ can_run more' e m
-step_runs s more' d n e m h de ue = true_and (can_step s d n) _ (can_run more' e m) h (ap (λ x. can_run more' x (unused_after s n)) de ∙ ap (λ x. can_run more' e x) ue)
+pub step_runs : (s : Step) (more' : List Step) (d n e m : ℕ) → can_step s d n ≡ true → depth_after s d ≡ e → unused_after s n ≡ m
+    → can_run (s ∷ more') d n ≡ can_run more' e m
+step_runs s more' d n e m h de ue = true_and (can_step s d n) _ (can_run more' e m) h (ap (λ x. can_run more' x (unused_after s n)) de
+    ∙ ap (λ x. can_run more' e x) ue)
 
 -- a tree puts one value on the stack
-pub tree_runs : (t : Tree) (more' : List Step) (d n : ℕ) → d + leaves t ≤ 40 → length (numbers_of t) ≤ n → can_run (steps_of t ++ more') d n ≡ can_run more' (d + 1) (n - length (numbers_of t))
-tree_runs (Constant x) more' d n h k = step_runs steps.Number more' d n (d + 1) (n - 1) (and_from (nat_lt d 40) (nat_lt 0 n) (lt-ltb d 40 (omega arith)) (lt-ltb 0 n (omega arith))) refl refl
-tree_runs (Argument place) more' d n h k = step_runs (steps.Argument place) more' d n (d + 1) (n - 0) (lt-ltb d 40 (omega arith)) refl (omega arith)
+pub tree_runs : (t : Tree) (more' : List Step) (d n : ℕ) → d + leaves t ≤ 40 → length (numbers_of t) ≤ n
+    → can_run (steps_of t ++ more') d n ≡ can_run more' (d + 1) (n - length (numbers_of t))
+tree_runs (Constant x) more' d n h k = step_runs steps.Number more' d n (d + 1) (n - 1) (and_from (nat_lt d 40) (nat_lt 0 n)
+    (lt-ltb d 40 (omega arith)) (lt-ltb 0 n (omega arith))) refl refl
+tree_runs (Argument place) more' d n h k = step_runs (steps.Argument place) more' d n (d + 1) (n - 0) (lt-ltb d 40 (omega arith)) refl
+    (omega arith)
 tree_runs Before more' d n h k = step_runs steps.Value more' d n (d + 1) (n - 0) (lt-ltb d 40 (omega arith)) refl (omega arith)
 tree_runs (One op t) more' d n h k =
     ap (λ s. can_run s d n) (append_assoc (steps_of t) (steps.Prefix op ∷ []) more')
     ∙ tree_runs t (steps.Prefix op ∷ more') d n h k
-    ∙ step_runs (steps.Prefix op) more' (d + 1) (n - length (numbers_of t)) (d + 1) (n - length (numbers_of t)) (lt-ltb 0 (d + 1) (omega arith)) refl refl
+    ∙ step_runs (steps.Prefix op) more' (d + 1) (n - length (numbers_of t)) (d + 1) (n - length (numbers_of t)) (lt-ltb 0 (d + 1)
+        (omega arith)) refl refl
 tree_runs (First f t) more' d n h k =
     ap (λ s. can_run s d n) (append_assoc (steps_of t) (steps.First f ∷ []) more')
     ∙ tree_runs t (steps.First f ∷ more') d n h k
-    ∙ step_runs (steps.First f) more' (d + 1) (n - length (numbers_of t)) (d + 1) (n - length (numbers_of t)) (lt-ltb 0 (d + 1) (omega arith)) refl refl
+    ∙ step_runs (steps.First f) more' (d + 1) (n - length (numbers_of t)) (d + 1) (n - length (numbers_of t)) (lt-ltb 0 (d + 1)
+        (omega arith)) refl refl
 tree_runs (Power t e) more' d n h k =
     ap (λ s. can_run s d n) (append_assoc (steps_of t) (steps.Power e ∷ []) more')
     ∙ tree_runs t (steps.Power e ∷ more') d n h k
-    ∙ step_runs (steps.Power e) more' (d + 1) (n - length (numbers_of t)) (d + 1) (n - length (numbers_of t)) (lt-ltb 0 (d + 1) (omega arith)) refl refl
+    ∙ step_runs (steps.Power e) more' (d + 1) (n - length (numbers_of t)) (d + 1) (n - length (numbers_of t)) (lt-ltb 0 (d + 1)
+        (omega arith)) refl refl
 tree_runs (More f s t) more' d n h k =
     let l = length-append (numbers_of s) (numbers_of t) in
-    ap (λ x. can_run x d n) (append_assoc (steps_of s) (steps_of t ++ steps.Next f ∷ []) more' ∙ ap (λ x. steps_of s ++ x) (append_assoc (steps_of t) (steps.Next f ∷ []) more'))
+    ap (λ x. can_run x d n) (append_assoc (steps_of s) (steps_of t ++ steps.Next f ∷ []) more'
+        ∙ ap (λ x. steps_of s ++ x) (append_assoc (steps_of t) (steps.Next f ∷ []) more'))
     ∙ tree_runs s (steps_of t ++ (steps.Next f ∷ more')) d n (omega arith) (omega arith)
     ∙ tree_runs t (steps.Next f ∷ more') (d + 1) (n - length (numbers_of s)) (omega (arith, some_leaves s)) (omega arith)
-    ∙ step_runs (steps.Next f) more' (d + 1 + 1) (n - length (numbers_of s) - length (numbers_of t)) (d + 1) (n - length (numbers_of s ++ numbers_of t)) (lt-ltb 1 (d + 1 + 1) (omega arith)) (omega arith) (omega arith)
+    ∙ step_runs (steps.Next f) more' (d + 1 + 1) (n - length (numbers_of s) - length (numbers_of t)) (d + 1) (n - length
+        (numbers_of s ++ numbers_of t)) (lt-ltb 1 (d + 1 + 1) (omega arith)) (omega arith) (omega arith)
 tree_runs (Two op s t) more' d n h k =
     let l = length-append (numbers_of s) (numbers_of t) in
-    ap (λ x. can_run x d n) (append_assoc (steps_of s) (steps_of t ++ steps.Infix op ∷ []) more' ∙ ap (λ x. steps_of s ++ x) (append_assoc (steps_of t) (steps.Infix op ∷ []) more'))
+    ap (λ x. can_run x d n) (append_assoc (steps_of s) (steps_of t ++ steps.Infix op ∷ []) more'
+        ∙ ap (λ x. steps_of s ++ x) (append_assoc (steps_of t) (steps.Infix op ∷ []) more'))
     ∙ tree_runs s (steps_of t ++ (steps.Infix op ∷ more')) d n (omega arith) (omega arith)
     ∙ tree_runs t (steps.Infix op ∷ more') (d + 1) (n - length (numbers_of s)) (omega (arith, some_leaves s)) (omega arith)
-    ∙ step_runs (steps.Infix op) more' (d + 1 + 1) (n - length (numbers_of s) - length (numbers_of t)) (d + 1) (n - length (numbers_of s ++ numbers_of t)) (lt-ltb 1 (d + 1 + 1) (omega arith)) (omega arith) (omega arith)
+    ∙ step_runs (steps.Infix op) more' (d + 1 + 1) (n - length (numbers_of s) - length (numbers_of t)) (d + 1) (n - length
+        (numbers_of s ++ numbers_of t)) (lt-ltb 1 (d + 1 + 1) (omega arith)) (omega arith) (omega arith)
 tree_runs (Choice c s t) more' d n h k =
     let l = length-append (numbers_of s) (numbers_of t) in
     let m = length-append (numbers_of c) (numbers_of s ++ numbers_of t) in
     ap (λ x. can_run x d n) (simp append_assoc)
     ∙ tree_runs c (steps_of s ++ (steps_of t ++ (steps.Choose ∷ more'))) d n (omega arith) (omega arith)
     ∙ tree_runs s (steps_of t ++ (steps.Choose ∷ more')) (d + 1) (n - length (numbers_of c)) (omega (arith, some_leaves c)) (omega arith)
-    ∙ tree_runs t (steps.Choose ∷ more') (d + 1 + 1) (n - length (numbers_of c) - length (numbers_of s)) (omega (arith, some_leaves c, some_leaves s)) (omega arith)
-    ∙ step_runs steps.Choose more' (d + 1 + 1 + 1) (n - length (numbers_of c) - length (numbers_of s) - length (numbers_of t)) (d + 1) (n - length (numbers_of c ++ (numbers_of s ++ numbers_of t))) (lt-ltb 2 (d + 1 + 1 + 1) (omega arith)) (omega arith) (omega arith)
+    ∙ tree_runs t (steps.Choose ∷ more') (d + 1 + 1) (n - length (numbers_of c) - length (numbers_of s)) (omega
+        (arith, some_leaves c, some_leaves s)) (omega arith)
+    ∙ step_runs steps.Choose more' (d + 1 + 1 + 1) (n - length (numbers_of c) - length (numbers_of s) - length (numbers_of t)) (d + 1)
+        (n - length (numbers_of c ++ (numbers_of s ++ numbers_of t))) (lt-ltb 2 (d + 1 + 1 + 1) (omega arith)) (omega arith) (omega arith)

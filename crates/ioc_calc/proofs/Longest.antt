@@ -23,11 +23,13 @@ shorter a b x h e = omega arith
 no_longer : (a b x : Token × ℕ) → b.1 ≤ a.1 → a.1 ≡ x.1 → b.1 ≤ x.1
 no_longer a b x h e = omega arith
 
-pair_at_most : (c : Bool) (a b : Token × ℕ) (n : ℕ) → (c ≡ true → a.1 < b.1) → (c ≡ false → b.1 ≤ a.1) → AtMost (if c then Some b else Some a) n → (a.1 ≤ n) × (b.1 ≤ n)
+pair_at_most : (c : Bool) (a b : Token × ℕ) (n : ℕ) → (c ≡ true → a.1 < b.1) → (c ≡ false → b.1 ≤ a.1)
+    → AtMost (if c then Some b else Some a) n → (a.1 ≤ n) × (b.1 ≤ n)
 pair_at_most true a b n lt ge h = let l = lt refl in (omega arith, h)
 pair_at_most false a b n lt ge h = let l = ge refl in (h, omega arith)
 
-longer_some : (a b : Option (Token × ℕ)) (x : Token × ℕ) → longer_of a b ≡ Some x → ((b ≡ Some x) × AtMost a x.1) ⊎ ((a ≡ Some x) × AtMost b x.1)
+longer_some : (a b : Option (Token × ℕ)) (x : Token × ℕ) → longer_of a b ≡ Some x
+    → ((b ≡ Some x) × AtMost a x.1) ⊎ ((a ≡ Some x) × AtMost b x.1)
 longer_some None None x e = cc
 longer_some None (Some b) x e = inl (e, tt)
 longer_some (Some a) None x e = inr (e, tt)
@@ -48,13 +50,15 @@ found_at_most None x e = tt
 found_at_most (Some f) x e = let same = ap (λ (p : Token × ℕ). p.1) (some_same f x e) in omega arith
 
 -- no word is longer where the longest is at most so long
-none_longer : (words : List Word) (first : ℕ) (rest : List ℕ) (n : ℕ) → AtMost (longest_in words first rest) n → NoneIsLonger words first rest n
+none_longer : (words : List Word) (first : ℕ) (rest : List ℕ) (n : ℕ) → AtMost (longest_in words first rest) n
+    → NoneIsLonger words first rest n
 none_longer [] first rest n h = tt
 none_longer (w ∷ ws) first rest n h =
     let both = both_at_most (fitting w first rest) (longest_in ws first rest) n h in
     (both.0, none_longer ws first rest n both.1)
 
-one_of : (words : List Word) (first : ℕ) (rest : List ℕ) (token : Token) (more : ℕ) → longest_in words first rest ≡ Some (token, more) → IsOneOf words first rest token more
+one_of : (words : List Word) (first : ℕ) (rest : List ℕ) (token : Token) (more : ℕ) → longest_in words first rest ≡ Some (token, more)
+    → IsOneOf words first rest token more
 one_of [] first rest token more e = cc
 one_of (w ∷ ws) first rest token more e =
     elim (longer_some (fitting w first rest) (longest_in ws first rest) (token, more) e) [
@@ -62,5 +66,7 @@ one_of (w ∷ ws) first rest token more e =
       | inr k ↦ inl k.0
     ]
 
-pub longest : (words : List Word) (first : ℕ) (rest : List ℕ) (token : Token) (more : ℕ) → longest_in words first rest ≡ Some (token, more) → IsOneOf words first rest token more × NoneIsLonger words first rest more
-longest words first rest token more e = (one_of words first rest token more e, none_longer words first rest more (found_at_most (longest_in words first rest) (token, more) e))
+pub longest : (words : List Word) (first : ℕ) (rest : List ℕ) (token : Token) (more : ℕ)
+    → longest_in words first rest ≡ Some (token, more) → IsOneOf words first rest token more × NoneIsLonger words first rest more
+longest words first rest token more e = (one_of words first rest token more e, none_longer words first rest more (found_at_most
+    (longest_in words first rest) (token, more) e))

@@ -20,19 +20,24 @@ use Rattle.ioc_calc.proofs.CompleteStatements.{statements_complete, statements_r
 begun : (ts : List Token) (s : State) → s.rest ≡ ts → s.steps ≡ [] → s.numbers ≡ [] → s ≡ state ts [] []
 begun ts s re se ne = ap (λ x. state x s.steps s.numbers) re ∙ ap (λ x. state ts x s.numbers) se ∙ ap (λ x. state ts [] x) ne
 
-reads_all : (ts : List Token) (s : State) (ss : List Statement) → s.rest ≡ ts → s.steps ≡ [] → s.numbers ≡ [] → length ts ≤ 79 → AreStatements ts ss → values_in ss ≡ 1 → statements 80 false s ≡ Some (state [] ([] ++ all_steps ss) ([] ++ all_numbers ss))
-reads_all ts s ss re se ne h d v = ap (λ x. statements 80 false x) (begun ts s re se ne) ∙ statements_complete ts ss d 80 false [] [] (omega arith) v (omega arith) (omega arith)
+reads_all : (ts : List Token) (s : State) (ss : List Statement) → s.rest ≡ ts → s.steps ≡ [] → s.numbers ≡ [] → length ts ≤ 79
+    → AreStatements ts ss → values_in ss ≡ 1 → statements 80 false s ≡ Some (state [] ([] ++ all_steps ss) ([] ++ all_numbers ss))
+reads_all ts s ss re se ne h d v = ap (λ x. statements 80 false x) (begun ts s re se ne)
+    ∙ statements_complete ts ss d 80 false [] [] (omega arith) v (omega arith) (omega arith)
 
 -- tokens that the parser refuses
-pub refused_none : (ts : List Token) (s : State) → s.rest ≡ ts → s.steps ≡ [] → s.numbers ≡ [] → length ts ≤ 79 → statements 80 false s ≡ None → AreNoStatements ts
+pub refused_none : (ts : List Token) (s : State) → s.rest ≡ ts → s.steps ≡ [] → s.numbers ≡ [] → length ts ≤ 79
+    → statements 80 false s ≡ None → AreNoStatements ts
 refused_none ts s re se ne h none = λ ss d v. let some = reads_all ts s ss re se ne h d v in cc
 
 -- the steps of tokens that the parser reads can run
-pub can_run_of : (ts : List Token) (s s' : State) → s.rest ≡ ts → s.steps ≡ [] → s.numbers ≡ [] → length ts ≤ 79 → statements 80 false s ≡ Some s' → IsTrue (can_run s'.steps 0 40)
+pub can_run_of : (ts : List Token) (s s' : State) → s.rest ≡ ts → s.steps ≡ [] → s.numbers ≡ [] → length ts ≤ 79
+    → statements 80 false s ≡ Some s' → IsTrue (can_run s'.steps 0 40)
 can_run_of ts s s' re se ne h some =
     let g = statements_sound 80 false s s' some in
     let reads = subst (λ x. AreStatements x g.statements) re g.reads in
-    ap (λ x. can_run x 0 40) (g.steps ∙ ap (λ x. x ++ all_steps g.statements) se) ∙ statements_run ts g.statements reads 0 40 (omega arith) (omega arith) (omega (arith, g.values))
+    ap (λ x. can_run x 0 40) (g.steps ∙ ap (λ x. x ++ all_steps g.statements) se)
+        ∙ statements_run ts g.statements reads 0 40 (omega arith) (omega arith) (omega (arith, g.values))
 
 -- ---- texts
 
@@ -49,18 +54,23 @@ no_text text h = λ us ss f. h f.some
 pub long_text : (text : List ℕ) → 79 < length text → IsFault text Bad
 long_text text h = λ us ss f. let short = f.short in absurd (omega arith)
 
-follows : (text : List ℕ) (ts : List Token) (code : Code) → 0 < length text → length text ≤ 79 → tokens_of text ≡ Some ts → (p : IsProgramOfTokens ts code) → Follows text ts p.statements
-follows text ts code some short e p = record { some = some; short = short; spelled = e; grammar = p.grammar; one_value = p.program.one_value }
+follows : (text : List ℕ) (ts : List Token) (code : Code) → 0 < length text → length text ≤ 79 → tokens_of text ≡ Some ts
+    → (p : IsProgramOfTokens ts code) → Follows text ts p.statements
+follows text ts code some short e p = record { some = some; short = short; spelled = e; grammar = p.grammar; one_value =
+    p.program.one_value }
 
-pub compiles : (text : List ℕ) (ts : List Token) (code : Code) → 0 < length text → length text ≤ 79 → tokens_of text ≡ Some ts → IsProgramOfTokens ts code → left_out_in ts ≡ None → Compiles text code
+pub compiles : (text : List ℕ) (ts : List Token) (code : Code) → 0 < length text → length text ≤ 79 → tokens_of text ≡ Some ts
+    → IsProgramOfTokens ts code → left_out_in ts ≡ None → Compiles text code
 compiles text ts code some short e p none = record {
   statements = p.statements;
   expression = record { tokens = ts; follows = follows text ts code some short e p; complete = none };
   program = p.program;
 }
 
-pub leaves_out : (text : List ℕ) (ts : List Token) (code : Code) (word : Word) → 0 < length text → length text ≤ 79 → tokens_of text ≡ Some ts → IsProgramOfTokens ts code → left_out_in ts ≡ Some word → IsFault text (LeftOut word)
-leaves_out text ts code word some short e p found = record { tokens = ts; statements = p.statements; follows = follows text ts code some short e p; first = found }
+pub leaves_out : (text : List ℕ) (ts : List Token) (code : Code) (word : Word) → 0 < length text → length text ≤ 79
+    → tokens_of text ≡ Some ts → IsProgramOfTokens ts code → left_out_in ts ≡ Some word → IsFault text (LeftOut word)
+leaves_out text ts code word some short e p found = record { tokens = ts; statements = p.statements; follows = follows text ts code some
+    short e p; first = found }
 
 -- a fault is no expression's
 pub no_expression : (text : List ℕ) (kind : CalcFaultKind) → IsFault text kind → (ss : List Statement) → IsExpression text ss → ⊥

@@ -17,17 +17,21 @@ use Rattle.ioc_calc.proofs.Sound.{some_same}
 
 -- ---- exponents are shorter than what they stand in
 
-map_rest : (o : Option ℕ) (f : ℕ → Exponent) (rest out : List Token) (e : Exponent) → option_map {U = Exponent × List Token} (λ n. (f n, rest)) o ≡ Some (e, out) → rest ≡ out
+map_rest : (o : Option ℕ) (f : ℕ → Exponent) (rest out : List Token) (e : Exponent)
+    → option_map {U = Exponent × List Token} (λ n. (f n, rest)) o ≡ Some (e, out) → rest ≡ out
 map_rest None f rest out e h = cc
 map_rest (Some n) f rest out e h = ap (λ (x : Exponent × List Token). x.1) (some_same (f n, rest) (e, out) h)
 
-written_short : (negative : Bool) (x : Float) (rest out : List Token) (e : Exponent) → written negative x rest ≡ Some (e, out) → rest ≡ out
+written_short : (negative : Bool) (x : Float) (rest out : List Token) (e : Exponent) → written negative x rest ≡ Some (e, out)
+    → rest ≡ out
 unfolding written
 written_short negative x rest out e h = map_rest (whole_of x) (λ n. record { size = n; negative = negative }) rest out e h
 
-closed_short : (negative : Bool) (x : Float) (ts out : List Token) (e : Exponent) → closed_exponent negative x ts ≡ Some (e, out) → length out < length ts
+closed_short : (negative : Bool) (x : Float) (ts out : List Token) (e : Exponent) → closed_exponent negative x ts ≡ Some (e, out)
+    → length out < length ts
 closed_short negative x [] out e h = cc
-closed_short negative x (tokens.Close ∷ rest) out e h = let same = ap (λ (xs : List Token). length xs) (written_short negative x rest out e h) in omega arith
+closed_short negative x (tokens.Close ∷ rest) out e h = let same = ap (λ (xs : List Token). length xs)
+    (written_short negative x rest out e h) in omega arith
 closed_short negative x (_ ∷ rest) out e h = cc
 
 bracketed_short : (negative : Bool) (ts out : List Token) (e : Exponent) → bracketed negative ts ≡ Some (e, out) → length out < length ts
@@ -42,13 +46,15 @@ in_brackets_short (t ∷ rest) out e h = bracketed_short false (t ∷ rest) out 
 
 behind_minus_short : (ts out : List Token) (e : Exponent) → behind_minus ts ≡ Some (e, out) → length out < length ts
 behind_minus_short [] out e h = cc
-behind_minus_short (tokens.Number x ∷ rest) out e h = let same = ap (λ (xs : List Token). length xs) (written_short true x rest out e h) in omega arith
+behind_minus_short (tokens.Number x ∷ rest) out e h = let same = ap (λ (xs : List Token). length xs)
+    (written_short true x rest out e h) in omega arith
 behind_minus_short (tokens.Open ∷ rest) out e h = let s = bracketed_short true rest out e h in omega arith
 behind_minus_short (_ ∷ rest) out e h = cc
 
 pub exponent_short : (ts out : List Token) (e : Exponent) → exponent_of ts ≡ Some (e, out) → length out < length ts
 exponent_short [] out e h = cc
-exponent_short (tokens.Number x ∷ rest) out e h = let same = ap (λ (xs : List Token). length xs) (written_short false x rest out e h) in omega arith
+exponent_short (tokens.Number x ∷ rest) out e h = let same = ap (λ (xs : List Token). length xs)
+    (written_short false x rest out e h) in omega arith
 exponent_short (tokens.Prefix Minus ∷ rest) out e h = let s = behind_minus_short rest out e h in omega arith
 exponent_short (tokens.Open ∷ rest) out e h = let s = in_brackets_short rest out e h in omega arith
 exponent_short (_ ∷ rest) out e h = cc

@@ -41,14 +41,17 @@ either_way true x y z h = inl (refl, h)
 either_way false x y z h = inr (refl, h)
 
 -- one more step
-pub emitted_some : (step : Step) (s s' : State) → emitted step s ≡ Some s' → s' ≡ record { rest = s.rest; steps = s.steps ++ step ∷ []; numbers = s.numbers }
+pub emitted_some : (step : Step) (s s' : State) → emitted step s ≡ Some s'
+    → s' ≡ record { rest = s.rest; steps = s.steps ++ step ∷ []; numbers = s.numbers }
 unfolding emitted
 emitted_some step s s' h = sym (test_some (nat_lt (length s.steps) 79) _ s' h)
 
 -- one more number
-pub with_number_some : (x : Float) (s s' : State) → with_number x s ≡ Some s' → s' ≡ record { rest = s.rest; steps = s.steps ++ steps.Number ∷ []; numbers = s.numbers ++ x ∷ [] }
+pub with_number_some : (x : Float) (s s' : State) → with_number x s ≡ Some s'
+    → s' ≡ record { rest = s.rest; steps = s.steps ++ steps.Number ∷ []; numbers = s.numbers ++ x ∷ [] }
 unfolding with_number
-with_number_some x s s' h = emitted_some steps.Number (record { rest = s.rest; steps = s.steps; numbers = s.numbers ++ x ∷ [] }) s' (chosen_some (nat_lt (length s.numbers) 40) _ s' h)
+with_number_some x s s' h = emitted_some steps.Number (record { rest = s.rest; steps = s.steps; numbers = s.numbers ++ x ∷ [] }) s'
+    (chosen_some (nat_lt (length s.numbers) 40) _ s' h)
 
 -- ---- what was read
 
@@ -63,16 +66,19 @@ pub record Grown (phrase : Phrase) (ts : List Token) (base : List Step) (known :
 abbrev pub Claim : Part → State → State → Type 0
 Claim parts.Value s s' = Grown AValue s.rest s.steps s.numbers s'
 Claim (parts.Level level) s s' = Grown (ALevel level) s.rest s.steps s.numbers s'
-Claim (parts.Tail level) s s' = (k : ℕ) → level ≡ suc k → (ts : List Token) (base : List Step) (known : List Float) → Grown (ALevel (suc k)) ts base known s → Grown (ALevel (suc k)) ts base known s'
+Claim (parts.Tail level) s s' = (k : ℕ) → level ≡ suc k → (ts : List Token) (base : List Step) (known : List Float)
+    → Grown (ALevel (suc k)) ts base known s → Grown (ALevel (suc k)) ts base known s'
 Claim (parts.Arguments function) s s' = Grown (AList function) s.rest s.steps s.numbers s'
-Claim (parts.MoreArguments function) s s' = (ts : List Token) (base : List Step) (known : List Float) → Grown (AList function) ts base known s → Grown (AList function) ts base known s'
+Claim (parts.MoreArguments function) s s' = (ts : List Token) (base : List Step) (known : List Float)
+    → Grown (AList function) ts base known s → Grown (AList function) ts base known s'
 
 -- a reader of parts that says so
 abbrev pub IsSound : (Part → State → Option State) → Type 0
 IsSound reader = (part : Part) (s s' : State) → reader part s ≡ Some s' → Claim part s s'
 
 -- one more step behind a tree
-pub grown_one : (p q : Phrase) (ts us : List Token) (base : List Step) (known : List Float) (step : Step) (a s' : State) (make : Tree → Tree)
+pub grown_one : (p q : Phrase) (ts us : List Token) (base : List Step) (known : List Float) (step : Step) (a s' : State) (make : Tree
+    → Tree)
     → ((t : Tree) → steps_of (make t) ≡ steps_of t ++ step ∷ []) → ((t : Tree) → numbers_of (make t) ≡ numbers_of t)
     → ((t : Tree) (rest : List Token) → Reads p ts t rest → Reads q us (make t) rest)
     → Grown p ts base known a → emitted step a ≡ Some s' → Grown q us base known s'
@@ -80,13 +86,16 @@ grown_one p q ts us base known step a s' make makes same builds g h =
     subst (λ x. Grown q us base known x) (sym (emitted_some step a s' h)) (record {
       tree = make g.tree;
       reads = builds g.tree a.rest g.reads;
-      steps = ap (λ x. x ++ step ∷ []) g.steps ∙ append_assoc base (steps_of g.tree) (step ∷ []) ∙ ap (λ x. base ++ x) (sym (makes g.tree));
+      steps = ap (λ x. x ++ step ∷ []) g.steps ∙ append_assoc base (steps_of g.tree) (step ∷ [])
+          ∙ ap (λ x. base ++ x) (sym (makes g.tree));
       numbers = g.numbers ∙ ap (λ x. known ++ x) (sym (same g.tree));
     })
 
 -- one more step behind two trees
-pub grown_two : (p q r : Phrase) (ts us vs : List Token) (base : List Step) (known : List Float) (step : Step) (a b s' : State) (make : Tree → Tree → Tree)
-    → ((s t : Tree) → steps_of (make s t) ≡ steps_of s ++ (steps_of t ++ step ∷ [])) → ((s t : Tree) → numbers_of (make s t) ≡ numbers_of s ++ numbers_of t)
+pub grown_two : (p q r : Phrase) (ts us vs : List Token) (base : List Step) (known : List Float) (step : Step) (a b s' : State)
+    (make : Tree → Tree → Tree)
+    → ((s t : Tree) → steps_of (make s t) ≡ steps_of s ++ (steps_of t ++ step ∷ [])) → ((s t : Tree)
+        → numbers_of (make s t) ≡ numbers_of s ++ numbers_of t)
     → (g : Grown p ts base known a) → (k : Grown q us a.steps a.numbers b)
     → Reads r vs (make g.tree k.tree) b.rest
     → emitted step b ≡ Some s' → Grown r vs base known s'
@@ -98,12 +107,14 @@ grown_two p q r ts us vs base known step a b s' make makes same g k reads h =
           ∙ append_assoc (base ++ steps_of g.tree) (steps_of k.tree) (step ∷ [])
           ∙ append_assoc base (steps_of g.tree) (steps_of k.tree ++ step ∷ [])
           ∙ ap (λ x. base ++ x) (sym (makes g.tree k.tree));
-      numbers = k.numbers ∙ ap (λ x. x ++ numbers_of k.tree) g.numbers ∙ append_assoc known (numbers_of g.tree) (numbers_of k.tree) ∙ ap (λ x. known ++ x) (sym (same g.tree k.tree));
+      numbers = k.numbers ∙ ap (λ x. x ++ numbers_of k.tree) g.numbers ∙ append_assoc known (numbers_of g.tree) (numbers_of k.tree)
+          ∙ ap (λ x. known ++ x) (sym (same g.tree k.tree));
     })
 
 -- ---- operands
 
-closed_some : (ts : List Token) (s s' : State) → closed_at ts s ≡ Some s' → (rest : List Token) × (ts ≡ tokens.Close ∷ rest) × (s' ≡ at rest s)
+closed_some : (ts : List Token) (s s' : State) → closed_at ts s ≡ Some s'
+    → (rest : List Token) × (ts ≡ tokens.Close ∷ rest) × (s' ≡ at rest s)
 closed_some [] s s' h = cc
 closed_some (tokens.Close ∷ rest) s s' h = (rest, refl, cc)
 closed_some (_ ∷ rest) s s' h = cc
@@ -130,25 +141,32 @@ not_one k level h e = absurd (omega arith)
 
 -- ---- functions
 
-one_behind : (r : Part → State → Option State) → IsSound r → (token : Token) (f : ListFunction) → IsFunction token f → (ts : List Token) → is_open ts ≡ false → (steps' : List Step) (numbers' : List Float) (s' : State)
-    → (r (parts.Level 0) (record { rest = ts; steps = steps'; numbers = numbers' }) >>= (λ a. emitted (steps.First f) a)) ≡ Some s' → Grown (ALevel 0) (token ∷ ts) steps' numbers' s'
+one_behind : (r : Part → State → Option State) → IsSound r → (token : Token) (f : ListFunction) → IsFunction token f
+    → (ts : List Token) → is_open ts ≡ false → (steps' : List Step) (numbers' : List Float) (s' : State)
+    → (r (parts.Level 0) (record { rest = ts; steps = steps'; numbers = numbers' }) >>= (λ a. emitted (steps.First f) a)) ≡ Some s'
+        → Grown (ALevel 0) (token ∷ ts) steps' numbers' s'
 one_behind r sound token f is ts shut steps' numbers' s' h =
-    let b = bind_some (r (parts.Level 0) (record { rest = ts; steps = steps'; numbers = numbers' })) (λ a. emitted (steps.First f) a) s' h in
+    let b = bind_some (r (parts.Level 0) (record { rest = ts; steps = steps'; numbers = numbers' })) (λ a. emitted
+        (steps.First f) a) s' h in
     grown_one (ALevel 0) (ALevel 0) ts (token ∷ ts) steps' numbers' (steps.First f) b.0 s' (First f) (λ t. refl) (λ t. refl)
     (λ t rest k. of_one token f ts rest t is shut k)
     (sound (parts.Level 0) (record { rest = ts; steps = steps'; numbers = numbers' }) b.0 b.1) b.2
 
-function_at_sound : (r : Part → State → Option State) → IsSound r → (token : Token) (f : ListFunction) → IsFunction token f → (ts : List Token) (steps' : List Step) (numbers' : List Float) (s' : State)
-    → function_at r f ts (record { rest = ts; steps = steps'; numbers = numbers' }) ≡ Some s' → Grown (ALevel 0) (token ∷ ts) steps' numbers' s'
+function_at_sound : (r : Part → State → Option State) → IsSound r → (token : Token) (f : ListFunction) → IsFunction token f
+    → (ts : List Token) (steps' : List Step) (numbers' : List Float) (s' : State)
+    → function_at r f ts (record { rest = ts; steps = steps'; numbers = numbers' }) ≡ Some s'
+        → Grown (ALevel 0) (token ∷ ts) steps' numbers' s'
 function_at_sound r sound token f is [] steps' numbers' s' h = cc
 function_at_sound r sound token f is (tokens.Open ∷ rest) steps' numbers' s' h =
     let b = bind_some (r (parts.Arguments f) (record { rest = rest; steps = steps'; numbers = numbers' })) closed s' h in
     bracketed_grown (AList f) rest (token ∷ tokens.Open ∷ rest) steps' numbers' b.0 s'
     (λ t behind k. of_list token f rest behind t is k)
     (sound (parts.Arguments f) (record { rest = rest; steps = steps'; numbers = numbers' }) b.0 b.1) b.2
-function_at_sound r sound token f is (other ∷ rest) steps' numbers' s' h = one_behind r sound token f is (other ∷ rest) refl steps' numbers' s' h
+function_at_sound r sound token f is (other ∷ rest) steps' numbers' s' h = one_behind r sound token f is
+    (other ∷ rest) refl steps' numbers' s' h
 
-operand_at_sound : (r : Part → State → Option State) → IsSound r → (ts : List Token) (steps' : List Step) (numbers' : List Float) (s' : State)
+operand_at_sound : (r : Part → State → Option State) → IsSound r
+    → (ts : List Token) (steps' : List Step) (numbers' : List Float) (s' : State)
     → operand_at r ts (record { rest = ts; steps = steps'; numbers = numbers' }) ≡ Some s' → Grown (ALevel 0) ts steps' numbers' s'
 unfolding function_with
 operand_at_sound r sound [] steps' numbers' s' h = cc
@@ -169,25 +187,31 @@ operand_at_sound r sound (tokens.Random ∷ rest) steps' numbers' s' h =
     (sym (emitted_some steps.Value (record { rest = rest; steps = steps'; numbers = numbers' }) s' h))
     (record { tree = Before; reads = random rest; steps = refl; numbers = sym (append-nil numbers') })
 operand_at_sound r sound (tokens.Prefix op ∷ rest) steps' numbers' s' h =
-    let b = bind_some (r (parts.Level 0) (record { rest = rest; steps = steps'; numbers = numbers' })) (λ a. emitted (steps.Prefix op) a) s' h in
-    grown_one (ALevel 0) (ALevel 0) rest (tokens.Prefix op ∷ rest) steps' numbers' (steps.Prefix op) b.0 s' (One op) (λ t. refl) (λ t. refl)
+    let b = bind_some (r (parts.Level 0) (record { rest = rest; steps = steps'; numbers = numbers' })) (λ a. emitted
+        (steps.Prefix op) a) s' h in
+    grown_one (ALevel 0) (ALevel 0) rest (tokens.Prefix op ∷ rest) steps' numbers' (steps.Prefix op) b.0 s' (One op) (λ t. refl)
+        (λ t. refl)
     (λ t behind k. prefix op rest behind t k)
     (sound (parts.Level 0) (record { rest = rest; steps = steps'; numbers = numbers' }) b.0 b.1) b.2
 operand_at_sound r sound (tokens.Open ∷ rest) steps' numbers' s' h =
     let b = bind_some (r parts.Value (record { rest = rest; steps = steps'; numbers = numbers' })) closed s' h in
     bracketed_grown AValue rest (tokens.Open ∷ rest) steps' numbers' b.0 s' (λ t behind k. brackets rest behind t k)
     (sound parts.Value (record { rest = rest; steps = steps'; numbers = numbers' }) b.0 b.1) b.2
-operand_at_sound r sound (tokens.Function f ∷ rest) steps' numbers' s' h = function_at_sound r sound (tokens.Function f) f (named f) rest steps' numbers' s' h
-operand_at_sound r sound (tokens.LeftOutFunction w ∷ rest) steps' numbers' s' h = function_at_sound r sound (tokens.LeftOutFunction w) Maximum (left_out w) rest steps' numbers' s' h
+operand_at_sound r sound (tokens.Function f ∷ rest) steps' numbers' s' h = function_at_sound r sound (tokens.Function f) f
+    (named f) rest steps' numbers' s' h
+operand_at_sound r sound (tokens.LeftOutFunction w ∷ rest) steps' numbers' s' h = function_at_sound r sound
+    (tokens.LeftOutFunction w) Maximum (left_out w) rest steps' numbers' s' h
 operand_at_sound r sound (_ ∷ rest) steps' numbers' s' h = cc
 
 -- ---- operators
 
-level_sound : (r : Part → State → Option State) → IsSound r → (level : ℕ) (s s' : State) → level_with r level s ≡ Some s' → Grown (ALevel level) s.rest s.steps s.numbers s'
+level_sound : (r : Part → State → Option State) → IsSound r → (level : ℕ) (s s' : State) → level_with r level s ≡ Some s'
+    → Grown (ALevel level) s.rest s.steps s.numbers s'
 unfolding level_with operand_with
 level_sound r sound zero s s' h = operand_at_sound r sound s.rest s.steps s.numbers s' h
 level_sound r sound (suc k) s s' h =
-    elim (either_way (suc k == 0) (operand_at r s.rest s) (r (parts.Level (suc k - 1)) s >>= (λ a. r (parts.Tail (suc k)) a)) (Some s') h) [
+    elim (either_way (suc k == 0) (operand_at r s.rest s) (r (parts.Level (suc k - 1)) s >>= (λ a. r (parts.Tail (suc k)) a))
+        (Some s') h) [
       | inl w ↦ absurd (suc_zero k (eqb-true (suc k) 0 w.0))
       | inr w ↦
           let b = bind_some (r (parts.Level (suc k - 1)) s) (λ a. r (parts.Tail (suc k)) a) s' w.1 in
@@ -200,12 +224,15 @@ level_sound r sound (suc k) s s' h =
 pub some_same : {A : Type 0} (x y : A) → Some x ≡ Some y → x ≡ y
 some_same x y h = cc
 
-unchanged : (p : Phrase) (us : List Token) (base : List Step) (known : List Float) (s s' : State) → Some s ≡ Some s' → Grown p us base known s → Grown p us base known s'
+unchanged : (p : Phrase) (us : List Token) (base : List Step) (known : List Float) (s s' : State) → Some s ≡ Some s'
+    → Grown p us base known s → Grown p us base known s'
 unchanged p us base known s s' h g = subst (λ x. Grown p us base known x) (some_same s s' h) g
 
-operator_sound : (r : Part → State → Option State) → IsSound r → (k level : ℕ) → level ≡ suc k → (op : Infix) → level_of op ≡ level → (rest us : List Token) (base : List Step) (known : List Float) (steps' : List Step) (numbers' : List Float) (s' : State)
+operator_sound : (r : Part → State → Option State) → IsSound r → (k level : ℕ) → level ≡ suc k → (op : Infix) → level_of op ≡ level
+    → (rest us : List Token) (base : List Step) (known : List Float) (steps' : List Step) (numbers' : List Float) (s' : State)
     → Grown (ALevel (suc k)) us base known (record { rest = tokens.Infix op ∷ rest; steps = steps'; numbers = numbers' })
-    → operator_with r level op rest (record { rest = tokens.Infix op ∷ rest; steps = steps'; numbers = numbers' }) ≡ Some s' → Grown (ALevel (suc k)) us base known s'
+    → operator_with r level op rest (record { rest = tokens.Infix op ∷ rest; steps = steps'; numbers = numbers' }) ≡ Some s'
+        → Grown (ALevel (suc k)) us base known s'
 unfolding operator_with
 operator_sound r sound k level le op oe rest us base known steps' numbers' s' g h =
     let here : State = record { rest = rest; steps = steps'; numbers = numbers' } in
@@ -214,12 +241,16 @@ operator_sound r sound k level le op oe rest us base known steps' numbers' s' g 
     let one_less : level - 1 ≡ k = omega arith in
     let ga = sound (parts.Level k) here a.0 (subst (λ j. r (parts.Level j) here ≡ Some a.0) one_less a.1) in
     sound (parts.Tail level) b.0 s' b.2 k le us base known
-    (grown_two (ALevel (suc k)) (ALevel k) (ALevel (suc k)) us rest us base known (steps.Infix op) (record { rest = tokens.Infix op ∷ rest; steps = steps'; numbers = numbers' }) a.0 b.0 (Two op) (λ s t. refl) (λ s t. refl) g ga
+    (grown_two (ALevel (suc k)) (ALevel k) (ALevel (suc k)) us rest us base known (steps.Infix op)
+        (record { rest = tokens.Infix op ∷ rest; steps = steps'; numbers = numbers' }) a.0 b.0 (Two op) (λ s t. refl) (λ s t. refl) g ga
     (two k op us rest a.0.rest g.tree ga.tree (oe ∙ le) g.reads ga.reads) b.1)
 
-power_sound : (r : Part → State → Option State) → IsSound r → (sign : LeftOut) (found : Option (Exponent × List Token)) (rest us : List Token) → exponent_of rest ≡ found → (base : List Step) (known : List Float) (steps' : List Step) (numbers' : List Float) (s' : State)
+power_sound : (r : Part → State → Option State) → IsSound r
+    → (sign : LeftOut) (found : Option (Exponent × List Token)) (rest us : List Token) → exponent_of rest ≡ found
+    → (base : List Step) (known : List Float) (steps' : List Step) (numbers' : List Float) (s' : State)
     → Grown (ALevel 1) us base known (record { rest = tokens.Power sign ∷ rest; steps = steps'; numbers = numbers' })
-    → power_from r found rest (record { rest = tokens.Power sign ∷ rest; steps = steps'; numbers = numbers' }) ≡ Some s' → Grown (ALevel 1) us base known s'
+    → power_from r found rest (record { rest = tokens.Power sign ∷ rest; steps = steps'; numbers = numbers' }) ≡ Some s'
+        → Grown (ALevel 1) us base known s'
 power_sound r sound sign (Some e) rest us is base known steps' numbers' s' g h =
     let here : State = record { rest = e.1; steps = steps'; numbers = numbers' } in
     let a = bind_some (emitted (steps.Power e.0) here) (λ y. r (parts.Tail 1) y) s' h in
@@ -236,10 +267,13 @@ power_sound r sound sign None rest us is base known steps' numbers' s' g h =
     let b = bind_some (emitted (steps.Infix Multiply) a.0) (λ y. r (parts.Tail 1) y) s' a.2 in
     let ga = sound (parts.Level 0) here a.0 a.1 in
     sound (parts.Tail 1) b.0 s' b.2 0 refl us base known
-    (grown_two (ALevel 1) (ALevel 0) (ALevel 1) us rest us base known (steps.Infix Multiply) (record { rest = tokens.Power sign ∷ rest; steps = steps'; numbers = numbers' }) a.0 b.0 (Two Multiply) (λ s t. refl) (λ s t. refl) g ga
+    (grown_two (ALevel 1) (ALevel 0) (ALevel 1) us rest us base known (steps.Infix Multiply)
+        (record { rest = tokens.Power sign ∷ rest; steps = steps'; numbers = numbers' }) a.0 b.0 (Two Multiply) (λ s t. refl)
+        (λ s t. refl) g ga
     (other_power sign us rest a.0.rest g.tree ga.tree g.reads is ga.reads) b.1)
 
-tail_at_sound : (r : Part → State → Option State) → IsSound r → (ts : List Token) (k level : ℕ) → level ≡ suc k → (us : List Token) (base : List Step) (known : List Float) (steps' : List Step) (numbers' : List Float) (s' : State)
+tail_at_sound : (r : Part → State → Option State) → IsSound r → (ts : List Token) (k level : ℕ) → level ≡ suc k
+    → (us : List Token) (base : List Step) (known : List Float) (steps' : List Step) (numbers' : List Float) (s' : State)
     → Grown (ALevel (suc k)) us base known (record { rest = ts; steps = steps'; numbers = numbers' })
     → tail_at r level ts (record { rest = ts; steps = steps'; numbers = numbers' }) ≡ Some s' → Grown (ALevel (suc k)) us base known s'
 unfolding power_with
@@ -266,10 +300,13 @@ tail_at_sound r sound (_ ∷ rest) k level le us base known steps' numbers' s' g
 
 -- ---- choices
 
-three_steps : (base : List Step) (a b c : List Step) (x : List Step) (step : Step) → x ≡ ((base ++ a) ++ b) ++ c → x ++ step ∷ [] ≡ base ++ (a ++ (b ++ (c ++ step ∷ [])))
+three_steps : (base : List Step) (a b c : List Step) (x : List Step) (step : Step) → x ≡ ((base ++ a) ++ b) ++ c
+    → x ++ step ∷ [] ≡ base ++ (a ++ (b ++ (c ++ step ∷ [])))
 three_steps base a b c x step e = ap (λ y. y ++ step ∷ []) e ∙ simp append_assoc
 
-second_at_sound : (r : Part → State → Option State) → IsSound r → (ts us vs : List Token) (base : List Step) (known : List Float) (a b s' : State) (ga : Grown (ALevel 6) vs base known a) → a.rest ≡ tokens.Question ∷ us → (gb : Grown AValue us a.steps a.numbers b) → b.rest ≡ ts
+second_at_sound : (r : Part → State → Option State) → IsSound r
+    → (ts us vs : List Token) (base : List Step) (known : List Float) (a b s' : State) (ga : Grown (ALevel 6) vs base known a)
+    → a.rest ≡ tokens.Question ∷ us → (gb : Grown AValue us a.steps a.numbers b) → b.rest ≡ ts
     → second_at r ts b ≡ Some s' → Grown AValue vs base known s'
 second_at_sound r sound [] us vs base known a b s' ga ae gb be h = cc
 second_at_sound r sound (tokens.Colon ∷ rest) us vs base known a b s' ga ae gb be h =
@@ -277,13 +314,17 @@ second_at_sound r sound (tokens.Colon ∷ rest) us vs base known a b s' ga ae gb
     let gc = sound parts.Value (at rest b) c.0 c.1 in
     subst (λ x. Grown AValue vs base known x) (sym (emitted_some steps.Choose c.0 s' c.2)) (record {
       tree = Choice ga.tree gb.tree gc.tree;
-      reads = choice vs us rest c.0.rest ga.tree gb.tree gc.tree (subst (λ x. Reads (ALevel 6) vs ga.tree x) ae ga.reads) (subst (λ x. Reads AValue us gb.tree x) be gb.reads) gc.reads;
-      steps = three_steps base (steps_of ga.tree) (steps_of gb.tree) (steps_of gc.tree) c.0.steps steps.Choose (gc.steps ∙ ap (λ x. x ++ steps_of gc.tree) (gb.steps ∙ ap (λ x. x ++ steps_of gb.tree) ga.steps));
-      numbers = gc.numbers ∙ ap (λ x. x ++ numbers_of gc.tree) (gb.numbers ∙ ap (λ x. x ++ numbers_of gb.tree) ga.numbers) ∙ simp append_assoc;
+      reads = choice vs us rest c.0.rest ga.tree gb.tree gc.tree (subst (λ x. Reads (ALevel 6) vs ga.tree x) ae ga.reads) (subst
+          (λ x. Reads AValue us gb.tree x) be gb.reads) gc.reads;
+      steps = three_steps base (steps_of ga.tree) (steps_of gb.tree) (steps_of gc.tree) c.0.steps steps.Choose (gc.steps
+          ∙ ap (λ x. x ++ steps_of gc.tree) (gb.steps ∙ ap (λ x. x ++ steps_of gb.tree) ga.steps));
+      numbers = gc.numbers ∙ ap (λ x. x ++ numbers_of gc.tree) (gb.numbers ∙ ap (λ x. x ++ numbers_of gb.tree) ga.numbers)
+          ∙ simp append_assoc;
     })
 second_at_sound r sound (_ ∷ rest) us vs base known a b s' ga ae gb be h = cc
 
-choice_at_sound : (r : Part → State → Option State) → IsSound r → (ts vs : List Token) (base : List Step) (known : List Float) (a s' : State) → Grown (ALevel 6) vs base known a → a.rest ≡ ts
+choice_at_sound : (r : Part → State → Option State) → IsSound r
+    → (ts vs : List Token) (base : List Step) (known : List Float) (a s' : State) → Grown (ALevel 6) vs base known a → a.rest ≡ ts
     → choice_at r ts a ≡ Some s' → Grown AValue vs base known s'
 unfolding second_with
 choice_at_sound r sound (tokens.Question ∷ rest) vs base known a s' ga ae h =
@@ -298,15 +339,19 @@ choice_at_sound r sound (_ ∷ rest) vs base known a s' ga ae h =
 
 -- ---- operands of functions
 
-arguments_sound : (r : Part → State → Option State) → IsSound r → (f : ListFunction) (s s' : State) → arguments_with r f s ≡ Some s' → Grown (AList f) s.rest s.steps s.numbers s'
+arguments_sound : (r : Part → State → Option State) → IsSound r → (f : ListFunction) (s s' : State) → arguments_with r f s ≡ Some s'
+    → Grown (AList f) s.rest s.steps s.numbers s'
 unfolding arguments_with
 arguments_sound r sound f s s' h =
     let a = bind_some (r parts.Value s) (λ x. emitted (steps.First f) x >>= (λ y. r (parts.MoreArguments f) y)) s' h in
     let b = bind_some (emitted (steps.First f) a.0) (λ y. r (parts.MoreArguments f) y) s' a.2 in
     sound (parts.MoreArguments f) b.0 s' b.2 s.rest s.steps s.numbers
-    (grown_one AValue (AList f) s.rest s.rest s.steps s.numbers (steps.First f) a.0 b.0 (First f) (λ t. refl) (λ t. refl) (λ t rest k. first f s.rest rest t k) (sound parts.Value s a.0 a.1) b.1)
+    (grown_one AValue (AList f) s.rest s.rest s.steps s.numbers (steps.First f) a.0 b.0 (First f) (λ t. refl) (λ t. refl)
+        (λ t rest k. first f s.rest rest t k) (sound parts.Value s a.0 a.1) b.1)
 
-more_at_sound : (r : Part → State → Option State) → IsSound r → (f : ListFunction) (ts us : List Token) (base : List Step) (known : List Float) (s s' : State) → s.rest ≡ ts → Grown (AList f) us base known s
+more_at_sound : (r : Part → State → Option State) → IsSound r
+    → (f : ListFunction) (ts us : List Token) (base : List Step) (known : List Float) (s s' : State) → s.rest ≡ ts
+    → Grown (AList f) us base known s
     → more_arguments_at r f ts s ≡ Some s' → Grown (AList f) us base known s'
 more_at_sound r sound f [] us base known s s' se g h = unchanged (AList f) us base known s s' h g
 more_at_sound r sound f (tokens.Comma ∷ rest) us base known s s' se g h =
@@ -326,7 +371,8 @@ part_sound r sound parts.Value s s' h =
     let a = bind_some (r (parts.Level 6) s) (λ x. choice_with r x) s' h in
     choice_at_sound r sound a.0.rest s.rest s.steps s.numbers a.0 s' (sound (parts.Level 6) s a.0 a.1) refl a.2
 part_sound r sound (parts.Level level) s s' h = level_sound r sound level s s' h
-part_sound r sound (parts.Tail level) s s' h = λ k le us base known g. tail_at_sound r sound s.rest k level le us base known s.steps s.numbers s' g h
+part_sound r sound (parts.Tail level) s s' h = λ k le us base known g. tail_at_sound r sound s.rest k level le us base known s.steps
+    s.numbers s' g h
 part_sound r sound (parts.Arguments f) s s' h = arguments_sound r sound f s s' h
 part_sound r sound (parts.MoreArguments f) s s' h = λ us base known g. more_at_sound r sound f s.rest us base known s s' refl g h
 

@@ -46,26 +46,31 @@ pub record Said (s s' : State) : Type 0 where
 
 stored_behind_some : (p q : ℕ) (ts rest : List Token) → stored_behind p ts ≡ Some (q, rest) → (p ≡ q) × (ts ≡ tokens.Assign ∷ rest)
 stored_behind_some p q [] rest h = cc
-stored_behind_some p q (tokens.Assign ∷ ts) rest h = (ap (λ (x : ℕ × List Token). x.0) (some_same (p, ts) (q, rest) h), ap (λ (x : ℕ × List Token). tokens.Assign ∷ x.1) (some_same (p, ts) (q, rest) h))
+stored_behind_some p q (tokens.Assign ∷ ts) rest h = (ap (λ (x : ℕ × List Token). x.0) (some_same (p, ts) (q, rest) h), ap (λ
+    (x : ℕ × List Token). tokens.Assign ∷ x.1) (some_same (p, ts) (q, rest) h))
 stored_behind_some p q (_ ∷ ts) rest h = cc
 
-pub stored_in_some : (ts : List Token) (q : ℕ) (rest : List Token) → stored_in ts ≡ Some (q, rest) → ts ≡ tokens.Argument q ∷ tokens.Assign ∷ rest
+pub stored_in_some : (ts : List Token) (q : ℕ) (rest : List Token) → stored_in ts ≡ Some (q, rest)
+    → ts ≡ tokens.Argument q ∷ tokens.Assign ∷ rest
 stored_in_some [] q rest h = cc
 stored_in_some (tokens.Argument p ∷ ts) q rest h =
     let both = stored_behind_some p q ts rest h in
     ap (λ x. tokens.Argument x ∷ ts) both.0 ∙ ap (λ x. tokens.Argument q ∷ x) both.1
 stored_in_some (_ ∷ ts) q rest h = cc
 
-statement_from_sound : (stored : Option (ℕ × List Token)) (s s' : State) → stored_in s.rest ≡ stored → statement_from stored s ≡ Some s' → Said s s'
+statement_from_sound : (stored : Option (ℕ × List Token)) (s s' : State) → stored_in s.rest ≡ stored
+    → statement_from stored s ≡ Some s' → Said s s'
 statement_from_sound None s s' e h =
     let g = parse_sound TURNS parts.Value s s' h in
-    record { statement = Value g.tree; reads = value s.rest s'.rest g.tree g.reads; steps = g.steps; numbers = g.numbers; kind = sym (ap is_none e) }
+    record { statement = Value g.tree; reads = value s.rest s'.rest g.tree g.reads; steps = g.steps; numbers = g.numbers; kind = sym
+        (ap is_none e) }
 statement_from_sound (Some stored) s s' e h =
     let a = bind_some (parse TURNS parts.Value (at stored.1 s)) (λ x. emitted (steps.Store stored.0) x) s' h in
     let g = parse_sound TURNS parts.Value (at stored.1 s) a.0 a.1 in
     subst (λ x. Said s x) (sym (emitted_some (steps.Store stored.0) a.0 s' a.2)) (record {
       statement = Store stored.0 g.tree;
-      reads = subst (λ ts. ReadsStatement ts (Store stored.0 g.tree) a.0.rest) (sym (stored_in_some s.rest stored.0 stored.1 e)) (store stored.0 stored.1 a.0.rest g.tree g.reads);
+      reads = subst (λ ts. ReadsStatement ts (Store stored.0 g.tree) a.0.rest) (sym (stored_in_some s.rest stored.0 stored.1 e))
+          (store stored.0 stored.1 a.0.rest g.tree g.reads);
       steps = ap (λ x. x ++ steps.Store stored.0 ∷ []) g.steps ∙ append_assoc s.steps (steps_of g.tree) (steps.Store stored.0 ∷ []);
       numbers = g.numbers;
       kind = sym (ap is_none e);
@@ -99,7 +104,8 @@ pub record SaidAll (has : Bool) (s s' : State) : Type 0 where
   pub values : values_in statements ≡ one_unless has
 
 -- one more statement before others
-values_of_cons : (s : Statement) (ss : List Statement) (has is : Bool) → is_value s ≡ is → (is && has) ≡ false → values_in ss ≡ one_unless (has || is) → values_in (s ∷ ss) ≡ one_unless has
+values_of_cons : (s : Statement) (ss : List Statement) (has is : Bool) → is_value s ≡ is → (is && has) ≡ false
+    → values_in ss ≡ one_unless (has || is) → values_in (s ∷ ss) ≡ one_unless has
 values_of_cons (Value t) ss true true e both h = cc
 values_of_cons (Value t) ss true false e both h = cc
 values_of_cons (Value t) ss false true e both h = ap (λ n. n + 1) h
@@ -110,7 +116,8 @@ values_of_cons (Store p t) ss false true e both h = cc
 values_of_cons (Store p t) ss false false e both h = h
 
 -- the last statement
-values_of_last : (s : Statement) (has is : Bool) → is_value s ≡ is → (is && has) ≡ false → (has || is) ≡ true → values_in (s ∷ []) ≡ one_unless has
+values_of_last : (s : Statement) (has is : Bool) → is_value s ≡ is → (is && has) ≡ false → (has || is) ≡ true
+    → values_in (s ∷ []) ≡ one_unless has
 values_of_last (Value t) true true e both h = cc
 values_of_last (Value t) true false e both h = cc
 values_of_last (Value t) false true e both h = refl
@@ -123,7 +130,9 @@ values_of_last (Store p t) false false e both h = cc
 abbrev pub Reads_all : (Bool → State → Option State) → Type 0
 Reads_all later = (has : Bool) (s s' : State) → later has s ≡ Some s' → SaidAll has s s'
 
-ended_sound : (later : Bool → State → Option State) → Reads_all later → (has is : Bool) (s a s' : State) (ts : List Token) → (g : Said s a) → is_value g.statement ≡ is → (is && has) ≡ false → a.rest ≡ ts → ended_at (later (has || is)) (has || is) ts a ≡ Some s' → SaidAll has s s'
+ended_sound : (later : Bool → State → Option State) → Reads_all later → (has is : Bool) (s a s' : State) (ts : List Token)
+    → (g : Said s a) → is_value g.statement ≡ is → (is && has) ≡ false → a.rest ≡ ts
+    → ended_at (later (has || is)) (has || is) ts a ≡ Some s' → SaidAll has s s'
 ended_sound later all has is s a s' [] g e both ae h =
     let t = test_true (has || is) a s' h in
     subst (λ x. SaidAll has s x) t.1 (record {
@@ -138,13 +147,18 @@ ended_sound later all has is s a s' (tokens.Semicolon ∷ rest) g e both ae h =
     record {
       statements = g.statement ∷ k.statements;
       reads = more s.rest rest g.statement k.statements (subst (λ x. ReadsStatement s.rest g.statement x) ae g.reads) k.reads;
-      steps = k.steps ∙ ap (λ x. x ++ all_steps k.statements) g.steps ∙ append_assoc s.steps (steps_in g.statement) (all_steps k.statements) ∙ ap (λ x. s.steps ++ x) (sym (all_steps-cons g.statement k.statements));
-      numbers = k.numbers ∙ ap (λ x. x ++ all_numbers k.statements) g.numbers ∙ append_assoc s.numbers (numbers_in g.statement) (all_numbers k.statements) ∙ ap (λ x. s.numbers ++ x) (sym (all_numbers-cons g.statement k.statements));
+      steps = k.steps ∙ ap (λ x. x ++ all_steps k.statements) g.steps
+          ∙ append_assoc s.steps (steps_in g.statement) (all_steps k.statements)
+          ∙ ap (λ x. s.steps ++ x) (sym (all_steps-cons g.statement k.statements));
+      numbers = k.numbers ∙ ap (λ x. x ++ all_numbers k.statements) g.numbers
+          ∙ append_assoc s.numbers (numbers_in g.statement) (all_numbers k.statements)
+          ∙ ap (λ x. s.numbers ++ x) (sym (all_numbers-cons g.statement k.statements));
       values = values_of_cons g.statement k.statements has is e both k.values;
     }
 ended_sound later all has is s a s' (_ ∷ rest) g e both ae h = cc
 
-and_sound : (later : Bool → State → Option State) → Reads_all later → (has is : Bool) (s s' : State) → is ≡ is_none (stored_in s.rest) → statement_and later has is s ≡ Some s' → SaidAll has s s'
+and_sound : (later : Bool → State → Option State) → Reads_all later → (has is : Bool) (s s' : State) → is ≡ is_none (stored_in s.rest)
+    → statement_and later has is s ≡ Some s' → SaidAll has s s'
 unfolding statement_and ended
 and_sound later all has is s s' e h =
     let t = test_false (is && has) (statement_with s >>= (λ a. ended (later (has || is)) (has || is) a)) s' h in

@@ -24,7 +24,8 @@ pushed xs d v h =
     ∙ ap (λ x. x ∷ stack_of (set xs d v) d) (get_or-set_same xs d v zero_float h)
     ∙ ap (λ s. v ∷ s) (stack_of-set xs d v d (omega arith))
 
-popped_from : (xs : List Float) (d e : ℕ) → d ≡ suc e → (get_or xs e zero_float ≡ top (stack_of xs d)) × (stack_of xs e ≡ below (stack_of xs d))
+popped_from : (xs : List Float) (d e : ℕ) → d ≡ suc e
+    → (get_or xs e zero_float ≡ top (stack_of xs d)) × (stack_of xs e ≡ below (stack_of xs d))
 popped_from xs d e h = (sym (ap (λ k. top (stack_of xs k)) h), sym (ap (λ k. below (stack_of xs k)) h))
 
 pub popped-value : (xs : List Float) (d : ℕ) → 0 < d → get_or xs (d - 1) zero_float ≡ top (stack_of xs d)

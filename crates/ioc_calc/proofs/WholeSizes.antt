@@ -32,7 +32,8 @@ shift_up q k l h =
     ∙ mul-div_cancel (q * 2 ^ (k - l)) (pow_pos l)
 
 pub shift_down : (q k j l : ℕ) → k + j ≡ l → q * 2 ^ k / 2 ^ l ≡ q / 2 ^ j
-shift_down q k j l e = div_same (q * 2 ^ k) (2 ^ l) q (2 ^ j) (pow_pos l) (pow_pos j) (mul_assoc q (2 ^ k) (2 ^ j) ∙ ap (λ x. q * x) (sym (pow-add 2 k j) ∙ ap (λ n. 2 ^ n) e))
+shift_down q k j l e = div_same (q * 2 ^ k) (2 ^ l) q (2 ^ j) (pow_pos l) (pow_pos j) (mul_assoc q (2 ^ k) (2 ^ j)
+    ∙ ap (λ x. q * x) (sym (pow-add 2 k j) ∙ ap (λ n. 2 ^ n) e))
 
 -- ---- remainders
 
@@ -74,7 +75,8 @@ larger_rest a p b q r hb qp e =
 
 pub doubled_turn : (n c d r : ℕ) → r ≡ (n * 2 ^ c) % d → (r * 2) % d ≡ (n * 2 ^ (c + 1)) % d
 doubled_turn n c d r e =
-    ap (λ x. (x * 2) % d) e ∙ mul-mod_first (n * 2 ^ c) 2 d ∙ ap (λ x. x % d) (mul_assoc n (2 ^ c) 2 ∙ ap (λ x. n * x) (sym (pow-add 2 c 1)))
+    ap (λ x. (x * 2) % d) e ∙ mul-mod_first (n * 2 ^ c) 2 d ∙ ap (λ x. x % d) (mul_assoc n (2 ^ c) 2
+        ∙ ap (λ x. n * x) (sym (pow-add 2 c 1)))
 
 -- ---- fields
 
@@ -108,28 +110,36 @@ size_value nan s a c v h = absurd v
 size_value (inf t) s a c v h = absurd v
 size_value (fin t m e) s a c v h = div_same (m * up e) (down e) a c (down_pos e) h v.1
 
-kept_size : (b c s : Bool) (x : Float) (n : ℕ) → size_of x ≡ n → float_is_finite (cond b (cond c (inf s) nan) x) ≡ true → size_of (cond b (cond c (inf s) nan) x) ≡ n
+kept_size : (b c s : Bool) (x : Float) (n : ℕ) → size_of x ≡ n → float_is_finite (cond b (cond c (inf s) nan) x) ≡ true
+    → size_of (cond b (cond c (inf s) nan) x) ≡ n
 unfolding float_is_finite
 kept_size true true s x n e h = cc
 kept_size true false s x n e h = cc
 kept_size false c s x n e h = e
 
-fields_size : (s : Bool) (field t : ℕ) → float_is_finite (of_fields binary64 s field t) ≡ true → size_of (of_fields binary64 s field t) ≡ size_of_fields field t
+fields_size : (s : Bool) (field t : ℕ) → float_is_finite (of_fields binary64 s field t) ≡ true
+    → size_of (of_fields binary64 s field t) ≡ size_of_fields field t
 unfolding of_fields
 fields_size s zero t h = size_value (odd 53 s t 0 1074) s (t * 2 ^ 0) (2 ^ 1074) (odd_sign 53 s t 0 1074) (pow_pos 1074)
 fields_size s (suc k) t h =
     kept_size (eqb (suc k) (ones binary64)) (eqb t 0) s (odd 53 s (hid binary64 + t) k 1074) (size_of_fields (suc k) t)
-    (size_value (odd 53 s (hid binary64 + t) k 1074) s ((hid binary64 + t) * 2 ^ k) (2 ^ 1074) (odd_sign 53 s (hid binary64 + t) k 1074) (pow_pos 1074)) h
+    (size_value (odd 53 s (hid binary64 + t) k 1074) s ((hid binary64 + t) * 2 ^ k) (2 ^ 1074) (odd_sign 53 s (hid binary64 + t) k 1074)
+        (pow_pos 1074)) h
 
-bits_are_fields : (b : ℕ) → of_bits binary64 b ≡ of_fields binary64 (leb (top binary64) b) (b % top binary64 / hid binary64) (b % hid binary64)
+bits_are_fields : (b : ℕ)
+    → of_bits binary64 b ≡ of_fields binary64 (leb (top binary64) b) (b % top binary64 / hid binary64) (b % hid binary64)
 unfolding of_bits
 bits_are_fields b = refl
 
-pub size_of_bits : (x : Float) (b : ℕ) → T (fits binary64 x) → float_is_finite x ≡ true → b ≡ to_bits binary64 x → size_of_fields (b % 9223372036854775808 / 4503599627370496) (b % 4503599627370496) ≡ size_of x
+pub size_of_bits : (x : Float) (b : ℕ) → T (fits binary64 x) → float_is_finite x ≡ true → b ≡ to_bits binary64 x
+    → size_of_fields (b % 9223372036854775808 / 4503599627370496) (b % 4503599627370496) ≡ size_of x
 size_of_bits x b f h e =
     let back : x ≡ of_bits binary64 b = sym (of_bits-to_bits binary64 x f) ∙ ap (of_bits binary64) (sym e) in
-    let whole_back : x ≡ of_fields binary64 (leb (top binary64) b) (b % top binary64 / hid binary64) (b % hid binary64) = back ∙ bits_are_fields b in
-    sym (ap size_of whole_back ∙ fields_size (leb (top binary64) b) (b % top binary64 / hid binary64) (b % hid binary64) (sym (ap float_is_finite whole_back) ∙ h))
+    let whole_back : x ≡ of_fields binary64 (leb (top binary64) b) (b % top binary64 / hid binary64) (b % hid binary64) = back
+        ∙ bits_are_fields b in
+    sym (ap size_of whole_back
+        ∙ fields_size (leb (top binary64) b) (b % top binary64 / hid binary64) (b % hid binary64) (sym (ap float_is_finite whole_back)
+        ∙ h))
 
 -- ---- whole numbers as doubles
 
@@ -156,11 +166,13 @@ power_fields k h = no_ones (eqb (suc k) (ones binary64)) false _ _ (not_all_ones
 power_bits : (p : ℕ) → p < 1000 → of_bits binary64 ((p + 1023) * 4503599627370496) ≡ odd 53 false (hid binary64 + 0) (p + 1022) 1074
 power_bits p h =
     let below_top : (p + 1023) * 4503599627370496 < 9223372036854775808 = omega arith in
-    let sign : leb (top binary64) ((p + 1023) * 4503599627370496) ≡ false = lt-leb (top binary64) ((p + 1023) * 4503599627370496) below_top in
+    let sign : leb (top binary64) ((p + 1023) * 4503599627370496) ≡ false = lt-leb (top binary64)
+        ((p + 1023) * 4503599627370496) below_top in
     let field : (p + 1023) * 4503599627370496 % 9223372036854775808 / 4503599627370496 ≡ suc (p + 1022) = omega arith in
     let digits : (p + 1023) * 4503599627370496 % hid binary64 ≡ 0 = mul-mod_left (p + 1023) (hid binary64) in
     bits_are_fields ((p + 1023) * 4503599627370496)
-    ∙ ap (λ s. of_fields binary64 s ((p + 1023) * 4503599627370496 % top binary64 / hid binary64) ((p + 1023) * 4503599627370496 % hid binary64)) sign
+    ∙ ap (λ s. of_fields binary64 s ((p + 1023) * 4503599627370496 % top binary64 / hid binary64)
+        ((p + 1023) * 4503599627370496 % hid binary64)) sign
     ∙ ap (λ n. of_fields binary64 false n ((p + 1023) * 4503599627370496 % hid binary64)) field
     ∙ ap (λ n. of_fields binary64 false (suc (p + 1022)) n) digits
     ∙ power_fields (p + 1022) (omega arith)
@@ -182,7 +194,8 @@ as_rounded : (n : ℕ) → round binary64 false n 1 ≡ of_int binary64 (pos n)
 unfolding of_int
 as_rounded n = refl
 
-pub product_is : (d p : ℕ) → 0 < d → d < 9007199254740992 → p < 1000 → mul binary64 (of_int binary64 (pos d)) (of_bits binary64 ((p + 1023) * 4503599627370496)) ≡ of_int binary64 (pos (d * 2 ^ p))
+pub product_is : (d p : ℕ) → 0 < d → d < 9007199254740992 → p < 1000
+    → mul binary64 (of_int binary64 (pos d)) (of_bits binary64 ((p + 1023) * 4503599627370496)) ≡ of_int binary64 (pos (d * 2 ^ p))
 product_is d p hd small hp =
     let x : Float = of_int binary64 (pos d) in
     let y : Float = odd 53 false (hid binary64 + 0) (p + 1022) 1074 in
@@ -229,7 +242,8 @@ unfolding signed
 signed_zero true d p e = ap (λ n. of_int binary64 (neg_ℤ (pos n))) (sym (ap (λ x. x * 2 ^ p) e ∙ zero-mul (2 ^ p)))
 signed_zero false d p e = ap (λ n. of_int binary64 (pos n)) (sym (ap (λ x. x * 2 ^ p) e ∙ zero-mul (2 ^ p)))
 
-pub signed_negative : (b : Bool) (d p : ℕ) (x : Float) → b ≡ true → d ≢ 0 → x ≡ of_int binary64 (pos (d * 2 ^ p)) → neg x ≡ signed b (d * 2 ^ p)
+pub signed_negative : (b : Bool) (d p : ℕ) (x : Float) → b ≡ true → d ≢ 0 → x ≡ of_int binary64 (pos (d * 2 ^ p))
+    → neg x ≡ signed b (d * 2 ^ p)
 unfolding signed
 signed_negative true d p x h some e = ap neg e ∙ negated_is (d * 2 ^ p) (mul-pos (positive_of d some) (pow_pos p))
 signed_negative false d p x h some e = cc

@@ -44,27 +44,39 @@ pub data Reads : Phrase → List Token → Tree → List Token → Type 0 where
   before : (rest : List Token) → Reads (ALevel 0) (tokens.Value ∷ rest) Before rest
   random : (rest : List Token) → Reads (ALevel 0) (tokens.Random ∷ rest) Before rest
   brackets : (ts rest : List Token) (t : Tree) → Reads AValue ts t (tokens.Close ∷ rest) → Reads (ALevel 0) (tokens.Open ∷ ts) t rest
-  prefix : (operator : Prefix) (ts rest : List Token) (t : Tree) → Reads (ALevel 0) ts t rest → Reads (ALevel 0) (tokens.Prefix operator ∷ ts) (One operator t) rest
-  of_one : (token : Token) (function : ListFunction) (ts rest : List Token) (t : Tree) → IsFunction token function → is_open ts ≡ false → Reads (ALevel 0) ts t rest → Reads (ALevel 0) (token ∷ ts) (First function t) rest
-  of_list : (token : Token) (function : ListFunction) (ts rest : List Token) (t : Tree) → IsFunction token function → Reads (AList function) ts t (tokens.Close ∷ rest) → Reads (ALevel 0) (token ∷ tokens.Open ∷ ts) t rest
+  prefix : (operator : Prefix) (ts rest : List Token) (t : Tree) → Reads (ALevel 0) ts t rest
+      → Reads (ALevel 0) (tokens.Prefix operator ∷ ts) (One operator t) rest
+  of_one : (token : Token) (function : ListFunction) (ts rest : List Token) (t : Tree) → IsFunction token function → is_open ts ≡ false
+      → Reads (ALevel 0) ts t rest → Reads (ALevel 0) (token ∷ ts) (First function t) rest
+  of_list : (token : Token) (function : ListFunction) (ts rest : List Token) (t : Tree) → IsFunction token function
+      → Reads (AList function) ts t (tokens.Close ∷ rest) → Reads (ALevel 0) (token ∷ tokens.Open ∷ ts) t rest
   tighter : (level : ℕ) (ts rest : List Token) (t : Tree) → Reads (ALevel level) ts t rest → Reads (ALevel (suc level)) ts t rest
-  two : (level : ℕ) (operator : Infix) (ts us rest : List Token) (s t : Tree) → level_of operator ≡ suc level → Reads (ALevel (suc level)) ts s (tokens.Infix operator ∷ us) → Reads (ALevel level) us t rest → Reads (ALevel (suc level)) ts (Two operator s t) rest
-  power : (sign : LeftOut) (exponent : Exponent) (ts us rest : List Token) (t : Tree) → Reads (ALevel 1) ts t (tokens.Power sign ∷ us) → exponent_of us ≡ Some (exponent, rest) → Reads (ALevel 1) ts (Power t exponent) rest
-  other_power : (sign : LeftOut) (ts us rest : List Token) (s t : Tree) → Reads (ALevel 1) ts s (tokens.Power sign ∷ us) → exponent_of us ≡ None → Reads (ALevel 0) us t rest → Reads (ALevel 1) ts (Two Multiply s t) rest
+  two : (level : ℕ) (operator : Infix) (ts us rest : List Token) (s t : Tree) → level_of operator ≡ suc level
+      → Reads (ALevel (suc level)) ts s (tokens.Infix operator ∷ us) → Reads (ALevel level) us t rest
+      → Reads (ALevel (suc level)) ts (Two operator s t) rest
+  power : (sign : LeftOut) (exponent : Exponent) (ts us rest : List Token) (t : Tree) → Reads (ALevel 1) ts t (tokens.Power sign ∷ us)
+      → exponent_of us ≡ Some (exponent, rest) → Reads (ALevel 1) ts (Power t exponent) rest
+  other_power : (sign : LeftOut) (ts us rest : List Token) (s t : Tree) → Reads (ALevel 1) ts s (tokens.Power sign ∷ us)
+      → exponent_of us ≡ None → Reads (ALevel 0) us t rest → Reads (ALevel 1) ts (Two Multiply s t) rest
   whole : (ts rest : List Token) (t : Tree) → Reads (ALevel 6) ts t rest → Reads AValue ts t rest
-  choice : (ts us vs rest : List Token) (condition s t : Tree) → Reads (ALevel 6) ts condition (tokens.Question ∷ us) → Reads AValue us s (tokens.Colon ∷ vs) → Reads AValue vs t rest → Reads AValue ts (Choice condition s t) rest
-  first : (function : ListFunction) (ts rest : List Token) (t : Tree) → Reads AValue ts t rest → Reads (AList function) ts (First function t) rest
-  next : (function : ListFunction) (ts us rest : List Token) (s t : Tree) → Reads (AList function) ts s (tokens.Comma ∷ us) → Reads AValue us t rest → Reads (AList function) ts (More function s t) rest
+  choice : (ts us vs rest : List Token) (condition s t : Tree) → Reads (ALevel 6) ts condition (tokens.Question ∷ us)
+      → Reads AValue us s (tokens.Colon ∷ vs) → Reads AValue vs t rest → Reads AValue ts (Choice condition s t) rest
+  first : (function : ListFunction) (ts rest : List Token) (t : Tree) → Reads AValue ts t rest
+      → Reads (AList function) ts (First function t) rest
+  next : (function : ListFunction) (ts us rest : List Token) (s t : Tree) → Reads (AList function) ts s (tokens.Comma ∷ us)
+      → Reads AValue us t rest → Reads (AList function) ts (More function s t) rest
 
 -- the tokens begin with this statement
 pub data ReadsStatement : List Token → Statement → List Token → Type 0 where
   value : (ts rest : List Token) (t : Tree) → Reads AValue ts t rest → ReadsStatement ts (Value t) rest
-  store : (place : ℕ) (ts rest : List Token) (t : Tree) → Reads AValue ts t rest → ReadsStatement (tokens.Argument place ∷ tokens.Assign ∷ ts) (Store place t) rest
+  store : (place : ℕ) (ts rest : List Token) (t : Tree) → Reads AValue ts t rest
+      → ReadsStatement (tokens.Argument place ∷ tokens.Assign ∷ ts) (Store place t) rest
 
 -- the tokens are these statements, with a semicolon between each two
 pub data AreStatements : List Token → List Statement → Type 0 where
   last : (ts : List Token) (s : Statement) → ReadsStatement ts s [] → AreStatements ts (s ∷ [])
-  more : (ts us : List Token) (s : Statement) (statements : List Statement) → ReadsStatement ts s (tokens.Semicolon ∷ us) → AreStatements us statements → AreStatements ts (s ∷ statements)
+  more : (ts us : List Token) (s : Statement) (statements : List Statement) → ReadsStatement ts s (tokens.Semicolon ∷ us)
+      → AreStatements us statements → AreStatements ts (s ∷ statements)
 
 -- The text follows the grammar, in which the functions stand that are left out: it has 1 to 79 bytes
 -- and these tokens, which are these statements, and one of these is a value.

@@ -12,4 +12,5 @@ IsOneOf (word ∷ words) first rest token more = (fitting word first rest ≡ So
 -- no word of the table with which the text begins has more bytes behind its first
 abbrev pub NoneIsLonger : List Word → ℕ → List ℕ → ℕ → Type 0
 NoneIsLonger [] first rest more = Unit {0}
-NoneIsLonger (word ∷ words) first rest more = IfSome (fitting word first rest) (λ found. found.1 ≤ more) × NoneIsLonger words first rest more
+NoneIsLonger (word ∷ words) first rest more = IfSome (fitting word first rest)
+    (λ found. found.1 ≤ more) × NoneIsLonger words first rest more

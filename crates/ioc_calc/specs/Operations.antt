@@ -74,7 +74,8 @@ larger x y = if lt x y || is_nan y then y else x
 
 -- the nearest whole number, with a half away from 0, and 0 in place of -0
 unfoldable pub nearest_integer : Float → Float
-nearest_integer x = add binary64 (trunc binary64 (if le zero_float x then add binary64 x half_float else sub binary64 x half_float)) zero_float
+nearest_integer x = add binary64 (trunc binary64
+    (if le zero_float x then add binary64 x half_float else sub binary64 x half_float)) zero_float
 
 -- 1 for the positive infinity, -1 for the negative one, else 0
 unfoldable pub sign_of_infinity : Float → Float

@@ -34,12 +34,14 @@ at rest s = record { rest = rest; steps = s.steps; numbers = s.numbers }
 
 -- one more step
 unfoldable pub emitted : Step → State → Option State
-emitted step s = if nat_lt (length s.steps) 79 then Some (record { rest = s.rest; steps = s.steps ++ step ∷ []; numbers = s.numbers }) else None
+emitted step s = if nat_lt (length s.steps) 79 then Some
+    (record { rest = s.rest; steps = s.steps ++ step ∷ []; numbers = s.numbers }) else None
 
 -- one more number
 unfoldable pub with_number : Float → State → Option State
 with_number x s =
-    if nat_lt (length s.numbers) 40 then emitted steps.Number (record { rest = s.rest; steps = s.steps; numbers = s.numbers ++ x ∷ [] }) else None
+    if nat_lt (length s.numbers) 40 then emitted steps.Number
+        (record { rest = s.rest; steps = s.steps; numbers = s.numbers ++ x ∷ [] }) else None
 
 -- a closing bracket
 abbrev pub closed_at : List Token → State → Option State

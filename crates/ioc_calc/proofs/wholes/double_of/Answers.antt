@@ -6,7 +6,9 @@ pub returns-then-whole-eq0 : goal.returns-then-whole-eq0
 returns-then-whole-eq0 c = c.from.ensures ∙ signed_zero c.args.negative c.args.whole.digits c.args.whole.places c.if-whole-eq0.true
 
 pub returns-then-negative : goal.returns-then-negative
-returns-then-negative c = signed_negative c.args.negative c.args.whole.digits c.args.whole.places c.size_as_double-size.result c.if-negative.true c.if-whole-eq0.false c.size_as_double-size.ensures
+returns-then-negative c = signed_negative c.args.negative c.args.whole.digits c.args.whole.places c.size_as_double-size.result
+    c.if-negative.true c.if-whole-eq0.false c.size_as_double-size.ensures
 
 pub returns-else-negative : goal.returns-else-negative
-returns-else-negative c = signed_positive c.args.negative c.args.whole.digits c.args.whole.places c.size_as_double-size.result c.if-negative.false c.size_as_double-size.ensures
+returns-else-negative c = signed_positive c.args.negative c.args.whole.digits c.args.whole.places c.size_as_double-size.result
+    c.if-negative.false c.size_as_double-size.ensures
