@@ -10,7 +10,7 @@ use Rattle.ioc_calc.specs.HasCode.{HasCode}
 
 pub has_code : (code : Code) (steps' : List Step) (l : ℕ) (numbers' : List Float) (n : ℕ) (s : State) (ts : List Token)
     → s ≡ record { rest = ts; steps = take l steps'; numbers = take n numbers' }
-        → code ≡ record { steps = take l steps'; numbers = numbers' } → HasCode code s
+    → code ≡ record { steps = take l steps'; numbers = numbers' } → HasCode code s
 has_code code steps' l numbers' n s ts e h = record {
   steps = ap (λ (c : Code). c.steps) h ∙ sym (ap (λ (x : State). x.steps) e);
   unused = drop n numbers';

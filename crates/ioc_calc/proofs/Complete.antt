@@ -63,10 +63,29 @@ loose_less level (_ ∷ rest) e = e
 
 pub level_most : (op : Infix) → level_of op ≤ 6
 level_most op = elim op as
-    (λ o. level_of o ≤ 6) [ Multiply ↦ omega arith | Divide ↦ omega arith | Remainder ↦ omega arith | Add ↦ omega arith | Subtract ↦
-    omega arith | Less ↦ omega arith | LessOrEqual ↦ omega arith | Greater ↦ omega arith | GreaterOrEqual ↦ omega arith | Equal ↦ omega
-    arith | NotEqual ↦ omega arith | BitAnd ↦ omega arith | And ↦ omega arith | ShiftLeft ↦ omega arith | ShiftRight ↦ omega arith |
-    ShiftRightUnsigned ↦ omega arith | BitOr ↦ omega arith | BitXor ↦ omega arith | Or ↦ omega arith ]
+    (λ o. level_of o ≤ 6) [
+      | Multiply ↦ omega arith
+      | Divide ↦ omega arith
+      | Remainder ↦ omega arith
+      | Add ↦ omega arith
+      | Subtract ↦
+          omega arith
+      | Less ↦ omega arith
+      | LessOrEqual ↦ omega arith
+      | Greater ↦ omega arith
+      | GreaterOrEqual ↦ omega arith
+      | Equal ↦ omega
+          arith
+      | NotEqual ↦ omega arith
+      | BitAnd ↦ omega arith
+      | And ↦ omega arith
+      | ShiftLeft ↦ omega arith
+      | ShiftRight ↦ omega arith
+      | ShiftRightUnsigned ↦ omega arith
+      | BitOr ↦ omega arith
+      | BitXor ↦ omega arith
+      | Or ↦ omega arith
+    ]
 
 -- ---- single steps
 
@@ -152,7 +171,7 @@ unfolding level_with
 level_suc r level s =
     let one_less : suc level - 1 ≡ level = omega arith in
     if_false (suc level == 0) _ (r (parts.Level (suc level - 1)) s >>= (λ a. r (parts.Tail (suc level)) a)) (ne_eqb (suc level) 0
-        (λ e. absurd (omega arith)))
+    (λ e. absurd (omega arith)))
     ∙ ap (λ k. r (parts.Level k) s >>= (λ a. r (parts.Tail (suc level)) a)) one_less
 
 -- a level up to where no operator of it follows
@@ -165,7 +184,7 @@ whole_level (suc level) ts t rest c f st nu loose room =
     let p = c f st nu (loose_less level rest loose) room in
     let some : 0 < p.turns = omega (arith, p.enough) in
     p.same ∙ turn p.turns (parts.Tail (suc level)) (read_to t rest st nu) some
-        ∙ tail_stops (parse (p.turns - 1)) level rest (read_to t rest st nu) loose
+    ∙ tail_stops (parse (p.turns - 1)) level rest (read_to t rest st nu) loose
 
 operand : (f : ℕ) (ts : List Token) (st : List Step) (nu : List Float) → 0 < f
     → parse f (parts.Level 0) (state ts st nu) ≡ operand_at (parse (f - 1)) ts (state ts st nu)
@@ -187,7 +206,7 @@ behind_three a b c d step = simp append_assoc
 one_step : (f : ℕ) (ts rest : List Token) (t : Tree) (st : List Step) (nu : List Float) (step : Step) → Sized (ALevel 0) ts t rest
     → length st + length ts < 79 → parse f (parts.Level 0) (state ts st nu) ≡ Some (read_to t rest st nu)
     → (parse f (parts.Level 0) (state ts st nu) >>= (λ a. emitted step a)) ≡ Some (state rest (st ++ (steps_of t ++ step ∷ []))
-        (nu ++ numbers_of t))
+    (nu ++ numbers_of t))
 one_step f ts rest t st nu step k room h =
     bind_ok (parse f (parts.Level 0) (state ts st nu)) (λ a. emitted step a) (read_to t rest st nu) h
     ∙ emits step rest (st ++ steps_of t) (nu ++ numbers_of t) (omega (arith, length-append st (steps_of t), k.steps))
@@ -201,16 +220,24 @@ unfolding closed
 brackets_complete ts rest t c = λ f st nu room.
     operand f (tokens.Open ∷ ts) st nu (omega (arith, room.turns))
     ∙ bind_ok (parse (f - 1) parts.Value (state ts st nu)) closed (read_to t (tokens.Close ∷ rest) st nu)
-    (c (f - 1) st nu tt (record { turns = omega (arith, room.turns); steps = omega (arith, room.steps); numbers = omega
-        (arith, room.numbers) }))
+    (c (f - 1) st nu tt (record {
+      turns = omega (arith, room.turns);
+      steps = omega (arith, room.steps);
+      numbers = omega
+          (arith, room.numbers);
+    }))
 
 prefix_complete : (op : Prefix) (ts rest : List Token) (t : Tree) → Sized (ALevel 0) ts t rest → Complete (ALevel 0) ts t rest
     → Complete (ALevel 0) (tokens.Prefix op ∷ ts) (One op t) rest
 prefix_complete op ts rest t k c = λ f st nu room.
     operand f (tokens.Prefix op ∷ ts) st nu (omega (arith, room.turns))
     ∙ one_step (f - 1) ts rest t st nu (steps.Prefix op) k (omega (arith, room.steps))
-    (c (f - 1) st nu (record { turns = omega (arith, room.turns); steps = omega (arith, room.steps); numbers = omega
-        (arith, room.numbers) }))
+    (c (f - 1) st nu (record {
+      turns = omega (arith, room.turns);
+      steps = omega (arith, room.steps);
+      numbers = omega
+          (arith, room.numbers);
+    }))
 
 one_complete : (token : Token) (fn : ListFunction) (ts rest : List Token) (t : Tree) → IsFunction token fn → is_open ts ≡ false
     → Sized (ALevel 0) ts t rest → Complete (ALevel 0) ts t rest → Complete (ALevel 0) (token ∷ ts) (First fn t) rest
@@ -219,14 +246,22 @@ one_complete token fn ts rest t (named fn') shut k c = λ f st nu room.
     operand f (tokens.Function fn' ∷ ts) st nu (omega (arith, room.turns))
     ∙ one_alone (parse (f - 1)) fn' ts (state ts st nu) shut (omega (arith, k.shorter))
     ∙ one_step (f - 1) ts rest t st nu (steps.First fn') k (omega (arith, room.steps))
-    (c (f - 1) st nu (record { turns = omega (arith, room.turns); steps = omega (arith, room.steps); numbers = omega
-        (arith, room.numbers) }))
+    (c (f - 1) st nu (record {
+      turns = omega (arith, room.turns);
+      steps = omega (arith, room.steps);
+      numbers = omega
+          (arith, room.numbers);
+    }))
 one_complete token fn ts rest t (left_out word) shut k c = λ f st nu room.
     operand f (tokens.LeftOutFunction word ∷ ts) st nu (omega (arith, room.turns))
     ∙ one_alone (parse (f - 1)) Maximum ts (state ts st nu) shut (omega (arith, k.shorter))
     ∙ one_step (f - 1) ts rest t st nu (steps.First Maximum) k (omega (arith, room.steps))
-    (c (f - 1) st nu (record { turns = omega (arith, room.turns); steps = omega (arith, room.steps); numbers = omega
-        (arith, room.numbers) }))
+    (c (f - 1) st nu (record {
+      turns = omega (arith, room.turns);
+      steps = omega (arith, room.steps);
+      numbers = omega
+          (arith, room.numbers);
+    }))
 
 -- the operands in brackets
 list_closed : (fn : ListFunction) (f : ℕ) (ts rest : List Token) (t : Tree) (st : List Step) (nu : List Float)
@@ -243,12 +278,20 @@ list_complete : (token : Token) (fn : ListFunction) (ts rest : List Token) (t : 
 unfolding function_with
 list_complete token fn ts rest t (named fn') c = λ f st nu room.
     operand f (tokens.Function fn' ∷ tokens.Open ∷ ts) st nu (omega (arith, room.turns))
-    ∙ list_closed fn' (f - 1) ts rest t st nu c (record { turns = omega (arith, room.turns); steps = omega
-        (arith, room.steps); numbers = omega (arith, room.numbers) })
+    ∙ list_closed fn' (f - 1) ts rest t st nu c (record {
+      turns = omega (arith, room.turns);
+      steps = omega
+          (arith, room.steps);
+      numbers = omega (arith, room.numbers);
+    })
 list_complete token fn ts rest t (left_out word) c = λ f st nu room.
     operand f (tokens.LeftOutFunction word ∷ tokens.Open ∷ ts) st nu (omega (arith, room.turns))
-    ∙ list_closed Maximum (f - 1) ts rest t st nu c (record { turns = omega (arith, room.turns); steps = omega
-        (arith, room.steps); numbers = omega (arith, room.numbers) })
+    ∙ list_closed Maximum (f - 1) ts rest t st nu c (record {
+      turns = omega (arith, room.turns);
+      steps = omega
+          (arith, room.steps);
+      numbers = omega (arith, room.numbers);
+    })
 
 tighter_complete : (level : ℕ) (ts rest : List Token) (t : Tree) → Sized (ALevel level) ts t rest → Complete (ALevel level) ts t rest
     → Complete (ALevel (suc level)) ts t rest
@@ -258,33 +301,47 @@ tighter_complete level ts rest t k c = λ f st nu loose room. record {
   same = turn f (parts.Level (suc level)) (state ts st nu) (omega (arith, room.turns))
       ∙ level_suc (parse (f - 1)) level (state ts st nu)
       ∙ bind_ok (parse (f - 1) (parts.Level level) (state ts st nu)) (λ a. parse (f - 1) (parts.Tail (suc level)) a)
-          (read_to t rest st nu)
-      (whole_level level ts t rest c (f - 1) st nu loose (record { turns = omega (arith, room.turns); steps = omega
-          (arith, room.steps); numbers = omega (arith, room.numbers) }));
+      (read_to t rest st nu)
+      (whole_level level ts t rest c (f - 1) st nu loose (record {
+        turns = omega (arith, room.turns);
+        steps = omega
+            (arith, room.steps);
+        numbers = omega (arith, room.numbers);
+      }));
 }
 
 -- the second operand of an operator, and its step
 second_step : (f level : ℕ) (ts rest : List Token) (s t : Tree) (st : List Step) (nu : List Float) (step : Step) (tail : Part)
     → Sized (ALevel level) ts t rest → Complete (ALevel level) ts t rest → Loose level rest
-        → Room level 1 f ts (st ++ steps_of s) (nu ++ numbers_of s)
+    → Room level 1 f ts (st ++ steps_of s) (nu ++ numbers_of s)
     → (parse f (parts.Level level) (state ts (st ++ steps_of s) (nu ++ numbers_of s)) >>= (λ a. emitted step a >>= (λ b. parse f tail b)))
     ≡ parse f tail (state rest (st ++ (steps_of s ++ (steps_of t ++ step ∷ []))) (nu ++ (numbers_of s ++ numbers_of t)))
 second_step f level ts rest s t st nu step tail k c loose room =
     bind_ok (parse f (parts.Level level) (state ts (st ++ steps_of s) (nu ++ numbers_of s))) (λ a. emitted step a >>=
-        (λ b. parse f tail b)) (read_to t rest (st ++ steps_of s) (nu ++ numbers_of s))
-    (whole_level level ts t rest c f (st ++ steps_of s) (nu ++ numbers_of s) loose (record { turns = room.turns; steps = omega
-        (arith, room.steps); numbers = room.numbers }))
+    (λ b. parse f tail b)) (read_to t rest (st ++ steps_of s) (nu ++ numbers_of s))
+    (whole_level level ts t rest c f (st ++ steps_of s) (nu ++ numbers_of s) loose (record {
+      turns = room.turns;
+      steps = omega
+          (arith, room.steps);
+      numbers = room.numbers;
+    }))
     ∙ bind_ok (emitted step (read_to t rest (st ++ steps_of s) (nu ++ numbers_of s))) (λ b. parse f tail b) (state rest
-        (((st ++ steps_of s) ++ steps_of t) ++ step ∷ []) ((nu ++ numbers_of s) ++ numbers_of t))
-    (emits step rest ((st ++ steps_of s) ++ steps_of t) ((nu ++ numbers_of s) ++ numbers_of t) (omega (arith, length-append
-        (st ++ steps_of s) (steps_of t), k.steps, k.shorter, room.steps)))
+    (((st ++ steps_of s) ++ steps_of t) ++ step ∷ []) ((nu ++ numbers_of s) ++ numbers_of t))
+    (emits step rest ((st ++ steps_of s) ++ steps_of t) ((nu ++ numbers_of s) ++ numbers_of t) (omega (
+      arith,
+      length-append
+          (st ++ steps_of s) (steps_of t),
+      k.steps,
+      k.shorter,
+      room.steps,
+    )))
     ∙ ap (λ x. parse f tail x) (same_state rest _ _ _ _ (behind_two st (steps_of s) (steps_of t) step) (append_assoc nu (numbers_of s)
-        (numbers_of t)))
+    (numbers_of t)))
 
 two_complete : (level : ℕ) (op : Infix) (ts us rest : List Token) (s t : Tree) → level_of op ≡ suc level
     → Sized (ALevel (suc level)) ts s (tokens.Infix op ∷ us) → Sized (ALevel level) us t rest
     → Complete (ALevel (suc level)) ts s (tokens.Infix op ∷ us) → Complete (ALevel level) us t rest
-        → Complete (ALevel (suc level)) ts (Two op s t) rest
+    → Complete (ALevel (suc level)) ts (Two op s t) rest
 unfolding tail_with operator_with
 two_complete level op ts us rest s t le k j c d = λ f st nu loose room.
     let p = c f st nu (omega (arith, le)) room in
@@ -298,7 +355,7 @@ two_complete level op ts us rest s t le k j c d = λ f st nu loose room.
       same = p.same ∙ turn p.turns (parts.Tail (suc level)) here (omega (arith, p.enough))
           ∙ if_true (level_of op == suc level) (operator_with r (suc level) op us here) (Some here) (eq-eqb (level_of op) (suc level) le)
           ∙ ap (λ n. r (parts.Level n) (state us (st ++ steps_of s) (nu ++ numbers_of s)) >>= (λ a. emitted (steps.Infix op) a >>=
-              (λ b. r (parts.Tail (suc level)) b))) one_less
+          (λ b. r (parts.Tail (suc level)) b))) one_less
           ∙ second_step (p.turns - 1) level us rest s t st nu (steps.Infix op) (parts.Tail (suc level)) j d loose
           (record {
             turns = omega (arith, p.enough, most, le);
@@ -321,9 +378,14 @@ power_complete raise e ts us rest t is k c = λ f st nu loose room.
       same = p.same ∙ turn p.turns (parts.Tail 1) here (omega (arith, p.enough))
           ∙ ap (λ o. power_from r o us here) is
           ∙ bind_ok (emitted (steps.Power e) (read_to t rest st nu)) (λ a. r (parts.Tail 1) a) (state rest
-              ((st ++ steps_of t) ++ steps.Power e ∷ []) (nu ++ numbers_of t))
-          (emits (steps.Power e) rest (st ++ steps_of t) (nu ++ numbers_of t) (omega (arith, length-append st
-              (steps_of t), k.steps, room.steps)))
+          ((st ++ steps_of t) ++ steps.Power e ∷ []) (nu ++ numbers_of t))
+          (emits (steps.Power e) rest (st ++ steps_of t) (nu ++ numbers_of t) (omega (
+            arith,
+            length-append st
+                (steps_of t),
+            k.steps,
+            room.steps,
+          )))
           ∙ ap (λ x. r (parts.Tail 1) (state rest x (nu ++ numbers_of t))) (behind_one st (steps_of t) (steps.Power e));
     }
 
@@ -353,14 +415,18 @@ unfolding value_with choice_with
 whole_complete ts rest t c = λ f st nu ends room.
     turn f parts.Value (state ts st nu) (omega (arith, room.turns))
     ∙ bind_ok (parse (f - 1) (parts.Level 6) (state ts st nu)) (λ a. choice_with (parse (f - 1)) a) (read_to t rest st nu)
-    (whole_level 6 ts t rest c (f - 1) st nu (ends_loose 6 rest ends) (record { turns = omega
-        (arith, room.turns); steps = room.steps; numbers = room.numbers }))
+    (whole_level 6 ts t rest c (f - 1) st nu (ends_loose 6 rest ends) (record {
+      turns = omega
+          (arith, room.turns);
+      steps = room.steps;
+      numbers = room.numbers;
+    }))
     ∙ choice_stops (parse (f - 1)) rest (read_to t rest st nu) ends
 
 choice_complete : (ts us vs rest : List Token) (q s t : Tree) → Sized (ALevel 6) ts q (tokens.Question ∷ us)
     → Sized AValue us s (tokens.Colon ∷ vs) → Sized AValue vs t rest
     → Complete (ALevel 6) ts q (tokens.Question ∷ us) → Complete AValue us s (tokens.Colon ∷ vs) → Complete AValue vs t rest
-        → Complete AValue ts (Choice q s t) rest
+    → Complete AValue ts (Choice q s t) rest
 unfolding value_with choice_with second_with
 choice_complete ts us vs rest q s t k j i c d e = λ f st nu ends room.
     let r : Reader = parse (f - 1) in
@@ -370,8 +436,12 @@ choice_complete ts us vs rest q s t k j i c d e = λ f st nu ends room.
     let nu2 : List Float = nu1 ++ numbers_of s in
     turn f parts.Value (state ts st nu) (omega (arith, room.turns))
     ∙ bind_ok (r (parts.Level 6) (state ts st nu)) (λ a. choice_with r a) (read_to q (tokens.Question ∷ us) st nu)
-    (whole_level 6 ts q (tokens.Question ∷ us) c (f - 1) st nu tt (record { turns = omega
-        (arith, room.turns); steps = room.steps; numbers = room.numbers }))
+    (whole_level 6 ts q (tokens.Question ∷ us) c (f - 1) st nu tt (record {
+      turns = omega
+          (arith, room.turns);
+      steps = room.steps;
+      numbers = room.numbers;
+    }))
     ∙ bind_ok (r parts.Value (state us st1 nu1)) (λ a. second_with r a) (read_to s (tokens.Colon ∷ vs) st1 nu1)
     (d (f - 1) st1 nu1 tt (record {
       turns = omega (arith, room.turns, k.shorter);
@@ -385,8 +455,17 @@ choice_complete ts us vs rest q s t k j i c d e = λ f st nu ends room.
       numbers = omega (arith, room.numbers, k.numbers, j.numbers, length-append nu (numbers_of q), length-append nu1 (numbers_of s));
     }))
     ∙ emits steps.Choose rest (st2 ++ steps_of t) (nu2 ++ numbers_of t)
-    (omega (arith, room.steps, k.steps, j.steps, i.steps, length-append st (steps_of q), length-append st1
-        (steps_of s), length-append st2 (steps_of t)))
+    (omega (
+      arith,
+      room.steps,
+      k.steps,
+      j.steps,
+      i.steps,
+      length-append st (steps_of q),
+      length-append st1
+          (steps_of s),
+      length-append st2 (steps_of t),
+    ))
     ∙ ap Some (same_state rest _ _ _ _ (behind_three st (steps_of q) (steps_of s) (steps_of t) steps.Choose) (simp append_assoc))
 
 first_complete : (fn : ListFunction) (ts rest : List Token) (t : Tree) → Sized AValue ts t rest → Complete AValue ts t rest
@@ -399,12 +478,17 @@ first_complete fn ts rest t k c = λ f st nu ends room.
       enough = omega (arith, room.turns, k.shorter);
       same = turn f (parts.Arguments fn) (state ts st nu) (omega (arith, room.turns))
           ∙ bind_ok (r parts.Value (state ts st nu)) (λ a. emitted (steps.First fn) a >>= (λ b. r (parts.MoreArguments fn) b))
-              (read_to t rest st nu)
+          (read_to t rest st nu)
           (c (f - 1) st nu ends (record { turns = omega (arith, room.turns); steps = omega (arith, room.steps); numbers = room.numbers }))
           ∙ bind_ok (emitted (steps.First fn) (read_to t rest st nu)) (λ b. r (parts.MoreArguments fn) b) (state rest
-              ((st ++ steps_of t) ++ steps.First fn ∷ []) (nu ++ numbers_of t))
-          (emits (steps.First fn) rest (st ++ steps_of t) (nu ++ numbers_of t) (omega (arith, length-append st
-              (steps_of t), k.steps, room.steps)))
+          ((st ++ steps_of t) ++ steps.First fn ∷ []) (nu ++ numbers_of t))
+          (emits (steps.First fn) rest (st ++ steps_of t) (nu ++ numbers_of t) (omega (
+            arith,
+            length-append st
+                (steps_of t),
+            k.steps,
+            room.steps,
+          )))
           ∙ ap (λ x. r (parts.MoreArguments fn) (state rest x (nu ++ numbers_of t))) (behind_one st (steps_of t) (steps.First fn));
     }
 
@@ -422,34 +506,41 @@ next_complete fn ts us rest s t k j c d = λ f st nu ends room.
       enough = omega (arith, p.enough, j.shorter);
       same = p.same ∙ turn p.turns (parts.MoreArguments fn) (read_to s (tokens.Comma ∷ us) st nu) (omega (arith, p.enough))
           ∙ bind_ok (r parts.Value (state us st1 nu1)) (λ a. emitted (steps.Next fn) a >>= (λ b. r (parts.MoreArguments fn) b))
-              (read_to t rest st1 nu1)
+          (read_to t rest st1 nu1)
           (d (p.turns - 1) st1 nu1 ends (record {
             turns = omega (arith, p.enough);
             steps = omega (arith, room.steps, k.steps, length-append st (steps_of s));
             numbers = omega (arith, room.numbers, k.numbers, length-append nu (numbers_of s));
           }))
           ∙ bind_ok (emitted (steps.Next fn) (read_to t rest st1 nu1)) (λ b. r (parts.MoreArguments fn) b) (state rest
-              ((st1 ++ steps_of t) ++ steps.Next fn ∷ []) (nu1 ++ numbers_of t))
-          (emits (steps.Next fn) rest (st1 ++ steps_of t) (nu1 ++ numbers_of t) (omega (arith, length-append st
-              (steps_of s), length-append st1 (steps_of t), k.steps, j.steps, room.steps)))
+          ((st1 ++ steps_of t) ++ steps.Next fn ∷ []) (nu1 ++ numbers_of t))
+          (emits (steps.Next fn) rest (st1 ++ steps_of t) (nu1 ++ numbers_of t) (omega (
+            arith,
+            length-append st
+                (steps_of s),
+            length-append st1 (steps_of t),
+            k.steps,
+            j.steps,
+            room.steps,
+          )))
           ∙ ap (λ x. r (parts.MoreArguments fn) x) (same_state rest _ _ _ _ (behind_two st (steps_of s) (steps_of t) (steps.Next fn))
-              (append_assoc nu (numbers_of s) (numbers_of t)));
+          (append_assoc nu (numbers_of s) (numbers_of t)));
     }
 
 pub complete : (p : Phrase) (ts : List Token) (t : Tree) (rest : List Token) → Reads p ts t rest → Complete p ts t rest
 complete p ts t rest (number x rest') = λ f st nu room.
     operand f (tokens.Number x ∷ rest') st nu (omega (arith, room.turns))
-        ∙ numbers_fit x rest' st nu (omega (arith, room.steps)) (omega (arith, room.numbers))
+    ∙ numbers_fit x rest' st nu (omega (arith, room.steps)) (omega (arith, room.numbers))
 complete p ts t rest (argument place rest') = λ f st nu room.
     operand f (tokens.Argument place ∷ rest') st nu (omega (arith, room.turns))
-        ∙ emits (steps.Argument place) rest' st nu (omega (arith, room.steps))
-        ∙ ap (λ x. Some (state rest' (st ++ steps.Argument place ∷ []) x)) (sym (append-nil nu))
+    ∙ emits (steps.Argument place) rest' st nu (omega (arith, room.steps))
+    ∙ ap (λ x. Some (state rest' (st ++ steps.Argument place ∷ []) x)) (sym (append-nil nu))
 complete p ts t rest (before rest') = λ f st nu room.
     operand f (tokens.Value ∷ rest') st nu (omega (arith, room.turns)) ∙ emits steps.Value rest' st nu (omega (arith, room.steps))
-        ∙ ap (λ x. Some (state rest' (st ++ steps.Value ∷ []) x)) (sym (append-nil nu))
+    ∙ ap (λ x. Some (state rest' (st ++ steps.Value ∷ []) x)) (sym (append-nil nu))
 complete p ts t rest (random rest') = λ f st nu room.
     operand f (tokens.Random ∷ rest') st nu (omega (arith, room.turns)) ∙ emits steps.Value rest' st nu (omega (arith, room.steps))
-        ∙ ap (λ x. Some (state rest' (st ++ steps.Value ∷ []) x)) (sym (append-nil nu))
+    ∙ ap (λ x. Some (state rest' (st ++ steps.Value ∷ []) x)) (sym (append-nil nu))
 complete p ts t rest (brackets ts' rest' t' d) = brackets_complete ts' rest' t' (complete AValue ts' t' (tokens.Close ∷ rest') d)
 complete p ts t rest (prefix op ts' rest' t' d) = prefix_complete op ts' rest' t' (sized (ALevel 0) ts' t' rest' d) (complete
     (ALevel 0) ts' t' rest' d)
@@ -461,19 +552,19 @@ complete p ts t rest (tighter level ts' rest' t' d) = tighter_complete level ts'
     (complete (ALevel level) ts' t' rest' d)
 complete p ts t rest (two level op ts' us rest' s' t' le d e) =
     two_complete level op ts' us rest' s' t' le (sized (ALevel (suc level)) ts' s' (tokens.Infix op ∷ us) d) (sized
-        (ALevel level) us t' rest' e)
+    (ALevel level) us t' rest' e)
     (complete (ALevel (suc level)) ts' s' (tokens.Infix op ∷ us) d) (complete (ALevel level) us t' rest' e)
 complete p ts t rest (power raise e ts' us rest' t' d is) =
     power_complete raise e ts' us rest' t' is (sized (ALevel 1) ts' t' (tokens.Power raise ∷ us) d) (complete (ALevel 1) ts' t'
-        (tokens.Power raise ∷ us) d)
+    (tokens.Power raise ∷ us) d)
 complete p ts t rest (other_power raise ts' us rest' s' t' d is e) =
     other_power_complete raise ts' us rest' s' t' is (sized (ALevel 1) ts' s' (tokens.Power raise ∷ us) d) (sized
-        (ALevel 0) us t' rest' e)
+    (ALevel 0) us t' rest' e)
     (complete (ALevel 1) ts' s' (tokens.Power raise ∷ us) d) (complete (ALevel 0) us t' rest' e)
 complete p ts t rest (whole ts' rest' t' d) = whole_complete ts' rest' t' (complete (ALevel 6) ts' t' rest' d)
 complete p ts t rest (choice ts' us vs rest' q s' t' d e f) =
     choice_complete ts' us vs rest' q s' t' (sized (ALevel 6) ts' q (tokens.Question ∷ us) d) (sized AValue us s' (tokens.Colon ∷ vs) e)
-        (sized AValue vs t' rest' f)
+    (sized AValue vs t' rest' f)
     (complete (ALevel 6) ts' q (tokens.Question ∷ us) d) (complete AValue us s' (tokens.Colon ∷ vs) e) (complete AValue vs t' rest' f)
 complete p ts t rest (first fn ts' rest' t' d) = first_complete fn ts' rest' t' (sized AValue ts' t' rest' d)
     (complete AValue ts' t' rest' d)

@@ -46,7 +46,7 @@ one_rest : (ts : List Token) (s t : Tree) (r q : List Token) → length ts ≤ 7
 one_rest ts s t r q h d e dr eq =
     let room : Room 7 0 TURNS ts [] [] = record { turns = value_turns ts h; steps = omega arith; numbers = omega arith } in
     let both : Some (read_to s r [] []) ≡ Some (read_to t q [] []) = sym (complete AValue ts s r d TURNS [] [] dr room)
-        ∙ complete AValue ts t q e TURNS [] [] eq room in
+    ∙ complete AValue ts t q e TURNS [] [] eq room in
     ap (λ (x : State). x.rest) (some_same (read_to s r [] []) (read_to t q [] []) both)
 
 no_assign : (rest us : List Token) → Closes rest → rest ≡ tokens.Assign ∷ us → ⊥
@@ -61,7 +61,7 @@ argument_first place us =
     let rest : List Token = tokens.Assign ∷ us in
     let t : Tree = Argument place in
     whole ts rest t (tighter 5 ts rest t (tighter 4 ts rest t (tighter 3 ts rest t (tighter 2 ts rest t (tighter 1 ts rest t
-        (tighter 0 ts rest t (argument place rest)))))))
+    (tighter 0 ts rest t (argument place rest)))))))
 
 value_is_none : (ts : List Token) (t : Tree) (rest : List Token) → length ts ≤ 79 → Reads AValue ts t rest → Closes rest
     → stored_in ts ≡ None
@@ -71,11 +71,11 @@ value_is_none ts t rest h d c =
       | inr found ↦
           let begins = stored_in_some ts found.0.0 found.0.1 found.1 in
           let moved : Reads AValue (tokens.Argument found.0.0 ∷ tokens.Assign ∷ found.0.1) t rest = subst
-              (λ x. Reads AValue x t rest) begins d in
+          (λ x. Reads AValue x t rest) begins d in
           let short : length (tokens.Argument found.0.0 ∷ tokens.Assign ∷ found.0.1) ≤ 79 = subst (λ x. length x ≤ 79) begins h in
           absurd (no_assign rest found.0.1 c (one_rest (tokens.Argument found.0.0 ∷ tokens.Assign ∷ found.0.1) t
-              (Argument found.0.0) rest (tokens.Assign ∷ found.0.1) short moved (argument_first found.0.0 found.0.1)
-              (closes_ends rest c) tt))
+          (Argument found.0.0) rest (tokens.Assign ∷ found.0.1) short moved (argument_first found.0.0 found.0.1)
+          (closes_ends rest c) tt))
     ]
 
 -- ---- one statement
@@ -105,13 +105,21 @@ statement_complete : (ts : List Token) (s : Statement) (rest : List Token) → R
 unfolding statement_with
 statement_complete ts s rest (value ts' rest' t d) c st nu h k =
     ap (λ o. statement_from o (state ts' st nu)) (value_is_none ts' t rest' (omega arith) d c)
-    ∙ complete AValue ts' t rest' d TURNS st nu (closes_ends rest' c) (record { turns = value_turns ts'
-        (omega arith); steps = omega arith; numbers = omega arith })
+    ∙ complete AValue ts' t rest' d TURNS st nu (closes_ends rest' c) (record {
+      turns = value_turns ts'
+          (omega arith);
+      steps = omega arith;
+      numbers = omega arith;
+    })
 statement_complete ts s rest (store place ts' rest' t d) c st nu h k =
     let z = sized AValue ts' t rest' d in
     bind_ok (parse TURNS parts.Value (state ts' st nu)) (λ a. emitted (steps.Store place) a) (read_to t rest' st nu)
-    (complete AValue ts' t rest' d TURNS st nu (closes_ends rest' c) (record { turns = value_turns ts'
-        (omega arith); steps = omega arith; numbers = omega arith }))
+    (complete AValue ts' t rest' d TURNS st nu (closes_ends rest' c) (record {
+      turns = value_turns ts'
+          (omega arith);
+      steps = omega arith;
+      numbers = omega arith;
+    }))
     ∙ emits (steps.Store place) rest' (st ++ steps_of t) (nu ++ numbers_of t) (omega (arith, length-append st (steps_of t), z.steps))
     ∙ ap (λ x. Some (state rest' x (nu ++ numbers_of t))) (append_assoc st (steps_of t) (steps.Store place ∷ []))
 
@@ -141,14 +149,14 @@ and_complete : (later : Bool → State
     (nu : List Float) → ReadsStatement ts s rest → Closes rest
     → values_in (s ∷ ss) ≡ one_unless has → length st + length ts ≤ 79 → 2 * length nu + length ts ≤ 79
     → statement_and later has (is_none (stored_in ts)) (state ts st nu) ≡ ended (later (has || is_value s)) (has || is_value s)
-        (state rest (st ++ steps_in s) (nu ++ numbers_in s))
+    (state rest (st ++ steps_in s) (nu ++ numbers_in s))
 unfolding statement_and
 and_complete later ts s rest ss has st nu d c v h k =
     ap (λ b. statement_and later has b (state ts st nu)) (kind_of ts s rest (omega arith) d c)
     ∙ if_false (is_value s && has) None (statement_with (state ts st nu) >>= (λ a. ended (later (has || is_value s))
-        (has || is_value s) a)) (not_both s ss has v)
+    (has || is_value s) a)) (not_both s ss has v)
     ∙ bind_ok (statement_with (state ts st nu)) (λ a. ended (later (has || is_value s)) (has || is_value s) a) (state rest
-        (st ++ steps_in s) (nu ++ numbers_in s)) (statement_complete ts s rest d c st nu h k)
+    (st ++ steps_in s) (nu ++ numbers_in s)) (statement_complete ts s rest d c st nu h k)
 
 statements_suc : (n : ℕ) (has : Bool) (s : State)
     → statements (suc n) has s ≡ statement_and (statements n) has (is_none (stored_in s.rest)) s
@@ -165,9 +173,9 @@ statements_complete ts ss (last ts' s d) (suc n) has st nu le v h k =
     statements_suc n has (state ts' st nu)
     ∙ and_complete (statements n) ts' s [] [] has st nu d tt v h k
     ∙ if_true (has || is_value s) (Some (state [] (st ++ steps_in s) (nu ++ numbers_in s))) None (has_one (has || is_value s)
-        (values_after s [] has v))
+    (values_after s [] has v))
     ∙ ap Some (same_state [] _ _ _ _ (ap (λ x. st ++ x) (sym (append-nil (steps_in s))
-        ∙ sym (all_steps-cons s []))) (ap (λ x. nu ++ x) (sym (append-nil (numbers_in s)) ∙ sym (all_numbers-cons s []))))
+    ∙ sym (all_steps-cons s []))) (ap (λ x. nu ++ x) (sym (append-nil (numbers_in s)) ∙ sym (all_numbers-cons s []))))
 statements_complete ts ss (more ts' us s ss' d e) zero has st nu le v h k = let z = statement_sized ts' s
     (tokens.Semicolon ∷ us) d in absurd (omega (arith, z.shorter))
 statements_complete ts ss (more ts' us s ss' d e) (suc n) has st nu le v h k =
@@ -175,7 +183,7 @@ statements_complete ts ss (more ts' us s ss' d e) (suc n) has st nu le v h k =
     statements_suc n has (state ts' st nu)
     ∙ and_complete (statements n) ts' s (tokens.Semicolon ∷ us) ss' has st nu d tt v h k
     ∙ statements_complete us ss' e n (has || is_value s) (st ++ steps_in s) (nu ++ numbers_in s) (omega (arith, z.shorter))
-        (values_after s ss' has v)
+    (values_after s ss' has v)
     (omega (arith, z.steps, length-append st (steps_in s))) (omega (arith, z.numbers, length-append nu (numbers_in s)))
     ∙ ap Some (same_state [] _ _ _ _
     (append_assoc st (steps_in s) (all_steps ss') ∙ ap (λ x. st ++ x) (sym (all_steps-cons s ss')))
@@ -201,7 +209,7 @@ statement_runs ts s rest (store place ts' rest' t e) more' d n h k =
     ap (λ x. can_run x d n) (append_assoc (steps_of t) (steps.Store place ∷ []) more')
     ∙ tree_runs t (steps.Store place ∷ more') d n (omega arith) (omega (arith, z.numbers))
     ∙ step_runs (steps.Store place) more' (d + 1) (n - length (numbers_of t)) (d + 0) (n - length (numbers_of t)) (lt-ltb 0 (d + 1)
-        (omega arith)) (omega arith) refl
+    (omega arith)) (omega arith) refl
 
 values_left : (s : Statement) (ss : List Statement) → values_in (s ∷ ss) ≡ left_by s + values_in ss
 values_left (Value t) ss = omega arith
@@ -222,4 +230,4 @@ statements_run ts ss (more ts' us s ss' e f) d n h k v =
     ap (λ x. can_run x d n) (all_steps-cons s ss')
     ∙ statement_runs ts' s (tokens.Semicolon ∷ us) e (all_steps ss') d n h k
     ∙ statements_run us ss' f (d + left_by s) (n - length (numbers_in s)) (omega (arith, left_room s ts' us e)) (omega
-        (arith, z.numbers)) (omega (arith, v, values_left s ss'))
+    (arith, z.numbers)) (omega (arith, v, values_left s ss'))

@@ -89,33 +89,33 @@ tree_runs (One op t) more' d n h k =
     ap (λ s. can_run s d n) (append_assoc (steps_of t) (steps.Prefix op ∷ []) more')
     ∙ tree_runs t (steps.Prefix op ∷ more') d n h k
     ∙ step_runs (steps.Prefix op) more' (d + 1) (n - length (numbers_of t)) (d + 1) (n - length (numbers_of t)) (lt-ltb 0 (d + 1)
-        (omega arith)) refl refl
+    (omega arith)) refl refl
 tree_runs (First f t) more' d n h k =
     ap (λ s. can_run s d n) (append_assoc (steps_of t) (steps.First f ∷ []) more')
     ∙ tree_runs t (steps.First f ∷ more') d n h k
     ∙ step_runs (steps.First f) more' (d + 1) (n - length (numbers_of t)) (d + 1) (n - length (numbers_of t)) (lt-ltb 0 (d + 1)
-        (omega arith)) refl refl
+    (omega arith)) refl refl
 tree_runs (Power t e) more' d n h k =
     ap (λ s. can_run s d n) (append_assoc (steps_of t) (steps.Power e ∷ []) more')
     ∙ tree_runs t (steps.Power e ∷ more') d n h k
     ∙ step_runs (steps.Power e) more' (d + 1) (n - length (numbers_of t)) (d + 1) (n - length (numbers_of t)) (lt-ltb 0 (d + 1)
-        (omega arith)) refl refl
+    (omega arith)) refl refl
 tree_runs (More f s t) more' d n h k =
     let l = length-append (numbers_of s) (numbers_of t) in
     ap (λ x. can_run x d n) (append_assoc (steps_of s) (steps_of t ++ steps.Next f ∷ []) more'
-        ∙ ap (λ x. steps_of s ++ x) (append_assoc (steps_of t) (steps.Next f ∷ []) more'))
+    ∙ ap (λ x. steps_of s ++ x) (append_assoc (steps_of t) (steps.Next f ∷ []) more'))
     ∙ tree_runs s (steps_of t ++ (steps.Next f ∷ more')) d n (omega arith) (omega arith)
     ∙ tree_runs t (steps.Next f ∷ more') (d + 1) (n - length (numbers_of s)) (omega (arith, some_leaves s)) (omega arith)
     ∙ step_runs (steps.Next f) more' (d + 1 + 1) (n - length (numbers_of s) - length (numbers_of t)) (d + 1) (n - length
-        (numbers_of s ++ numbers_of t)) (lt-ltb 1 (d + 1 + 1) (omega arith)) (omega arith) (omega arith)
+    (numbers_of s ++ numbers_of t)) (lt-ltb 1 (d + 1 + 1) (omega arith)) (omega arith) (omega arith)
 tree_runs (Two op s t) more' d n h k =
     let l = length-append (numbers_of s) (numbers_of t) in
     ap (λ x. can_run x d n) (append_assoc (steps_of s) (steps_of t ++ steps.Infix op ∷ []) more'
-        ∙ ap (λ x. steps_of s ++ x) (append_assoc (steps_of t) (steps.Infix op ∷ []) more'))
+    ∙ ap (λ x. steps_of s ++ x) (append_assoc (steps_of t) (steps.Infix op ∷ []) more'))
     ∙ tree_runs s (steps_of t ++ (steps.Infix op ∷ more')) d n (omega arith) (omega arith)
     ∙ tree_runs t (steps.Infix op ∷ more') (d + 1) (n - length (numbers_of s)) (omega (arith, some_leaves s)) (omega arith)
     ∙ step_runs (steps.Infix op) more' (d + 1 + 1) (n - length (numbers_of s) - length (numbers_of t)) (d + 1) (n - length
-        (numbers_of s ++ numbers_of t)) (lt-ltb 1 (d + 1 + 1) (omega arith)) (omega arith) (omega arith)
+    (numbers_of s ++ numbers_of t)) (lt-ltb 1 (d + 1 + 1) (omega arith)) (omega arith) (omega arith)
 tree_runs (Choice c s t) more' d n h k =
     let l = length-append (numbers_of s) (numbers_of t) in
     let m = length-append (numbers_of c) (numbers_of s ++ numbers_of t) in
@@ -123,6 +123,6 @@ tree_runs (Choice c s t) more' d n h k =
     ∙ tree_runs c (steps_of s ++ (steps_of t ++ (steps.Choose ∷ more'))) d n (omega arith) (omega arith)
     ∙ tree_runs s (steps_of t ++ (steps.Choose ∷ more')) (d + 1) (n - length (numbers_of c)) (omega (arith, some_leaves c)) (omega arith)
     ∙ tree_runs t (steps.Choose ∷ more') (d + 1 + 1) (n - length (numbers_of c) - length (numbers_of s)) (omega
-        (arith, some_leaves c, some_leaves s)) (omega arith)
+    (arith, some_leaves c, some_leaves s)) (omega arith)
     ∙ step_runs steps.Choose more' (d + 1 + 1 + 1) (n - length (numbers_of c) - length (numbers_of s) - length (numbers_of t)) (d + 1)
-        (n - length (numbers_of c ++ (numbers_of s ++ numbers_of t))) (lt-ltb 2 (d + 1 + 1 + 1) (omega arith)) (omega arith) (omega arith)
+    (n - length (numbers_of c ++ (numbers_of s ++ numbers_of t))) (lt-ltb 2 (d + 1 + 1 + 1) (omega arith)) (omega arith) (omega arith)

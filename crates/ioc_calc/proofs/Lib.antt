@@ -3,7 +3,7 @@ pub mod Stacks
 pub mod Runs
 pub mod Turns
 pub mod Parses
-pub mod Statements
+pub mod Said
 pub mod Sound
 pub mod SoundStatements
 pub mod Codes

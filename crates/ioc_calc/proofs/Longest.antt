@@ -68,5 +68,8 @@ one_of (w ∷ ws) first rest token more e =
 
 pub longest : (words : List Word) (first : ℕ) (rest : List ℕ) (token : Token) (more : ℕ)
     → longest_in words first rest ≡ Some (token, more) → IsOneOf words first rest token more × NoneIsLonger words first rest more
-longest words first rest token more e = (one_of words first rest token more e, none_longer words first rest more (found_at_most
-    (longest_in words first rest) (token, more) e))
+longest words first rest token more e = (
+  one_of words first rest token more e,
+  none_longer words first rest more (found_at_most
+      (longest_in words first rest) (token, more) e),
+)

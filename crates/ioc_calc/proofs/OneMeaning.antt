@@ -43,11 +43,11 @@ tokens_are_few (b ∷ bs) (suc skip) place = few_more (tokens_from skip place bs
     (tokens_are_few bs skip place)
 tokens_are_few (b ∷ bs) zero place =
     chosen_few (is_space b) (tokens_from zero place bs) (next_from (token_at place (b ∷ bs)) (λ t more. with_front (t ∷ [])
-        (tokens_from more (ends_operand t) bs))) (length (b ∷ bs))
+    (tokens_from more (ends_operand t) bs))) (length (b ∷ bs))
     (few_more (tokens_from zero place bs) (length bs) (length (b ∷ bs)) (omega arith) (tokens_are_few bs zero place))
     (next_few (token_at place (b ∷ bs)) (λ t more. with_front (t ∷ []) (tokens_from more (ends_operand t) bs)) (length (b ∷ bs))
     (λ t more. few_more (with_front (t ∷ []) (tokens_from more (ends_operand t) bs)) (length bs + 1) (length (b ∷ bs)) (omega arith)
-        (one_more t (tokens_from more (ends_operand t) bs) (length bs) (tokens_are_few bs more (ends_operand t)))))
+    (one_more t (tokens_from more (ends_operand t) bs) (length bs) (tokens_are_few bs more (ends_operand t)))))
 
 -- ---- one meaning
 
@@ -57,21 +57,21 @@ same_program ts s t h a b v w =
     let one = statements_complete ts s a 80 false [] [] (omega arith) v (omega arith) (omega arith) in
     let two = statements_complete ts t b 80 false [] [] (omega arith) w (omega arith) (omega arith) in
     let same : state [] ([] ++ all_steps s) ([] ++ all_numbers s) ≡ state [] ([] ++ all_steps t) ([] ++ all_numbers t) = some_same _ _
-        (sym one ∙ two) in
+    (sym one ∙ two) in
     (ap (λ (x : State). x.steps) same, ap (λ (x : State). x.numbers) same)
 
 pub meanings_agree : (text : List ℕ) (s t : List Statement) → IsExpression text s → IsExpression text t
     → (before : Float) (arguments : List Float)
     → (value_of s before arguments ≡ value_of t before arguments) ×
-        (arguments_after s before arguments ≡ arguments_after t before arguments)
+    (arguments_after s before arguments ≡ arguments_after t before arguments)
 meanings_agree text s t d e before arguments =
     let ts = some_same d.tokens e.tokens (sym d.follows.spelled ∙ e.follows.spelled) in
     let few : length e.tokens ≤ 79 = let k = tokens_are_few text 0 false e.tokens e.follows.spelled in let short = e.follows.short in
-        omega arith in
+    omega arith in
     let moved : AreStatements e.tokens s = subst (λ x. AreStatements x s) ts d.follows.grammar in
     let same = same_program e.tokens s t few moved e.follows.grammar d.follows.one_value e.follows.one_value in
     let ends : machine (arguments_after s before arguments) [] (value_of s before arguments ∷ []) ≡ machine
-        (arguments_after t before arguments) [] (value_of t before arguments ∷ []) =
+    (arguments_after t before arguments) [] (value_of t before arguments ∷ []) =
     sym (runs_one before s arguments [] [] d.follows.one_value)
     ∙ ap (λ x. ran before x (machine arguments (all_numbers s ++ []) [])) same.0
     ∙ ap (λ x. ran before (all_steps t) (machine arguments (x ++ []) [])) same.1

@@ -37,7 +37,7 @@ can_run_of ts s s' re se ne h some =
     let g = statements_sound 80 false s s' some in
     let reads = subst (λ x. AreStatements x g.statements) re g.reads in
     ap (λ x. can_run x 0 40) (g.steps ∙ ap (λ x. x ++ all_steps g.statements) se)
-        ∙ statements_run ts g.statements reads 0 40 (omega arith) (omega arith) (omega (arith, g.values))
+    ∙ statements_run ts g.statements reads 0 40 (omega arith) (omega arith) (omega (arith, g.values))
 
 -- ---- texts
 
@@ -56,8 +56,14 @@ long_text text h = λ us ss f. let short = f.short in absurd (omega arith)
 
 follows : (text : List ℕ) (ts : List Token) (code : Code) → 0 < length text → length text ≤ 79 → tokens_of text ≡ Some ts
     → (p : IsProgramOfTokens ts code) → Follows text ts p.statements
-follows text ts code some short e p = record { some = some; short = short; spelled = e; grammar = p.grammar; one_value =
-    p.program.one_value }
+follows text ts code some short e p = record {
+  some = some;
+  short = short;
+  spelled = e;
+  grammar = p.grammar;
+  one_value =
+      p.program.one_value;
+}
 
 pub compiles : (text : List ℕ) (ts : List Token) (code : Code) → 0 < length text → length text ≤ 79 → tokens_of text ≡ Some ts
     → IsProgramOfTokens ts code → left_out_in ts ≡ None → Compiles text code
@@ -69,8 +75,13 @@ compiles text ts code some short e p none = record {
 
 pub leaves_out : (text : List ℕ) (ts : List Token) (code : Code) (word : Word) → 0 < length text → length text ≤ 79
     → tokens_of text ≡ Some ts → IsProgramOfTokens ts code → left_out_in ts ≡ Some word → IsFault text (LeftOut word)
-leaves_out text ts code word some short e p found = record { tokens = ts; statements = p.statements; follows = follows text ts code some
-    short e p; first = found }
+leaves_out text ts code word some short e p found = record {
+  tokens = ts;
+  statements = p.statements;
+  follows = follows text ts code some
+      short e p;
+  first = found;
+}
 
 -- a fault is no expression's
 pub no_expression : (text : List ℕ) (kind : CalcFaultKind) → IsFault text kind → (ss : List Statement) → IsExpression text ss → ⊥

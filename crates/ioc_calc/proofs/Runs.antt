@@ -33,14 +33,14 @@ runs v (Power t e) args more stack =
     ∙ ap (ran v (steps.Power e ∷ [])) (runs v t args more stack)
 runs v (More f s t) args more stack =
     ap (λ n. ran v (steps_of s ++ (steps_of t ++ steps.Next f ∷ [])) (machine args n stack)) (append_assoc (numbers_of s)
-        (numbers_of t) more)
+    (numbers_of t) more)
     ∙ ran-append v (steps_of s) (steps_of t ++ steps.Next f ∷ []) (machine args (numbers_of s ++ (numbers_of t ++ more)) stack)
     ∙ ap (ran v (steps_of t ++ steps.Next f ∷ [])) (runs v s args (numbers_of t ++ more) stack)
     ∙ ran-append v (steps_of t) (steps.Next f ∷ []) (machine args (numbers_of t ++ more) (meaning args v s ∷ stack))
     ∙ ap (ran v (steps.Next f ∷ [])) (runs v t args more (meaning args v s ∷ stack))
 runs v (Two op s t) args more stack =
     ap (λ n. ran v (steps_of s ++ (steps_of t ++ steps.Infix op ∷ [])) (machine args n stack)) (append_assoc (numbers_of s)
-        (numbers_of t) more)
+    (numbers_of t) more)
     ∙ ran-append v (steps_of s) (steps_of t ++ steps.Infix op ∷ []) (machine args (numbers_of s ++ (numbers_of t ++ more)) stack)
     ∙ ap (ran v (steps_of t ++ steps.Infix op ∷ [])) (runs v s args (numbers_of t ++ more) stack)
     ∙ ran-append v (steps_of t) (steps.Infix op ∷ []) (machine args (numbers_of t ++ more) (meaning args v s ∷ stack))
@@ -48,12 +48,12 @@ runs v (Two op s t) args more stack =
 runs v (Choice c s t) args more stack =
     ap (λ n. ran v (steps_of c ++ (steps_of s ++ (steps_of t ++ steps.Choose ∷ []))) (machine args n stack))
     (append_assoc (numbers_of c) (numbers_of s ++ numbers_of t) more
-        ∙ ap (λ n. numbers_of c ++ n) (append_assoc (numbers_of s) (numbers_of t) more))
+    ∙ ap (λ n. numbers_of c ++ n) (append_assoc (numbers_of s) (numbers_of t) more))
     ∙ ran-append v (steps_of c) (steps_of s ++ (steps_of t ++ steps.Choose ∷ [])) (machine args (numbers_of c ++ (numbers_of s ++
-        (numbers_of t ++ more))) stack)
+    (numbers_of t ++ more))) stack)
     ∙ ap (ran v (steps_of s ++ (steps_of t ++ steps.Choose ∷ []))) (runs v c args (numbers_of s ++ (numbers_of t ++ more)) stack)
     ∙ ran-append v (steps_of s) (steps_of t ++ steps.Choose ∷ []) (machine args (numbers_of s ++ (numbers_of t ++ more))
-        (meaning args v c ∷ stack))
+    (meaning args v c ∷ stack))
     ∙ ap (ran v (steps_of t ++ steps.Choose ∷ [])) (runs v s args (numbers_of t ++ more) (meaning args v c ∷ stack))
     ∙ ran-append v (steps_of t) (steps.Choose ∷ []) (machine args (numbers_of t ++ more) (meaning args v s ∷ meaning args v c ∷ stack))
     ∙ ap (ran v (steps.Choose ∷ [])) (runs v t args more (meaning args v s ∷ meaning args v c ∷ stack))
@@ -65,7 +65,7 @@ runs_all v [] args more stack h = refl
 runs_all v (Value t ∷ ss) args more stack h = absurd (omega arith)
 runs_all v (Store p t ∷ ss) args more stack h =
     ap (λ n. ran v (steps_of t ++ (steps.Store p ∷ all_steps ss)) (machine args n stack)) (append_assoc (numbers_of t)
-        (all_numbers ss) more)
+    (all_numbers ss) more)
     ∙ ran-append v (steps_of t) (steps.Store p ∷ all_steps ss) (machine args (numbers_of t ++ (all_numbers ss ++ more)) stack)
     ∙ ap (ran v (steps.Store p ∷ all_steps ss)) (runs v t args (all_numbers ss ++ more) stack)
     ∙ runs_all v ss (slice_set args p (meaning args v t)) more stack h
@@ -82,7 +82,7 @@ runs_one v (Value t ∷ ss) args more stack h =
     ∙ runs_all v ss args more (meaning args v t ∷ stack) (omega arith)
 runs_one v (Store p t ∷ ss) args more stack h =
     ap (λ n. ran v (steps_of t ++ (steps.Store p ∷ all_steps ss)) (machine args n stack)) (append_assoc (numbers_of t)
-        (all_numbers ss) more)
+    (all_numbers ss) more)
     ∙ ran-append v (steps_of t) (steps.Store p ∷ all_steps ss) (machine args (numbers_of t ++ (all_numbers ss ++ more)) stack)
     ∙ ap (ran v (steps.Store p ∷ all_steps ss)) (runs v t args (all_numbers ss ++ more) stack)
     ∙ runs_one v ss (slice_set args p (meaning args v t)) more stack h

@@ -95,7 +95,7 @@ grown_one p q ts us base known step a s' make makes same builds g h =
 pub grown_two : (p q r : Phrase) (ts us vs : List Token) (base : List Step) (known : List Float) (step : Step) (a b s' : State)
     (make : Tree → Tree → Tree)
     → ((s t : Tree) → steps_of (make s t) ≡ steps_of s ++ (steps_of t ++ step ∷ [])) → ((s t : Tree)
-        → numbers_of (make s t) ≡ numbers_of s ++ numbers_of t)
+    → numbers_of (make s t) ≡ numbers_of s ++ numbers_of t)
     → (g : Grown p ts base known a) → (k : Grown q us a.steps a.numbers b)
     → Reads r vs (make g.tree k.tree) b.rest
     → emitted step b ≡ Some s' → Grown r vs base known s'
@@ -144,10 +144,10 @@ not_one k level h e = absurd (omega arith)
 one_behind : (r : Part → State → Option State) → IsSound r → (token : Token) (f : ListFunction) → IsFunction token f
     → (ts : List Token) → is_open ts ≡ false → (steps' : List Step) (numbers' : List Float) (s' : State)
     → (r (parts.Level 0) (record { rest = ts; steps = steps'; numbers = numbers' }) >>= (λ a. emitted (steps.First f) a)) ≡ Some s'
-        → Grown (ALevel 0) (token ∷ ts) steps' numbers' s'
+    → Grown (ALevel 0) (token ∷ ts) steps' numbers' s'
 one_behind r sound token f is ts shut steps' numbers' s' h =
     let b = bind_some (r (parts.Level 0) (record { rest = ts; steps = steps'; numbers = numbers' })) (λ a. emitted
-        (steps.First f) a) s' h in
+    (steps.First f) a) s' h in
     grown_one (ALevel 0) (ALevel 0) ts (token ∷ ts) steps' numbers' (steps.First f) b.0 s' (First f) (λ t. refl) (λ t. refl)
     (λ t rest k. of_one token f ts rest t is shut k)
     (sound (parts.Level 0) (record { rest = ts; steps = steps'; numbers = numbers' }) b.0 b.1) b.2
@@ -155,7 +155,7 @@ one_behind r sound token f is ts shut steps' numbers' s' h =
 function_at_sound : (r : Part → State → Option State) → IsSound r → (token : Token) (f : ListFunction) → IsFunction token f
     → (ts : List Token) (steps' : List Step) (numbers' : List Float) (s' : State)
     → function_at r f ts (record { rest = ts; steps = steps'; numbers = numbers' }) ≡ Some s'
-        → Grown (ALevel 0) (token ∷ ts) steps' numbers' s'
+    → Grown (ALevel 0) (token ∷ ts) steps' numbers' s'
 function_at_sound r sound token f is [] steps' numbers' s' h = cc
 function_at_sound r sound token f is (tokens.Open ∷ rest) steps' numbers' s' h =
     let b = bind_some (r (parts.Arguments f) (record { rest = rest; steps = steps'; numbers = numbers' })) closed s' h in
@@ -188,9 +188,9 @@ operand_at_sound r sound (tokens.Random ∷ rest) steps' numbers' s' h =
     (record { tree = Before; reads = random rest; steps = refl; numbers = sym (append-nil numbers') })
 operand_at_sound r sound (tokens.Prefix op ∷ rest) steps' numbers' s' h =
     let b = bind_some (r (parts.Level 0) (record { rest = rest; steps = steps'; numbers = numbers' })) (λ a. emitted
-        (steps.Prefix op) a) s' h in
+    (steps.Prefix op) a) s' h in
     grown_one (ALevel 0) (ALevel 0) rest (tokens.Prefix op ∷ rest) steps' numbers' (steps.Prefix op) b.0 s' (One op) (λ t. refl)
-        (λ t. refl)
+    (λ t. refl)
     (λ t behind k. prefix op rest behind t k)
     (sound (parts.Level 0) (record { rest = rest; steps = steps'; numbers = numbers' }) b.0 b.1) b.2
 operand_at_sound r sound (tokens.Open ∷ rest) steps' numbers' s' h =
@@ -211,7 +211,7 @@ unfolding level_with operand_with
 level_sound r sound zero s s' h = operand_at_sound r sound s.rest s.steps s.numbers s' h
 level_sound r sound (suc k) s s' h =
     elim (either_way (suc k == 0) (operand_at r s.rest s) (r (parts.Level (suc k - 1)) s >>= (λ a. r (parts.Tail (suc k)) a))
-        (Some s') h) [
+    (Some s') h) [
       | inl w ↦ absurd (suc_zero k (eqb-true (suc k) 0 w.0))
       | inr w ↦
           let b = bind_some (r (parts.Level (suc k - 1)) s) (λ a. r (parts.Tail (suc k)) a) s' w.1 in
@@ -232,7 +232,7 @@ operator_sound : (r : Part → State → Option State) → IsSound r → (k leve
     → (rest us : List Token) (base : List Step) (known : List Float) (steps' : List Step) (numbers' : List Float) (s' : State)
     → Grown (ALevel (suc k)) us base known (record { rest = tokens.Infix op ∷ rest; steps = steps'; numbers = numbers' })
     → operator_with r level op rest (record { rest = tokens.Infix op ∷ rest; steps = steps'; numbers = numbers' }) ≡ Some s'
-        → Grown (ALevel (suc k)) us base known s'
+    → Grown (ALevel (suc k)) us base known s'
 unfolding operator_with
 operator_sound r sound k level le op oe rest us base known steps' numbers' s' g h =
     let here : State = record { rest = rest; steps = steps'; numbers = numbers' } in
@@ -242,7 +242,7 @@ operator_sound r sound k level le op oe rest us base known steps' numbers' s' g 
     let ga = sound (parts.Level k) here a.0 (subst (λ j. r (parts.Level j) here ≡ Some a.0) one_less a.1) in
     sound (parts.Tail level) b.0 s' b.2 k le us base known
     (grown_two (ALevel (suc k)) (ALevel k) (ALevel (suc k)) us rest us base known (steps.Infix op)
-        (record { rest = tokens.Infix op ∷ rest; steps = steps'; numbers = numbers' }) a.0 b.0 (Two op) (λ s t. refl) (λ s t. refl) g ga
+    (record { rest = tokens.Infix op ∷ rest; steps = steps'; numbers = numbers' }) a.0 b.0 (Two op) (λ s t. refl) (λ s t. refl) g ga
     (two k op us rest a.0.rest g.tree ga.tree (oe ∙ le) g.reads ga.reads) b.1)
 
 power_sound : (r : Part → State → Option State) → IsSound r
@@ -250,7 +250,7 @@ power_sound : (r : Part → State → Option State) → IsSound r
     → (base : List Step) (known : List Float) (steps' : List Step) (numbers' : List Float) (s' : State)
     → Grown (ALevel 1) us base known (record { rest = tokens.Power sign ∷ rest; steps = steps'; numbers = numbers' })
     → power_from r found rest (record { rest = tokens.Power sign ∷ rest; steps = steps'; numbers = numbers' }) ≡ Some s'
-        → Grown (ALevel 1) us base known s'
+    → Grown (ALevel 1) us base known s'
 power_sound r sound sign (Some e) rest us is base known steps' numbers' s' g h =
     let here : State = record { rest = e.1; steps = steps'; numbers = numbers' } in
     let a = bind_some (emitted (steps.Power e.0) here) (λ y. r (parts.Tail 1) y) s' h in
@@ -268,8 +268,8 @@ power_sound r sound sign None rest us is base known steps' numbers' s' g h =
     let ga = sound (parts.Level 0) here a.0 a.1 in
     sound (parts.Tail 1) b.0 s' b.2 0 refl us base known
     (grown_two (ALevel 1) (ALevel 0) (ALevel 1) us rest us base known (steps.Infix Multiply)
-        (record { rest = tokens.Power sign ∷ rest; steps = steps'; numbers = numbers' }) a.0 b.0 (Two Multiply) (λ s t. refl)
-        (λ s t. refl) g ga
+    (record { rest = tokens.Power sign ∷ rest; steps = steps'; numbers = numbers' }) a.0 b.0 (Two Multiply) (λ s t. refl)
+    (λ s t. refl) g ga
     (other_power sign us rest a.0.rest g.tree ga.tree g.reads is ga.reads) b.1)
 
 tail_at_sound : (r : Part → State → Option State) → IsSound r → (ts : List Token) (k level : ℕ) → level ≡ suc k
@@ -347,7 +347,7 @@ arguments_sound r sound f s s' h =
     let b = bind_some (emitted (steps.First f) a.0) (λ y. r (parts.MoreArguments f) y) s' a.2 in
     sound (parts.MoreArguments f) b.0 s' b.2 s.rest s.steps s.numbers
     (grown_one AValue (AList f) s.rest s.rest s.steps s.numbers (steps.First f) a.0 b.0 (First f) (λ t. refl) (λ t. refl)
-        (λ t rest k. first f s.rest rest t k) (sound parts.Value s a.0 a.1) b.1)
+    (λ t rest k. first f s.rest rest t k) (sound parts.Value s a.0 a.1) b.1)
 
 more_at_sound : (r : Part → State → Option State) → IsSound r
     → (f : ListFunction) (ts us : List Token) (base : List Step) (known : List Float) (s s' : State) → s.rest ≡ ts

@@ -46,8 +46,11 @@ pub record Said (s s' : State) : Type 0 where
 
 stored_behind_some : (p q : ℕ) (ts rest : List Token) → stored_behind p ts ≡ Some (q, rest) → (p ≡ q) × (ts ≡ tokens.Assign ∷ rest)
 stored_behind_some p q [] rest h = cc
-stored_behind_some p q (tokens.Assign ∷ ts) rest h = (ap (λ (x : ℕ × List Token). x.0) (some_same (p, ts) (q, rest) h), ap (λ
-    (x : ℕ × List Token). tokens.Assign ∷ x.1) (some_same (p, ts) (q, rest) h))
+stored_behind_some p q (tokens.Assign ∷ ts) rest h = (
+  ap (λ (x : ℕ × List Token). x.0) (some_same (p, ts) (q, rest) h),
+  ap (λ
+      (x : ℕ × List Token). tokens.Assign ∷ x.1) (some_same (p, ts) (q, rest) h),
+)
 stored_behind_some p q (_ ∷ ts) rest h = cc
 
 pub stored_in_some : (ts : List Token) (q : ℕ) (rest : List Token) → stored_in ts ≡ Some (q, rest)
@@ -62,8 +65,14 @@ statement_from_sound : (stored : Option (ℕ × List Token)) (s s' : State) → 
     → statement_from stored s ≡ Some s' → Said s s'
 statement_from_sound None s s' e h =
     let g = parse_sound TURNS parts.Value s s' h in
-    record { statement = Value g.tree; reads = value s.rest s'.rest g.tree g.reads; steps = g.steps; numbers = g.numbers; kind = sym
-        (ap is_none e) }
+    record {
+      statement = Value g.tree;
+      reads = value s.rest s'.rest g.tree g.reads;
+      steps = g.steps;
+      numbers = g.numbers;
+      kind = sym
+          (ap is_none e);
+    }
 statement_from_sound (Some stored) s s' e h =
     let a = bind_some (parse TURNS parts.Value (at stored.1 s)) (λ x. emitted (steps.Store stored.0) x) s' h in
     let g = parse_sound TURNS parts.Value (at stored.1 s) a.0 a.1 in

@@ -29,11 +29,11 @@ pub turn_fits : (xs : List Step) (n i : ℕ) (d : Step) (depth unused depth' unu
     → unused' ≡ unused_after (get_or xs i d) unused → IsTrue (can_run (drop (i + 1) (take n xs)) depth' unused')
 turn_fits xs n i d depth unused depth' unused' lt le h de ue =
     let now : IsTrue (can_run (get_or xs i d ∷ drop (i + 1) (take n xs)) depth unused) = subst (λ s. IsTrue (can_run s depth unused))
-        (drop-step xs n i d lt le) h in
+    (drop-step xs n i d lt le) h in
     let then : IsTrue (can_run (drop (i + 1) (take n xs)) (depth_after (get_or xs i d) depth) (unused_after
-        (get_or xs i d) unused)) = both_right (can_step (get_or xs i d) depth unused) _ now in
+    (get_or xs i d) unused)) = both_right (can_step (get_or xs i d) depth unused) _ now in
     subst (λ k. IsTrue (can_run (drop (i + 1) (take n xs)) k unused')) (sym de) (subst (λ k. IsTrue (can_run (drop (i + 1) (take n xs))
-        (depth_after (get_or xs i d) depth) k)) (sym ue) then)
+    (depth_after (get_or xs i d) depth) k)) (sym ue) then)
 
 pub turn_same : (v : Float) (xs : List Step) (n i : ℕ) (d : Step) (m m' : Machine) → i < n → n ≤ length xs
     → m' ≡ stepped v (get_or xs i d) m → ran v (drop (i + 1) (take n xs)) m' ≡ ran v (drop i (take n xs)) m
@@ -48,7 +48,7 @@ pub ended : (v : Float) (xs : List Step) (n i : ℕ) (numbers : List Float) (ss 
 ended v xs n i numbers ss args m le within p same =
     let short : length (take n xs) ≤ i = omega (arith, length-take n xs) in
     let whole : m ≡ machine (arguments_after ss v args) p.unused (value_of ss v args ∷ []) = sym (ap (λ s. ran v s m) (drop_all i
-        (take n xs) short)) ∙ same ∙ program_runs v (record { steps = take n xs; numbers = numbers }) ss args p in
+    (take n xs) short)) ∙ same ∙ program_runs v (record { steps = take n xs; numbers = numbers }) ss args p in
     (ap (λ (x : Machine). top x.stack) whole, ap (λ (x : Machine). x.arguments) whole)
 
 -- one element less

@@ -76,7 +76,7 @@ larger_rest a p b q r hb qp e =
 pub doubled_turn : (n c d r : ℕ) → r ≡ (n * 2 ^ c) % d → (r * 2) % d ≡ (n * 2 ^ (c + 1)) % d
 doubled_turn n c d r e =
     ap (λ x. (x * 2) % d) e ∙ mul-mod_first (n * 2 ^ c) 2 d ∙ ap (λ x. x % d) (mul_assoc n (2 ^ c) 2
-        ∙ ap (λ x. n * x) (sym (pow-add 2 c 1)))
+    ∙ ap (λ x. n * x) (sym (pow-add 2 c 1)))
 
 -- ---- fields
 
@@ -124,7 +124,7 @@ fields_size s zero t h = size_value (odd 53 s t 0 1074) s (t * 2 ^ 0) (2 ^ 1074)
 fields_size s (suc k) t h =
     kept_size (eqb (suc k) (ones binary64)) (eqb t 0) s (odd 53 s (hid binary64 + t) k 1074) (size_of_fields (suc k) t)
     (size_value (odd 53 s (hid binary64 + t) k 1074) s ((hid binary64 + t) * 2 ^ k) (2 ^ 1074) (odd_sign 53 s (hid binary64 + t) k 1074)
-        (pow_pos 1074)) h
+    (pow_pos 1074)) h
 
 bits_are_fields : (b : ℕ)
     → of_bits binary64 b ≡ of_fields binary64 (leb (top binary64) b) (b % top binary64 / hid binary64) (b % hid binary64)
@@ -136,10 +136,10 @@ pub size_of_bits : (x : Float) (b : ℕ) → T (fits binary64 x) → float_is_fi
 size_of_bits x b f h e =
     let back : x ≡ of_bits binary64 b = sym (of_bits-to_bits binary64 x f) ∙ ap (of_bits binary64) (sym e) in
     let whole_back : x ≡ of_fields binary64 (leb (top binary64) b) (b % top binary64 / hid binary64) (b % hid binary64) = back
-        ∙ bits_are_fields b in
+    ∙ bits_are_fields b in
     sym (ap size_of whole_back
-        ∙ fields_size (leb (top binary64) b) (b % top binary64 / hid binary64) (b % hid binary64) (sym (ap float_is_finite whole_back)
-        ∙ h))
+    ∙ fields_size (leb (top binary64) b) (b % top binary64 / hid binary64) (b % hid binary64) (sym (ap float_is_finite whole_back)
+    ∙ h))
 
 -- ---- whole numbers as doubles
 
@@ -167,12 +167,12 @@ power_bits : (p : ℕ) → p < 1000 → of_bits binary64 ((p + 1023) * 450359962
 power_bits p h =
     let below_top : (p + 1023) * 4503599627370496 < 9223372036854775808 = omega arith in
     let sign : leb (top binary64) ((p + 1023) * 4503599627370496) ≡ false = lt-leb (top binary64)
-        ((p + 1023) * 4503599627370496) below_top in
+    ((p + 1023) * 4503599627370496) below_top in
     let field : (p + 1023) * 4503599627370496 % 9223372036854775808 / 4503599627370496 ≡ suc (p + 1022) = omega arith in
     let digits : (p + 1023) * 4503599627370496 % hid binary64 ≡ 0 = mul-mod_left (p + 1023) (hid binary64) in
     bits_are_fields ((p + 1023) * 4503599627370496)
     ∙ ap (λ s. of_fields binary64 s ((p + 1023) * 4503599627370496 % top binary64 / hid binary64)
-        ((p + 1023) * 4503599627370496 % hid binary64)) sign
+    ((p + 1023) * 4503599627370496 % hid binary64)) sign
     ∙ ap (λ n. of_fields binary64 false n ((p + 1023) * 4503599627370496 % hid binary64)) field
     ∙ ap (λ n. of_fields binary64 false (suc (p + 1022)) n) digits
     ∙ power_fields (p + 1022) (omega arith)

@@ -41,7 +41,7 @@ emitted step s = if nat_lt (length s.steps) 79 then Some
 unfoldable pub with_number : Float → State → Option State
 with_number x s =
     if nat_lt (length s.numbers) 40 then emitted steps.Number
-        (record { rest = s.rest; steps = s.steps; numbers = s.numbers ++ x ∷ [] }) else None
+    (record { rest = s.rest; steps = s.steps; numbers = s.numbers ++ x ∷ [] }) else None
 
 -- a closing bracket
 abbrev pub closed_at : List Token → State → Option State

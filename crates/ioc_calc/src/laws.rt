@@ -13,7 +13,8 @@ ghost use Rattle.ioc_calc.specs.Longest.{IsOneOf, NoneIsLonger};
 /// value and store the same.
 pub fn one_meaning()
     ensures { (text : List ℕ) (s t : List Statement) → IsExpression text s → IsExpression text t → (before : Float) (arguments : List Float)
-        → (value_of s before arguments ≡ value_of t before arguments) × (arguments_after s before arguments ≡ arguments_after t before arguments) }
+        → (value_of s before arguments ≡ value_of t before arguments)
+        × (arguments_after s before arguments ≡ arguments_after t before arguments) }
 {}
 
 /// The token that is taken from a table is that of a word with which the text begins, and no other

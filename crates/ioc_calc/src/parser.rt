@@ -490,7 +490,7 @@ impl<'a> Parser<'a> {
     /// Reads statements up to the end. `has_value` says whether one before them is a value: exactly one
     /// has to be.
     #[cycle(statements)]
-    #[tactic(auto, unfolding(crate::specs::Statements::statement_and), using(crate::proofs::Statements::statements_none, crate::proofs::Statements::statements_next))]
+    #[tactic(auto, unfolding(crate::specs::Statements::statement_and), using(crate::proofs::Said::none, crate::proofs::Said::next))]
     pub fn statements(&mut self, turns: u8, has_value: bool) -> Result<(), Refused>
         ensures { Parsed result self.new (statements turns has_value self.old) }
     {

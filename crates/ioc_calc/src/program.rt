@@ -5,7 +5,6 @@ ghost use Rattle.ioc_calc.specs.Operations.{zero_float};
 ghost use Rattle.ioc_calc.specs.Tree.{Statement, value_of, arguments_after};
 ghost use Rattle.ioc_calc.specs.Machine.{IsProgramOf, can_run, can_step, stepped, depth_after, unused_after};
 
-use crate::operations::{chosen, of_first, of_next, of_one, of_two, power};
 use crate::operators::{Exponent, Infix, ListFunction, Prefix};
 use crate::stack::Stack;
 use ioc_double::Double;
@@ -38,8 +37,16 @@ pub enum Step {
     Store(u8),
 }
 
-/// The program of an expression: at most 79 steps, and at most 40 numbers, since a number and what
-/// parts it from the next one have a byte each.
+/// The program of an expression. It has a size of its own and nothing on the heap: at most 79 steps,
+/// since a step has a byte at least, and at most 40 numbers, since a number and what parts it from the
+/// next one have a byte each.
+///
+/// ```text
+/// let program = compile(b"B:=A+1;A*B")?;
+/// let product = program.run(&mut arguments, value);
+/// ```
+///
+/// stores A+1 into the second of the arguments, and gives A times this.
 #[derive(Clone, Copy)]
 pub struct Program {
     steps: [Step; 79],
@@ -82,7 +89,7 @@ impl Program {
     ghost use Rattle.ioc_calc.specs.Program.{code_of, machine_of};
 
     /// Makes a program of the first of these steps, which can run.
-    pub fn new(steps: &[Step; 79], length: usize, numbers: &[f64; 40]) -> Self
+    pub(crate) fn new(steps: &[Step; 79], length: usize, numbers: &[f64; 40]) -> Self
         requires long { length ≤ 79 }
         requires runs { IsTrue (can_run (take length steps.now) 0 40) }
         ensures { code_of result ≡ record { steps = take length steps.now; numbers = numbers.now } }
@@ -109,39 +116,14 @@ impl Program {
                 run.stack.push(self.numbers[run.used]);
                 run.used += 1;
             }
-            Step::Argument(place) => {
-                let x = argument_at(arguments, usize::from(place));
-                run.stack.push(x);
-            }
+            Step::Argument(place) => run.stack.push(argument_at(arguments, usize::from(place))),
             Step::Value => run.stack.push(value.number()),
-            Step::Prefix(operator) => {
-                let x = run.stack.pop();
-                run.stack.push(of_one(operator, x));
-            }
-            Step::First(function) => {
-                let x = run.stack.pop();
-                run.stack.push(of_first(function, x));
-            }
-            Step::Next(function) => {
-                let x = run.stack.pop();
-                let before = run.stack.pop();
-                run.stack.push(of_next(function, before, x));
-            }
-            Step::Infix(operator) => {
-                let y = run.stack.pop();
-                let x = run.stack.pop();
-                run.stack.push(of_two(operator, x, y));
-            }
-            Step::Power(exponent) => {
-                let base = run.stack.pop();
-                run.stack.push(power(base, exponent));
-            }
-            Step::Choose => {
-                let y = run.stack.pop();
-                let x = run.stack.pop();
-                let condition = run.stack.pop();
-                run.stack.push(chosen(condition, x, y));
-            }
+            Step::Prefix(operator) => run.stack.apply_one(operator),
+            Step::First(function) => run.stack.apply_first(function),
+            Step::Next(function) => run.stack.apply_next(function),
+            Step::Infix(operator) => run.stack.apply_two(operator),
+            Step::Power(exponent) => run.stack.apply_power(exponent),
+            Step::Choose => run.stack.choose(),
             Step::Store(place) => {
                 let x = run.stack.pop();
                 store_at(arguments, usize::from(place), x);
@@ -150,10 +132,12 @@ impl Program {
     }
 
     /// Runs the program on the values of A to L, with this VAL before the run, and returns its
-    /// value. What the expression stores is put into the arguments.
+    /// value. What the expression stores is put into the arguments. Of a choice both sides are
+    /// computed, which changes nothing else, and one is kept. Nothing is allocated.
     pub fn run(&self, arguments: &mut [Double; 12], value: Double) -> Double
         ensures value { (s : List Statement) → IsProgramOf (code_of self.now) s → result ≡ value_of s value arguments.old }
-        ensures arguments { (s : List Statement) → IsProgramOf (code_of self.now) s → arguments.new ≡ arguments_after s value arguments.old }
+        ensures arguments { (s : List Statement) → IsProgramOf (code_of self.now) s
+            → arguments.new ≡ arguments_after s value arguments.old }
     {
         let mut run = Run {
             stack: Stack::new(),

@@ -11,7 +11,7 @@ returns-then-rest-eq0 c = sym (multiplied_done (7 - c.loop.counter) c.loop.produ
 pub loop-preserved : goal.loop-preserved
 loop-preserved c =
     ap (λ p. multiplied (7 - (c.loop.counter + 1)) p (mul binary64 c.loop.square c.loop.square)
-        (c.loop.rest / 2)) c.multiplied_once-product.ensures
+    (c.loop.rest / 2)) c.multiplied_once-product.ensures
     ∙ sym (multiplied_turn c.loop.counter c.loop.product c.loop.square c.loop.rest c.loop-test.true c.if-rest-eq0.false)
     ∙ c.loop.invariant
 

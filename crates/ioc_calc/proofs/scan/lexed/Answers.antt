@@ -11,7 +11,7 @@ loop-i-preserved c = record {
       (sym (drop_one c.loop-i.i c.args.text.now) ∙ ap (drop 1) (sym (from_on c.loop-i.i c.args.text.now)))
       ∙ sym c.in-Ok.ensures.ok
       ∙ ap (λ xs. with_front (read_by c.loop-i.lexer) (tokens_from c.loop-i.lexer.skip c.loop-i.lexer.operator_is_next xs))
-          (from_on c.loop-i.i c.args.text.now)
+      (from_on c.loop-i.i c.args.text.now)
       ∙ c.loop-i.invariant.tokens;
   length = omega arith;
 }

@@ -18,15 +18,15 @@ pub returns-clause-value : goal.returns-clause-value
 returns-clause-value c = λ s p.
     c.new-2.ensures ∙ c.pop.ensures.value
     ∙ (ended c.args.value c.args.self.now.steps c.args.self.now.length c.loop-i.i c.args.self.now.numbers s c.args.arguments.now
-        (machine_of c.args.self.now c.loop-i.run c.loop-i.arguments) (omega arith) (omega arith) p
+    (machine_of c.args.self.now c.loop-i.run c.loop-i.arguments) (omega arith) (omega arith) p
     (c.loop-i.invariant.same
-        ∙ ap (λ stack. ran c.args.value (take c.args.self.now.length c.args.self.now.steps)
-        (machine c.args.arguments.now c.args.self.now.numbers stack)) c.new.ensures)).0
+    ∙ ap (λ stack. ran c.args.value (take c.args.self.now.length c.args.self.now.steps)
+    (machine c.args.arguments.now c.args.self.now.numbers stack)) c.new.ensures)).0
 
 pub returns-clause-arguments : goal.returns-clause-arguments
 returns-clause-arguments c = λ s p.
     (ended c.args.value c.args.self.now.steps c.args.self.now.length c.loop-i.i c.args.self.now.numbers s c.args.arguments.now
-        (machine_of c.args.self.now c.loop-i.run c.loop-i.arguments) (omega arith) (omega arith) p
+    (machine_of c.args.self.now c.loop-i.run c.loop-i.arguments) (omega arith) (omega arith) p
     (c.loop-i.invariant.same
-        ∙ ap (λ stack. ran c.args.value (take c.args.self.now.length c.args.self.now.steps)
-        (machine c.args.arguments.now c.args.self.now.numbers stack)) c.new.ensures)).1
+    ∙ ap (λ stack. ran c.args.value (take c.args.self.now.length c.args.self.now.steps)
+    (machine c.args.arguments.now c.args.self.now.numbers stack)) c.new.ensures)).1
