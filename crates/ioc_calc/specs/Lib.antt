@@ -16,3 +16,4 @@ pub mod Exponents
 pub mod Levels
 pub mod Wholes
 pub mod Longest
+pub mod Names

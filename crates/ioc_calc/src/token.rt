@@ -1,5 +1,8 @@
 //! The tokens of an expression.
 
+ghost use Rattle.std.specs.Prelude.{◌≡◌};
+ghost use Rattle.ioc_calc.specs.Names.{name_of};
+
 use crate::operators::{Infix, ListFunction, Prefix};
 
 /// What is left out of expressions by name: functions whose result no standard fixes to the last
@@ -66,7 +69,9 @@ pub enum Token {
 
 impl LeftOut {
     /// Returns the name, in capitals, or the sign.
-    pub fn name(self) -> &'static str {
+    pub fn name(self) -> &'static str
+        ensures { result.now ≡ name_of self }
+    {
         match self {
             LeftOut::Acos => "ACOS",
             LeftOut::Asin => "ASIN",
