@@ -1,6 +1,6 @@
 //! The tokens of a text.
 
-ghost use Rattle.std.specs.Prelude.{◌≡◌, ◌+◌, ◌^◌, ◌<◌, ◌≤◌, ◌∷◌, ◌++◌, [], IfSome, OnOk, OnErr, length, drop, false};
+ghost use Rattle.std.specs.Prelude.{◌≡◌, ◌+◌, ◌^◌, ◌<◌, ◌≤◌, ◌∷◌, ◌++◌, [], IfSome, OnOk, OnErr, length, drop, slice_index, false};
 ghost use Rattle.ioc_double.specs.Decimal.{decimal_length};
 ghost use Rattle.ioc_calc.specs.Tokens.{hex_digit, with_digit, hexadecimal_from, hexadecimal_at, decimal_of, number_in, token_at, ends_operand, is_space, with_front, tokens_from};
 
@@ -166,7 +166,7 @@ pub struct Lexer {
 }
 
 impl Lexer {
-    ghost use Rattle.ioc_calc.specs.Lexer.{read_by};
+    ghost use Rattle.ioc_calc.specs.Lexer.{read_by, byte_from};
 
     /// Makes a lexer that has read nothing.
     pub fn new() -> Self
@@ -189,6 +189,7 @@ impl Lexer {
         requires { self.old.length < 79 }
         ensures tokens { read_by self.new ≡ read_by self.old ++ token ∷ [] }
         ensures length { self.new.length ≡ self.old.length + 1 }
+        ensures byte { slice_index self.new.bytes self.old.length ≡ byte }
         ensures skip { self.new.skip ≡ more }
         ensures operator { self.new.operator_is_next ≡ ends_operand token }
     {
@@ -235,7 +236,8 @@ impl Lexer {
     /// Returns the byte at which the token stands that has so many tokens from it on, or the end
     /// where there is none.
     pub fn byte_of(&self, remaining: usize, end: usize) -> usize
-        ensures { result ≤ end }
+        ensures value { result ≡ byte_from self.now remaining end }
+        ensures within { result ≤ end }
     {
         if remaining == 0 || remaining > self.length {
             end
