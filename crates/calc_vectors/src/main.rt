@@ -25,7 +25,12 @@ fn push_double(alloc: Global, text: &mut String, value: Double) -> Result<(), io
     Ok(())
 }
 
-fn push_stores(alloc: Global, text: &mut String, before: &[Double], after: &[Double]) -> Result<(), io::Error> {
+fn push_stores(
+    alloc: Global,
+    text: &mut String,
+    before: &[Double],
+    after: &[Double],
+) -> Result<(), io::Error> {
     let names = "ABCDEFGHIJKL";
     for (name, (old, new)) in names.chars().zip(before.iter().zip(after.iter())) {
         if *old != *new {
