@@ -373,7 +373,7 @@ impl<
     J: Write + Drop,
     R: Wait,
 > Session for Talk<'_, '_, '_, E, B, D, C, J, R> {
-    ghost use Rattle.std.specs.Prelude.{[], ⊥};
+    ghost use Rattle.std.specs.Prelude.{[]};
     ghost use Rattle.std.proofs.Common.{refl};
 
     ghost transcript = { λ _ _. [] };

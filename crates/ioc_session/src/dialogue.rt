@@ -1,6 +1,4 @@
 //! Sessions that tell more than the replies.
-ghost use Rattle.std.specs.Prelude.{[]};
-
 use crate::directory::Directory;
 use crate::explanation::explained;
 use crate::user_line::script_line;
@@ -151,7 +149,7 @@ impl<S: Session + Drop, E: Write + Drop> Dialogue<S, E> {
 }
 
 impl<S: Session + Drop, E: Write + Drop> Session for Dialogue<S, E> {
-    ghost use Rattle.std.specs.Prelude.{⊥};
+    ghost use Rattle.std.specs.Prelude.{[]};
     ghost use Rattle.std.proofs.Common.{refl};
 
     ghost transcript = { λ _ _. [] };
