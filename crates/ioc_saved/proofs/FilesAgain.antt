@@ -1,0 +1,203 @@
+-- The file of values is read as these values.
+use Rattle.std.proofs.Common.{◌≡◌, ℕ, zero, suc, ◌≤◌, ◌<◌, ◌+◌, ◌^◌, Bool, true, false, cond, eqb, ltb, leb, not, ◌&&◌, List, [], ◌∷◌, ◌++◌, length, Option, Some, None, Result, Ok, Err, refl, sym, ap, ◌∙◌, append_assoc, arith}
+use Rattle.std.specs.Prelude.{codes}
+use Rattle.std.specs.List.{flat_map, AllByRecursion}
+use Rattle.std.specs.Fmt.{decimal}
+use Rattle.std.specs.Char.{digit_value}
+use Rattle.std.specs.Str.Parse.{AllDigits}
+use Rattle.std.proofs.lemmas.Int.{ints}
+use Rattle.std.proofs.lemmas.List.{append-nil}
+use Rattle.std.proofs.lemmas.Bool.{le-leb, leb-true, ne_eqb, and_parts, not-true}
+use Rattle.std.proofs.lemmas.Bool.Decides.{nat_tests}
+use Rattle.std.proofs.lemmas.Fmt.{decimal_is_IsNumeral}
+use Rattle.ioc_saved.specs.declared.value.SavedValue.{SavedValue}
+use Rattle.ioc_saved.specs.declared.line.SavedLine.{SavedLine}
+use Rattle.ioc_saved.specs.declared.line.SavedLine.TheVariants.{Passed, Value, Bad}
+use Rattle.ioc_saved.specs.declared.fault.SavedFault.{SavedFault}
+use Rattle.ioc_saved.specs.declared.fault.SavedFault.TheVariants.{NoEnd, BadLine, NoMemory}
+use Rattle.ioc_saved.specs.declared.escapes.Escape.TheVariants.{No}
+use Rattle.ioc_saved.specs.Words.{lacks, before, behind, lines_of, no_lines, last_of}
+use Rattle.ioc_saved.specs.Escapes.{escaped, unescaped, limited}
+use Rattle.ioc_saved.specs.Lines.{is_passed, is_long_as, is_record_name, is_field_name, is_saveable, row, ◌>>=◌, name_in, text_in, value_in, line_with, line_in}
+use Rattle.ioc_saved.specs.Files.{head, value_line, end_line, file_of, is_end, onto_values, with_line, values_of, values_in}
+use Rattle.ioc_saved.proofs.Cuts.{and_true, lacks_append, before_cut, behind_cut, lines_cut}
+use Rattle.ioc_saved.proofs.EscapesAgain.{within, escaped_read, escaped_lacks}
+
+-- ---- Reading values one after the other
+
+-- The values that were read before, and those that are still read.
+abbrev pub with_front : List SavedValue → Result (List SavedValue) SavedFault → Result (List SavedValue) SavedFault
+with_front front (Ok values) = Ok (front ++ values)
+with_front front (Err e) = Err e
+
+pub no_front : (read : Result (List SavedValue) SavedFault) → with_front [] read ≡ read
+no_front (Ok values) = refl
+no_front (Err e) = refl
+
+pub regroup : (front : List SavedValue) (v : SavedValue) (read : Result (List SavedValue) SavedFault) → with_front front (onto_values v read) ≡ with_front (front ++ v ∷ []) read
+regroup front v (Ok values) = ap (λ (l : List SavedValue). Ok l) (sym (append_assoc front (v ∷ []) values))
+regroup front v (Err e) = refl
+
+-- ---- What can be saved
+
+record IsSaveable (v : SavedValue) : Type 0 where
+  long_name : is_long_as 60 v.record_name ≡ true
+  name_feed : lacks 10 v.record_name ≡ true
+  name_space : lacks 32 v.record_name ≡ true
+  name_dot : lacks 46 v.record_name ≡ true
+  no_comment : is_passed v.record_name ≡ false
+  long_field : is_long_as 8 v.field ≡ true
+  field_feed : lacks 10 v.field ≡ true
+  field_space : lacks 32 v.field ≡ true
+  value : length v.value ≤ 120
+
+parts : (v : SavedValue) → is_saveable v ≡ true → IsSaveable v
+unfolding is_saveable
+parts v h =
+    let a = and_parts (is_record_name v.record_name) _ h in
+    let b = and_parts (is_field_name v.field) _ a.1 in
+    let n = and_parts (is_long_as 60 v.record_name) _ a.0 in
+    let m = and_parts (lacks 10 v.record_name) _ n.1 in
+    let o = and_parts (lacks 32 v.record_name) _ m.1 in
+    let p = and_parts (lacks 46 v.record_name) _ o.1 in
+    let f = and_parts (is_long_as 8 v.field) _ b.0 in
+    let g = and_parts (lacks 10 v.field) _ f.1 in
+    record {
+      long_name = n.0;
+      name_feed = m.0;
+      name_space = o.0;
+      name_dot = p.0;
+      no_comment = not-true (is_passed v.record_name) p.1;
+      long_field = f.0;
+      field_feed = g.0;
+      field_space = g.1;
+      value = leb-true (length v.value) 120 b.1;
+    }
+
+-- ---- The line of a value
+
+name_again : (limit : ℕ) (name : List ℕ) → is_long_as limit name ≡ true → name_in limit name ≡ Some name
+name_again limit name h = rw h refl
+
+text_again : (value : List ℕ) → length value ≤ 120 → text_in (escaped value) ≡ Some value
+text_again value h = ap (limited 120) (escaped_read value) ∙ within 120 value h
+
+row_lacks : (v : SavedValue) → IsSaveable v → lacks 10 (row v) ≡ true
+unfolding row
+row_lacks v h =
+    lacks_append 10 (v.record_name ++ 46 ∷ v.field) (32 ∷ escaped v.value) (lacks_append 10 v.record_name (46 ∷ v.field) h.name_feed h.field_feed) (escaped_lacks v.value)
+
+value_again : (v : SavedValue) → IsSaveable v → value_in (row v) ≡ Some v
+unfolding row value_in
+value_again v h =
+    let names = v.record_name ++ 46 ∷ v.field in
+    let no_space : lacks 32 names ≡ true = lacks_append 32 v.record_name (46 ∷ v.field) h.name_space h.field_space in
+    rw (
+      before_cut 32 names (escaped v.value) no_space,
+      behind_cut 32 names (escaped v.value) no_space,
+      before_cut 46 v.record_name v.field h.name_dot,
+      behind_cut 46 v.record_name v.field h.name_dot,
+      h.long_name,
+      h.long_field,
+      text_again v.value h.value,
+    ) refl
+
+passed_by_first : (name rest : List ℕ) (limit : ℕ) → is_long_as limit name ≡ true → is_passed name ≡ false → is_passed (name ++ rest) ≡ false
+passed_by_first [] rest limit h k = absurd cc
+passed_by_first (b ∷ bs) rest limit h k = k
+
+line_again : (v : SavedValue) → IsSaveable v → line_in (row v) ≡ Value v
+unfolding line_in row
+line_again v h =
+    let whole : row v ≡ v.record_name ++ (46 ∷ v.field ++ 32 ∷ escaped v.value) = append_assoc v.record_name (46 ∷ v.field) (32 ∷ escaped v.value) in
+    let no_comment : is_passed (row v) ≡ false = ap is_passed whole ∙ passed_by_first v.record_name (46 ∷ v.field ++ 32 ∷ escaped v.value) 60 h.long_name h.no_comment in
+    rw no_comment (ap line_with (value_again v h))
+
+-- ---- The lines of a file
+
+abbrev end_row : List ℕ
+end_row = codes "<END>"
+
+abbrev rows : List SavedValue → List (List ℕ)
+rows [] = end_row ∷ []
+rows (v ∷ values) = row v ∷ rows values
+
+abbrev AllSaveable : List SavedValue → Type 0
+AllSaveable values = AllByRecursion (λ v. is_saveable v ≡ true) values
+
+one_line : (w rest : List ℕ) → (w ++ 10 ∷ []) ++ rest ≡ w ++ 10 ∷ rest
+one_line w rest = append_assoc w (10 ∷ []) rest
+
+body_rows : (values : List SavedValue) → AllSaveable values → lines_of (flat_map value_line values ++ end_line) ≡ rows values
+body_rows [] h = refl
+body_rows (v ∷ values) h =
+    let rest = flat_map value_line values ++ end_line in
+    let text : (value_line v ++ flat_map value_line values) ++ end_line ≡ row v ++ 10 ∷ rest = append_assoc (value_line v) (flat_map value_line values) end_line ∙ one_line (row v) rest in
+    ap lines_of text ∙ lines_cut (row v) rest (row_lacks v (parts v h.0)) ∙ ap (λ (l : List (List ℕ)). row v ∷ l) (body_rows values h.1)
+
+some_rows : (values : List SavedValue) → no_lines (rows values) ≡ false
+some_rows [] = refl
+some_rows (v ∷ values) = refl
+
+last_row : (values : List SavedValue) → last_of (rows values) ≡ end_row
+last_row [] = refl
+last_row (v ∷ values) = rw (some_rows values) (last_row values)
+
+rows_read : (number : ℕ) (values : List SavedValue) → AllSaveable values → values_of number (rows values) ≡ Ok values
+rows_read number [] h = refl
+rows_read number (v ∷ values) h =
+    rw (some_rows values, line_again v (parts v h.0), rows_read (number + 1) values h.1) refl
+
+-- ---- The head
+
+goes_on : (b : ℕ) → 11 ≤ b → not (eqb b 10) ≡ true
+goes_on b h = rw (ne_eqb b 10 (λ e. omega arith)) refl
+
+digit_range : (c : ℕ) → digit_value c < 10 → 48 ≤ c
+digit_range c h = grind (arith, nat_tests)
+
+digits_lack : (cs : List ℕ) → AllDigits 10 cs → lacks 10 cs ≡ true
+digits_lack [] h = refl
+digits_lack (c ∷ cs) h = and_true (not (eqb c 10)) (lacks 10 cs) (goes_on c (omega (arith, digit_range c h.0))) (digits_lack cs h.1)
+
+decimal_lacks : (n : ℕ) → n < 2 ^ 64 → lacks 10 (decimal n) ≡ true
+decimal_lacks n h = digits_lack (decimal n) (decimal_is_IsNumeral n (omega (arith, ints))).0.1
+
+abbrev title : ℕ → List ℕ
+title place = codes "# Saved values of channels, as of the place " ++ decimal place ++ codes " of the journal"
+
+title_lacks : (place : ℕ) → place < 2 ^ 64 → lacks 10 (title place) ≡ true
+title_lacks place h =
+    lacks_append 10 (codes "# Saved values of channels, as of the place " ++ decimal place) (codes " of the journal")
+    (lacks_append 10 (codes "# Saved values of channels, as of the place ") (decimal place) refl (decimal_lacks place h)) refl
+
+title_passed : (place : ℕ) → line_in (title place) ≡ Passed
+unfolding line_in
+title_passed place = refl
+
+file_rows : (place : ℕ) (values : List SavedValue) → place < 2 ^ 64 → AllSaveable values → lines_of (file_of place values) ≡ title place ∷ rows values
+unfolding head
+file_rows place values h all =
+    let rest = flat_map value_line values ++ end_line in
+    ap lines_of (one_line (title place) rest) ∙ lines_cut (title place) rest (title_lacks place h) ∙ ap (λ (l : List (List ℕ)). title place ∷ l) (body_rows values all)
+
+titled_last : (place : ℕ) (values : List SavedValue) → last_of (title place ∷ rows values) ≡ end_row
+titled_last place values = rw (some_rows values) (last_row values)
+
+titled_read : (place : ℕ) (values : List SavedValue) → AllSaveable values → values_of 1 (title place ∷ rows values) ≡ Ok values
+titled_read place values h = rw (some_rows values, title_passed place) (rows_read 2 values h)
+
+-- The file of values that can be saved is read as these values.
+pub file_again : (place : ℕ) (values : List SavedValue) → place < 2 ^ 64 → AllSaveable values → values_in (file_of place values) ≡ Ok values
+unfolding values_in
+file_again place values h all =
+    let e = file_rows place values h all in
+    rw e (rw (titled_last place values) (titled_read place values all))
+
+alike : (a b : List SavedValue) (x y : Result (List SavedValue) SavedFault) → x ≡ Ok a → y ≡ Ok b → x ≡ y → a ≡ b
+alike a b x y h k is = cc
+
+pub files_same : (place other_place : ℕ) (values others : List SavedValue) → place < 2 ^ 64 → other_place < 2 ^ 64 → AllSaveable values → AllSaveable others
+    → file_of place values ≡ file_of other_place others → values ≡ others
+files_same place other_place values others h k all other_all is =
+    alike values others (values_in (file_of place values)) (values_in (file_of other_place others)) (file_again place values h all) (file_again other_place others k other_all) (ap values_in is)

@@ -1,0 +1,4 @@
+pub mod Words
+pub mod Escapes
+pub mod Lines
+pub mod Files

@@ -1,0 +1,53 @@
+use super::*;
+use ioc_values::{FieldName, Name};
+use std::alloc::Global;
+use std::test::*;
+
+fn saved(record: &[u8], field: &[u8], value: &[u8]) -> SavedValue {
+    SavedValue {
+        record_name: Name::cut(record),
+        field: FieldName::cut(field),
+        value: SavedText::cut(value),
+    }
+}
+
+#[test]
+fn a_file_of_three_values(rt: HostRuntime) -> Result<(), SavedFault> {
+    let mut out = Vec::new(rt.alloc());
+    begin_saved(&mut out, 1207)?;
+    add_saved(&mut out, &saved(b"plant:level", b"HIGH", b"40"))?;
+    add_saved(&mut out, &saved(b"plant:note", b"VAL", b"a b\n\r\t\\\x1b\x7f"))?;
+    add_saved(&mut out, &saved(b"plant:unit", b"VAL", b""))?;
+    end_saved(&mut out)?;
+    assert!(rt;
+        out.as_slice() == b"# Saved values of channels, as of the place 1207 of the journal\nplant:level.HIGH 40\nplant:note.VAL a b\\n\\r\\t\\\\\\x1b\\x7f\nplant:unit.VAL \n<END>\n".as_slice()
+    );
+    let read = parse_saved(rt.alloc(), out.as_slice())?;
+    assert!(rt; read.len() == 3);
+    assert!(rt; read[0].record_name.as_slice() == b"plant:level".as_slice());
+    assert!(rt; read[0].field.as_slice() == b"HIGH".as_slice());
+    assert!(rt; read[1].value.as_slice() == b"a b\n\r\t\\\x1b\x7f".as_slice());
+    assert!(rt; read[2].value.as_slice() == b"".as_slice());
+    Ok(())
+}
+
+fn fault(alloc: Global, text: &[u8]) -> Option<SavedFault> {
+    match parse_saved(alloc, text) {
+        Ok(_) => None,
+        Err(fault) => Some(fault),
+    }
+}
+
+#[test]
+fn files_that_are_not_taken(rt: HostRuntime) {
+    let alloc = rt.alloc();
+    assert!(rt; fault(alloc, b"! from autosave\n\n# a\nA.B \\x4A\n<END>").is_none());
+    assert!(rt; fault(alloc, b"") == Some(SavedFault::NoEnd));
+    assert!(rt; fault(alloc, b"A.B 1\n<EN") == Some(SavedFault::NoEnd));
+    assert!(rt; fault(alloc, b"<END>\nA.B 1\n") == Some(SavedFault::NoEnd));
+    assert!(rt; fault(alloc, b"<END>\nA.B 1\n<END>\n") == Some(SavedFault::BadLine(1)));
+    assert!(rt; fault(alloc, b"A.B 1\n\nAB 1\n<END>\n") == Some(SavedFault::BadLine(3)));
+    assert!(rt; fault(alloc, b"A.B \\q\n<END>\n") == Some(SavedFault::BadLine(1)));
+    assert!(rt; fault(alloc, b".B 1\n<END>\n") == Some(SavedFault::BadLine(1)));
+    assert!(rt; fault(alloc, b"A.ABCDEFGHI 1\n<END>\n") == Some(SavedFault::BadLine(1)));
+}
