@@ -1,6 +1,6 @@
 -- Words and lines are cut off at the byte that ends them.
 use Rattle.std.proofs.Common.{◌≡◌, ℕ, suc, ◌≤◌, ◌<◌, ◌+◌, Bool, true, false, cond, eqb, not, ◌&&◌, List, [], ◌∷◌, ◌++◌, length, zero, refl, sym, ap, ◌∙◌, arith}
-use Rattle.std.proofs.lemmas.Bool.{cases_Bool}
+use Rattle.std.proofs.lemmas.Bool.{cases_Bool, eq-eqb, eqb-true}
 use Rattle.std.proofs.Common.{inl, inr}
 use Rattle.ioc_saved.specs.Words.{lacks, before, behind, onto_first, lines_of, no_lines, last_of}
 
@@ -22,8 +22,7 @@ lacks_append c (b ∷ bs) w h k =
     let p = both (not (eqb b c)) (lacks c bs) h in and_true (not (eqb b c)) (lacks c (bs ++ w)) p.0 (lacks_append c bs w p.1 k)
 
 same_byte : (c : ℕ) → eqb c c ≡ true
-same_byte zero = refl
-same_byte (suc c) = same_byte c
+same_byte c = eq-eqb c c refl
 
 pub before_cut : (c : ℕ) (w rest : List ℕ) → lacks c w ≡ true → before c (w ++ c ∷ rest) ≡ w
 before_cut c [] rest h = rw (same_byte c) refl
@@ -83,3 +82,34 @@ behind_shorter c (b ∷ d ∷ bs) h =
       | inl is ↦ rw is (omega arith)
       | inr other ↦ let k = behind_shorter c (d ∷ bs) (λ e. absurd (omega (arith, e))) in rw other (omega (arith, k))
     ]
+
+-- ---- One line after the other
+
+nonempty : (bytes : List ℕ) → false ≡ eqb (length bytes) 0 → length bytes ≡ 0 → ⊥
+nonempty [] h e = absurd cc
+nonempty (b ∷ bs) h e = absurd (omega arith)
+
+pub lines_here : (rest : List ℕ) → false ≡ eqb (length rest) 0 → lines_of rest ≡ before 10 rest ∷ lines_of (behind 10 rest)
+lines_here rest h = lines_at rest (nonempty rest h)
+
+pub none_left : (rest : List ℕ) → true ≡ eqb (length rest) 0 → no_lines (lines_of rest) ≡ true
+none_left [] h = refl
+none_left (b ∷ bs) h = let k = eqb-true (length (b ∷ bs)) 0 (sym h) in absurd (omega (arith, k))
+
+pub some_left : (rest : List ℕ) → false ≡ eqb (length rest) 0 → no_lines (lines_of rest) ≡ false
+some_left rest h = lines_some rest (nonempty rest h)
+
+pub shorter : (rest after : List ℕ) → false ≡ eqb (length rest) 0 → after ≡ behind 10 rest → length after < length rest
+shorter rest after h e = let k = behind_shorter 10 rest (nonempty rest h) in omega (arith, k, ap length e)
+
+pub last_here : (rest line after last : List ℕ) → false ≡ eqb (length rest) 0 → line ≡ before 10 rest → after ≡ behind 10 rest → true ≡ eqb (length after) 0
+    → last_of (lines_of rest) ≡ last → line ≡ last
+last_here rest line after last h is next none so_far =
+    let e : last_of (lines_of rest) ≡ before 10 rest = ap last_of (lines_here rest h) ∙ rw (← next) (rw (none_left after none) refl) in
+    is ∙ sym e ∙ so_far
+
+pub last_further : (rest after last : List ℕ) → false ≡ eqb (length rest) 0 → after ≡ behind 10 rest → false ≡ eqb (length after) 0 → last_of (lines_of rest) ≡ last
+    → last_of (lines_of after) ≡ last
+last_further rest after last h next some so_far =
+    let e : last_of (lines_of rest) ≡ last_of (lines_of after) = ap last_of (lines_here rest h) ∙ rw (← next) (rw (some_left after some) refl) in
+    sym e ∙ so_far

@@ -1,5 +1,5 @@
 -- Values with escapes are read.
-use Rattle.std.proofs.Common.{◌≡◌, ℕ, zero, suc, ◌≤◌, ◌<◌, ◌+◌, ◌*◌, ◌-◌, ◌/◌, ◌%◌, Bool, true, false, cond, eqb, ltb, leb, not, ◌||◌, ◌&&◌, List, [], ◌∷◌, ◌++◌, length, Option, Some, None, refl, sym, ap, ◌∙◌, append_assoc, inl, inr, arith}
+use Rattle.std.proofs.Common.{◌≡◌, ℕ, zero, suc, ◌≤◌, ◌<◌, ◌+◌, ◌*◌, ◌-◌, ◌/◌, ◌%◌, Bool, true, false, cond, eqb, ltb, leb, not, ◌||◌, ◌&&◌, List, [], ◌∷◌, ◌++◌, length, Option, Some, None, refl, sym, ap, ◌∙◌, append_assoc, ◌⊎◌, inl, inr, arith}
 use Rattle.std.specs.List.{flat_map}
 use Rattle.std.proofs.lemmas.List.{append-nil}
 use Rattle.std.proofs.lemmas.Bool.{cases_Bool, cases_lt, lt-ltb, le-ltb, le-leb, lt-leb, ltb-true, ltb-false, eqb-true, ne_eqb, or_cases}
@@ -48,10 +48,15 @@ digit_back n h =
     elim (cases_lt n 10) [
       | inl small ↦ rw (lt-ltb n 10 small, le-ltb (48 + n) 48 (omega arith), lt-ltb (48 + n) 58 (omega arith)) (ap (λ (k : ℕ). Some k) (omega arith))
       | inr big ↦ let k : 10 ≤ n = big in
-      rw (
-        le-ltb n 10 k, le-ltb (87 + n) 48 (omega arith), le-ltb (87 + n) 58 (omega arith), le-ltb (87 + n) 65 (omega arith), le-ltb (87 + n) 71 (omega arith),
-        le-ltb (87 + n) 97 (omega arith), lt-ltb (87 + n) 103 (omega arith),
-      ) (ap (λ (k : ℕ). Some k) (omega arith))
+          rw (
+            le-ltb n 10 k,
+            le-ltb (87 + n) 48 (omega arith),
+            le-ltb (87 + n) 58 (omega arith),
+            le-ltb (87 + n) 65 (omega arith),
+            le-ltb (87 + n) 71 (omega arith),
+            le-ltb (87 + n) 97 (omega arith),
+            lt-ltb (87 + n) 103 (omega arith),
+          ) (ap (λ (k : ℕ). Some k) (omega arith))
     ]
 
 digits_read : (b : ℕ) → b < 128 → digits (hex_value (hex_digit (b / 16))) (hex_value (hex_digit (b % 16))) ≡ Gives b

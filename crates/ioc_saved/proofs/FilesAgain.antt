@@ -20,7 +20,7 @@ use Rattle.ioc_saved.specs.Words.{lacks, before, behind, lines_of, no_lines, las
 use Rattle.ioc_saved.specs.Escapes.{escaped, unescaped, limited}
 use Rattle.ioc_saved.specs.Lines.{is_passed, is_long_as, is_record_name, is_field_name, is_saveable, row, ◌>>=◌, name_in, text_in, value_in, line_with, line_in}
 use Rattle.ioc_saved.specs.Files.{head, value_line, end_line, file_of, is_end, onto_values, with_line, values_of, values_in}
-use Rattle.ioc_saved.proofs.Cuts.{and_true, lacks_append, before_cut, behind_cut, lines_cut}
+use Rattle.ioc_saved.proofs.Cuts.{and_true, lacks_append, before_cut, behind_cut, lines_cut, lines_here, none_left, some_left}
 use Rattle.ioc_saved.proofs.EscapesAgain.{within, escaped_read, escaped_lacks}
 
 -- ---- Reading values one after the other
@@ -201,3 +201,41 @@ pub files_same : (place other_place : ℕ) (values others : List SavedValue) →
     → file_of place values ≡ file_of other_place others → values ≡ others
 files_same place other_place values others h k all other_all is =
     alike values others (values_in (file_of place values)) (values_in (file_of other_place others)) (file_again place values h all) (file_again other_place others k other_all) (ap values_in is)
+
+-- ---- Reading one line after the other
+
+values_step : (number : ℕ) (rest line after : List ℕ) → false ≡ eqb (length rest) 0 → line ≡ before 10 rest → after ≡ behind 10 rest → false ≡ eqb (length after) 0
+    → values_of number (lines_of rest) ≡ with_line number (line_in line) (values_of (number + 1) (lines_of after))
+values_step number rest line after h is next some =
+    ap (values_of number) (lines_here rest h) ∙ rw (← next, ← is) (rw (some_left after some) refl)
+
+pub values_here : (front : List SavedValue) (number : ℕ) (rest after : List ℕ) (total : Result (List SavedValue) SavedFault) → false ≡ eqb (length rest) 0
+    → after ≡ behind 10 rest → true ≡ eqb (length after) 0 → with_front front (values_of number (lines_of rest)) ≡ total → total ≡ Ok front
+values_here front number rest after total h next none so_far =
+    let e : values_of number (lines_of rest) ≡ Ok [] = ap (values_of number) (lines_here rest h) ∙ rw (← next) (rw (none_left after none) refl) in
+    sym so_far ∙ ap (with_front front) e ∙ ap (λ (l : List SavedValue). Ok l) (append-nil front)
+
+pub values_bad : (front : List SavedValue) (number : ℕ) (rest line after : List ℕ) (total : Result (List SavedValue) SavedFault) → false ≡ eqb (length rest) 0
+    → line ≡ before 10 rest → after ≡ behind 10 rest → false ≡ eqb (length after) 0 → Bad ≡ line_in line
+    → with_front front (values_of number (lines_of rest)) ≡ total → total ≡ Err (BadLine number)
+values_bad front number rest line after total h is next some bad so_far =
+    sym so_far ∙ ap (with_front front) (values_step number rest line after h is next some) ∙ rw (← bad) refl
+
+pub values_passed : (front : List SavedValue) (number : ℕ) (rest line after : List ℕ) (total : Result (List SavedValue) SavedFault) → false ≡ eqb (length rest) 0
+    → line ≡ before 10 rest → after ≡ behind 10 rest → false ≡ eqb (length after) 0 → Passed ≡ line_in line
+    → with_front front (values_of number (lines_of rest)) ≡ total → with_front front (values_of (number + 1) (lines_of after)) ≡ total
+values_passed front number rest line after total h is next some passed so_far =
+    let e : values_of number (lines_of rest) ≡ values_of (number + 1) (lines_of after) = values_step number rest line after h is next some ∙ rw (← passed) refl in
+    sym (ap (with_front front) e) ∙ so_far
+
+pub values_more : (front : List SavedValue) (number : ℕ) (rest line after : List ℕ) (v : SavedValue) (total : Result (List SavedValue) SavedFault) → false ≡ eqb (length rest) 0
+    → line ≡ before 10 rest → after ≡ behind 10 rest → false ≡ eqb (length after) 0 → Value v ≡ line_in line
+    → with_front front (values_of number (lines_of rest)) ≡ total → with_front (front ++ v ∷ []) (values_of (number + 1) (lines_of after)) ≡ total
+values_more front number rest line after v total h is next some one so_far =
+    let e : values_of number (lines_of rest) ≡ onto_values v (values_of (number + 1) (lines_of after)) = values_step number rest line after h is next some ∙ rw (← one) refl in
+    sym (regroup front v (values_of (number + 1) (lines_of after))) ∙ sym (ap (with_front front) e) ∙ so_far
+
+-- ---- The head, appended in parts
+
+pub joined : (out a d b x y z end : List ℕ) → x ≡ out ++ a → y ≡ x ++ d → z ≡ y ++ b → end ≡ z ++ 10 ∷ [] → end ≡ out ++ (a ++ d ++ b ++ 10 ∷ [])
+joined out a d b x y z end h k l m = rw (m, l, k, h) (simp append_assoc)

@@ -1,5 +1,5 @@
 //! Whole files.
-ghost use Rattle.std.specs.Prelude.{◌≡◌, ◌++◌, ◌<◌, ◌^◌, ℕ, List, true, Ok, OnOk};
+ghost use Rattle.std.specs.Prelude.{◌≡◌, ◌++◌, ◌<◌, ◌^◌, ℕ, List, true, decimal, Ok, OnOk};
 ghost use Rattle.std.specs.List.{AllByRecursion};
 ghost use Rattle.ioc_saved.specs.declared.value.SavedValue.{SavedValue};
 ghost use Rattle.ioc_saved.specs.Lines.{is_saveable};
@@ -13,6 +13,13 @@ use crate::words::{last_line, split};
 use itoa::Buffer;
 use std::alloc::{AllocError, Global};
 
+/// Appends a number.
+fn add_number(out: &mut Vec<u8>, number: u64) -> Result<(), AllocError>
+    ensures { OnOk result (out.new.items ≡ out.old.items ++ decimal number) }
+{
+    out.extend_from_slice(Buffer::new().format(number).as_bytes())
+}
+
 /// Appends the head of a file: what it is, and of which place of the journal the values are.
 ///
 /// # Errors
@@ -23,7 +30,7 @@ pub fn begin_saved(out: &mut Vec<u8>, place: u64) -> Result<(), AllocError>
     ensures { OnOk result (out.new.items ≡ out.old.items ++ head place) }
 {
     out.extend_from_slice(b"# Saved values of channels, as of the place ")?;
-    out.extend_from_slice(Buffer::new().format(place).as_bytes())?;
+    add_number(out, place)?;
     out.extend_from_slice(b" of the journal")?;
     out.push(b'\n')?;
     Ok(())

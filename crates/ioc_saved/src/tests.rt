@@ -16,11 +16,15 @@ fn a_file_of_three_values(rt: HostRuntime) -> Result<(), SavedFault> {
     let mut out = Vec::new(rt.alloc());
     begin_saved(&mut out, 1207)?;
     add_saved(&mut out, &saved(b"plant:level", b"HIGH", b"40"))?;
-    add_saved(&mut out, &saved(b"plant:note", b"VAL", b"a b\n\r\t\\\x1b\x7f"))?;
+    add_saved(
+        &mut out,
+        &saved(b"plant:note", b"VAL", b"a b\n\r\t\\\x1b\x7f"),
+    )?;
     add_saved(&mut out, &saved(b"plant:unit", b"VAL", b""))?;
     end_saved(&mut out)?;
     assert!(rt;
-        out.as_slice() == b"# Saved values of channels, as of the place 1207 of the journal\nplant:level.HIGH 40\nplant:note.VAL a b\\n\\r\\t\\\\\\x1b\\x7f\nplant:unit.VAL \n<END>\n".as_slice()
+        out.as_slice()
+            == b"# Saved values of channels, as of the place 1207 of the journal\nplant:level.HIGH 40\nplant:note.VAL a b\\n\\r\\t\\\\\\x1b\\x7f\nplant:unit.VAL \n<END>\n".as_slice()
     );
     let read = parse_saved(rt.alloc(), out.as_slice())?;
     assert!(rt; read.len() == 3);
