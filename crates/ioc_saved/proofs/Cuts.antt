@@ -1,8 +1,9 @@
 -- Words and lines are cut off at the byte that ends them.
 use Rattle.std.proofs.Common.{◌≡◌, ℕ, suc, ◌≤◌, ◌<◌, ◌+◌, Bool, true, false, cond, eqb, not, ◌&&◌, List, [], ◌∷◌, ◌++◌, length, zero, refl, sym, ap, ◌∙◌, arith}
-use Rattle.std.proofs.lemmas.Bool.{cases_Bool, eq-eqb, eqb-true}
-use Rattle.std.proofs.Common.{inl, inr}
-use Rattle.ioc_saved.specs.Words.{lacks, before, behind, onto_first, lines_of, no_lines, last_of}
+use Rattle.std.specs.List.{slice_get}
+use Rattle.std.proofs.lemmas.Bool.{cases_Bool, eq-eqb, eqb-true, and_right}
+use Rattle.std.proofs.Common.{◌⊎◌, inl, inr, Option, Some, ◌-◌}
+use Rattle.ioc_saved.specs.Words.{lacks, before, behind, onto_first, lines_of, no_lines, last_of, last_byte, ends_line}
 
 pub both : (a b : Bool) → (a && b) ≡ true → (a ≡ true) × (b ≡ true)
 both true b h = (refl, h)
@@ -113,3 +114,48 @@ pub last_further : (rest after last : List ℕ) → false ≡ eqb (length rest) 
 last_further rest after last h next some so_far =
     let e : last_of (lines_of rest) ≡ last_of (lines_of after) = ap last_of (lines_here rest h) ∙ rw (← next) (rw (some_left after some) refl) in
     sym e ∙ so_far
+
+-- ---- The last byte
+
+pub last_append : (b last : ℕ) (front bytes : List ℕ) → ((c : ℕ) → last_byte c bytes ≡ last) → last_byte b (front ++ bytes) ≡ last
+last_append b last [] bytes e = e b
+last_append b last (c ∷ front) bytes e = last_append c last front bytes e
+
+last_other : (b : ℕ) (bytes : List ℕ) → eqb b 10 ≡ false → lacks 10 bytes ≡ true → eqb (last_byte b bytes) 10 ≡ false
+last_other b [] h k = h
+last_other b (c ∷ bs) h k = let p = both (not (eqb c 10)) (lacks 10 bs) k in last_other c bs (negated (eqb c 10) p.0) p.1
+
+pub last_lacks : (bytes : List ℕ) → lacks 10 bytes ≡ true → ends_line bytes ≡ false
+last_lacks bytes h = last_other 0 bytes refl h
+
+pub last_got : (b : ℕ) (bs : List ℕ) → slice_get (b ∷ bs) (length bs) ≡ Some (last_byte b bs)
+last_got b [] = refl
+last_got b (c ∷ bs) = last_got c bs
+
+pub last_is : (text : List ℕ) (b : ℕ) → (let read : Option ℕ = Some b in read ≡ slice_get text (length text - 1)) → eqb b 10 ≡ ends_line text
+last_is [] b h = absurd cc
+last_is (c ∷ cs) b h =
+    let k : length (c ∷ cs) - 1 ≡ length cs = omega arith in
+    let e : Some b ≡ Some (last_byte c cs) = h ∙ ap (slice_get (c ∷ cs)) k ∙ last_got c cs in
+    let same : b ≡ last_byte c cs = cc in
+    ap (λ (n : ℕ). eqb n 10) same
+
+-- ---- A text that was cut
+
+pub lacks_not : (c : ℕ) (w rest : List ℕ) → lacks c (w ++ c ∷ rest) ≡ false
+lacks_not c [] rest = rw (same_byte c) refl
+lacks_not c (b ∷ bs) rest = and_right (not (eqb b c)) (lacks c (bs ++ c ∷ rest)) (lacks_not c bs rest)
+
+-- A text is cut in its first line or behind it.
+pub cut_line : (line tail front rest : List ℕ) (next : ℕ) → lacks 10 line ≡ true → line ++ 10 ∷ tail ≡ front ++ next ∷ rest
+    → (lacks 10 front ≡ true) ⊎ ((more : List ℕ) × ((front ≡ line ++ 10 ∷ more) × (tail ≡ more ++ next ∷ rest)))
+cut_line line tail [] rest next h is = inl refl
+cut_line [] tail (c ∷ front) rest next h is = inr (front, (cc, cc))
+cut_line (b ∷ line) tail (c ∷ front) rest next h is =
+    let p = both (not (eqb b 10)) (lacks 10 line) h in
+    let first : b ≡ c = cc in
+    let others : line ++ 10 ∷ tail ≡ front ++ next ∷ rest = cc in
+    elim (cut_line line tail front rest next p.1 others) [
+      | inl within ↦ inl (and_true (not (eqb c 10)) (lacks 10 front) (rw (← first) p.0) within)
+      | inr beyond ↦ let e : front ≡ line ++ 10 ∷ beyond.0 = beyond.1.0 in inr (beyond.0, (cc, beyond.1.1))
+    ]

@@ -1,13 +1,14 @@
 -- The file of values is read as these values.
-use Rattle.std.proofs.Common.{◌≡◌, ℕ, zero, suc, ◌≤◌, ◌<◌, ◌+◌, ◌^◌, Bool, true, false, cond, eqb, ltb, leb, not, ◌&&◌, List, [], ◌∷◌, ◌++◌, length, Option, Some, None, Result, Ok, Err, refl, sym, ap, ◌∙◌, append_assoc, arith}
+use Rattle.std.proofs.Common.{◌≡◌, ℕ, zero, suc, ◌≤◌, ◌<◌, ◌+◌, ◌^◌, Bool, true, false, cond, eqb, ltb, leb, not, ◌&&◌, List, [], ◌∷◌, ◌++◌, length, Option, Some, None, Result, Ok, Err, refl, sym, ap, ◌∙◌, append_assoc, inl, inr, arith}
 use Rattle.std.specs.Prelude.{codes}
 use Rattle.std.specs.List.{flat_map, AllByRecursion}
 use Rattle.std.specs.Fmt.{decimal}
+use Rattle.std.specs.Cmp.Lexicographic.{bytes_decides}
 use Rattle.std.specs.Char.{digit_value}
 use Rattle.std.specs.Str.Parse.{AllDigits}
 use Rattle.std.proofs.lemmas.Int.{ints}
 use Rattle.std.proofs.lemmas.List.{append-nil}
-use Rattle.std.proofs.lemmas.Bool.{le-leb, leb-true, ne_eqb, and_parts, not-true}
+use Rattle.std.proofs.lemmas.Bool.{cases_Bool, le-leb, leb-true, ne_eqb, and_parts, and_right, not-true}
 use Rattle.std.proofs.lemmas.Bool.Decides.{nat_tests}
 use Rattle.std.proofs.lemmas.Fmt.{decimal_is_IsNumeral}
 use Rattle.ioc_saved.specs.declared.value.SavedValue.{SavedValue}
@@ -16,11 +17,11 @@ use Rattle.ioc_saved.specs.declared.line.SavedLine.TheVariants.{Passed, Value, B
 use Rattle.ioc_saved.specs.declared.fault.SavedFault.{SavedFault}
 use Rattle.ioc_saved.specs.declared.fault.SavedFault.TheVariants.{NoEnd, BadLine, NoMemory}
 use Rattle.ioc_saved.specs.declared.escapes.Escape.TheVariants.{No}
-use Rattle.ioc_saved.specs.Words.{lacks, before, behind, lines_of, no_lines, last_of}
+use Rattle.ioc_saved.specs.Words.{lacks, before, behind, lines_of, no_lines, last_of, last_byte, ends_line}
 use Rattle.ioc_saved.specs.Escapes.{escaped, unescaped, limited}
 use Rattle.ioc_saved.specs.Lines.{is_passed, is_long_as, is_record_name, is_field_name, is_saveable, row, ◌>>=◌, name_in, text_in, value_in, line_with, line_in}
-use Rattle.ioc_saved.specs.Files.{head, value_line, end_line, file_of, is_end, onto_values, with_line, values_of, values_in}
-use Rattle.ioc_saved.proofs.Cuts.{and_true, lacks_append, before_cut, behind_cut, lines_cut, lines_here, none_left, some_left}
+use Rattle.ioc_saved.specs.Files.{head, value_line, end_line, file_of, is_end, onto_values, with_line, is_whole, values_of, values_in}
+use Rattle.ioc_saved.proofs.Cuts.{and_true, lacks_append, before_cut, behind_cut, lines_cut, lines_here, none_left, some_left, last_append, last_lacks, lacks_not, cut_line, has_lines}
 use Rattle.ioc_saved.proofs.EscapesAgain.{within, escaped_read, escaped_lacks}
 
 -- ---- Reading values one after the other
@@ -187,12 +188,18 @@ titled_last place values = rw (some_rows values) (last_row values)
 titled_read : (place : ℕ) (values : List SavedValue) → AllSaveable values → values_of 1 (title place ∷ rows values) ≡ Ok values
 titled_read place values h = rw (some_rows values, title_passed place) (rows_read 2 values h)
 
+body_ends : (b : ℕ) (values : List SavedValue) → last_byte b (flat_map value_line values ++ end_line) ≡ 10
+body_ends b [] = refl
+body_ends b (v ∷ values) =
+    ap (last_byte b) (append_assoc (value_line v) (flat_map value_line values) end_line) ∙ last_append b 10 (value_line v) (flat_map value_line values ++ end_line) (λ c. body_ends c values)
+
 -- The file of values that can be saved is read as these values.
 pub file_again : (place : ℕ) (values : List SavedValue) → place < 2 ^ 64 → AllSaveable values → values_in (file_of place values) ≡ Ok values
 unfolding values_in
 file_again place values h all =
     let e = file_rows place values h all in
-    rw e (rw (titled_last place values) (titled_read place values all))
+    let ends : last_byte 0 (file_of place values) ≡ 10 = last_append 0 10 (head place) (flat_map value_line values ++ end_line) (λ c. body_ends c values) in
+    rw (ends, e) (rw (titled_last place values) (titled_read place values all))
 
 alike : (a b : List SavedValue) (x y : Result (List SavedValue) SavedFault) → x ≡ Ok a → y ≡ Ok b → x ≡ y → a ≡ b
 alike a b x y h k is = cc
@@ -239,3 +246,61 @@ values_more front number rest line after v total h is next some one so_far =
 
 pub joined : (out a d b x y z end : List ℕ) → x ≡ out ++ a → y ≡ x ++ d → z ≡ y ++ b → end ≡ z ++ 10 ∷ [] → end ≡ out ++ (a ++ d ++ b ++ 10 ∷ [])
 joined out a d b x y z end h k l m = rw (m, l, k, h) (simp append_assoc)
+
+-- ---- A file that was cut short
+
+no_bytes : (front rest : List ℕ) (next : ℕ) → [] ≡ front ++ next ∷ rest → ⊥
+no_bytes [] rest next h = absurd (omega (arith, ap length h))
+no_bytes (b ∷ bs) rest next h = absurd (omega (arith, ap length h))
+
+row_dot : (v : SavedValue) → lacks 46 (row v) ≡ false
+unfolding row
+row_dot v = ap (lacks 46) (append_assoc v.record_name (46 ∷ v.field) (32 ∷ escaped v.value)) ∙ lacks_not 46 v.record_name (v.field ++ 32 ∷ escaped v.value)
+
+end_no_dot : (line : List ℕ) → is_end line ≡ true → lacks 46 line ≡ true
+end_no_dot line h = let e : line ≡ end_row = (bytes_decides line end_row).0 h in ap (lacks 46) e
+
+not_end : (line : List ℕ) → lacks 46 line ≡ false → is_end line ≡ false
+not_end line h =
+    elim (cases_Bool (is_end line)) [
+      | inl is ↦ let k = end_no_dot line is in absurd cc
+      | inr other ↦ other
+    ]
+
+row_no_end : (v : SavedValue) → is_end (row v) ≡ false
+row_no_end v = not_end (row v) (row_dot v)
+
+not_whole : (text : List ℕ) → lacks 10 text ≡ true → is_whole text ≡ false
+not_whole text h = rw (last_lacks text h) refl
+
+-- Behind a line that isn't the last one nothing changes.
+line_cut : (line front : List ℕ) → lacks 10 line ≡ true → is_end line ≡ false → is_whole front ≡ false → is_whole (line ++ 10 ∷ front) ≡ false
+line_cut line [] h other whole = rw (lines_cut line [] h, other) (and_right _ _ refl)
+line_cut line (b ∷ bs) h other whole =
+    let ends : last_byte 0 (line ++ 10 ∷ b ∷ bs) ≡ last_byte b bs = last_append 0 (last_byte b bs) line (10 ∷ b ∷ bs) (λ c. refl) in
+    rw (ends, lines_cut line (b ∷ bs) h, has_lines b bs) whole
+
+body_cut : (values : List SavedValue) (front rest : List ℕ) (next : ℕ) → AllSaveable values → flat_map value_line values ++ end_line ≡ front ++ next ∷ rest → is_whole front ≡ false
+body_cut [] front rest next h is = elim (cut_line end_row [] front rest next refl is) [
+  | inl within ↦ not_whole front within
+  | inr beyond ↦ let e : [] ≡ beyond.0 ++ next ∷ rest = beyond.1.1 in absurd (no_bytes beyond.0 rest next e)
+]
+body_cut (v ∷ values) front rest next h is =
+    let behind_it = flat_map value_line values ++ end_line in
+    let text : (value_line v ++ flat_map value_line values) ++ end_line ≡ row v ++ 10 ∷ behind_it = append_assoc (value_line v) (flat_map value_line values) end_line ∙ one_line (row v) behind_it in
+    elim (cut_line (row v) behind_it front rest next (row_lacks v (parts v h.0)) (sym text ∙ is)) [
+      | inl within ↦ not_whole front within
+      | inr beyond ↦ rw beyond.1.0 (line_cut (row v) beyond.0 (row_lacks v (parts v h.0)) (row_no_end v) (body_cut values beyond.0 rest next h.1 beyond.1.1))
+    ]
+
+pub file_cut : (place : ℕ) (values : List SavedValue) (front rest : List ℕ) (next : ℕ) → place < 2 ^ 64 → AllSaveable values → file_of place values ≡ front ++ next ∷ rest
+    → values_in front ≡ Err NoEnd
+unfolding values_in head
+file_cut place values front rest next h all is =
+    let behind_it = flat_map value_line values ++ end_line in
+    let whole : is_whole front ≡ false =
+    elim (cut_line (title place) behind_it front rest next (title_lacks place h) (sym (one_line (title place) behind_it) ∙ is)) [
+      | inl within ↦ not_whole front within
+      | inr beyond ↦ rw beyond.1.0 (line_cut (title place) beyond.0 (title_lacks place h) refl (body_cut values beyond.0 rest next all beyond.1.1))
+    ] in
+    rw whole refl

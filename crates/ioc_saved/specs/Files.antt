@@ -1,5 +1,5 @@
 -- Files of saved values.
-use Rattle.std.specs.Prelude.{◌≡◌, ℕ, ◌+◌, Bool, List, [], ◌∷◌, ◌++◌, Result, Ok, Err, codes, decimal, nat_eq, if◌then◌else◌}
+use Rattle.std.specs.Prelude.{◌≡◌, ℕ, ◌+◌, Bool, List, [], ◌∷◌, ◌++◌, Result, Ok, Err, codes, decimal, nat_eq, ◌&&◌, if◌then◌else◌}
 use Rattle.std.specs.List.{flat_map}
 use Rattle.std.specs.Cmp.Lexicographic.{pointwise}
 use Rattle.ioc_saved.specs.declared.value.SavedValue.{SavedValue}
@@ -7,7 +7,7 @@ use Rattle.ioc_saved.specs.declared.line.SavedLine.{SavedLine}
 use Rattle.ioc_saved.specs.declared.line.SavedLine.TheVariants.{Passed, Value, Bad}
 use Rattle.ioc_saved.specs.declared.fault.SavedFault.{SavedFault}
 use Rattle.ioc_saved.specs.declared.fault.SavedFault.TheVariants.{NoEnd, BadLine, NoMemory}
-use Rattle.ioc_saved.specs.Words.{lines_of, no_lines, last_of}
+use Rattle.ioc_saved.specs.Words.{lines_of, no_lines, last_of, ends_line}
 use Rattle.ioc_saved.specs.Lines.{row, line_in}
 
 -- ---- What is printed
@@ -50,9 +50,13 @@ abbrev pub values_of : ℕ → List (List ℕ) → Result (List SavedValue) Save
 values_of number [] = Ok []
 values_of number (line ∷ lines) = if no_lines lines then Ok [] else with_line number (line_in line) (values_of (number + 1) lines)
 
--- The values of a file, whose last line is `<END>`.
+-- Whether the last line is `<END>`, with its line feed.
+abbrev pub is_whole : List ℕ → Bool
+is_whole text = ends_line text && is_end (last_of (lines_of text))
+
+-- The values of a file. A text that isn't whole is none.
 unfoldable pub values_in : List ℕ → Result (List SavedValue) SavedFault
-values_in text = if is_end (last_of (lines_of text)) then values_of 1 (lines_of text) else Err NoEnd
+values_in text = if is_whole text then values_of 1 (lines_of text) else Err NoEnd
 
 -- Holds if what was returned are the values that were read, or memory ran out.
 abbrev pub Fails : SavedFault → Result (List SavedValue) SavedFault → Type 0

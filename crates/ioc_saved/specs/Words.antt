@@ -35,3 +35,12 @@ no_lines (line ∷ lines) = false
 abbrev pub last_of : List (List ℕ) → List ℕ
 last_of [] = []
 last_of (line ∷ lines) = if no_lines lines then line else last_of lines
+
+-- The last byte, this one if there are none.
+abbrev pub last_byte : ℕ → List ℕ → ℕ
+last_byte b [] = b
+last_byte b (c ∷ bs) = last_byte c bs
+
+-- Whether the last byte is a line feed.
+abbrev pub ends_line : List ℕ → Bool
+ends_line bytes = last_byte 0 bytes == 10

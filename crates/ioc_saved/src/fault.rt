@@ -7,7 +7,7 @@ use std::alloc::{AllocError, AllocFailed};
 /// Why a file of saved values wasn't taken.
 #[derive(Clone, Copy, PartialEq, Eq, Debug)]
 pub enum SavedFault {
-    /// The last line isn't `<END>`: the file was cut short.
+    /// The last line isn't `<END>` with its line feed: the file was cut short.
     NoEnd,
     /// The line with this number, from 1 on, is none.
     BadLine(usize),

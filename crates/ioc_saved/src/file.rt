@@ -1,15 +1,16 @@
 //! Whole files.
-ghost use Rattle.std.specs.Prelude.{◌≡◌, ◌++◌, ◌<◌, ◌^◌, ℕ, List, true, decimal, Ok, OnOk};
+ghost use Rattle.std.specs.Prelude.{◌≡◌, ◌++◌, ◌<◌, ◌^◌, ℕ, List, true, decimal, ◌∷◌, Ok, Err, OnOk};
 ghost use Rattle.std.specs.List.{AllByRecursion};
 ghost use Rattle.ioc_saved.specs.declared.value.SavedValue.{SavedValue};
+ghost use Rattle.ioc_saved.specs.declared.fault.SavedFault.TheVariants.{NoEnd};
 ghost use Rattle.ioc_saved.specs.Lines.{is_saveable};
 ghost use Rattle.ioc_saved.specs.Words.{lines_of};
-ghost use Rattle.ioc_saved.specs.Files.{head, value_line, end_line, file_of, is_end, values_of, values_in, Reads};
+ghost use Rattle.ioc_saved.specs.Files.{head, value_line, end_line, file_of, is_whole, is_end, values_of, values_in, Reads};
 
 use crate::fault::SavedFault;
 use crate::line::{SavedLine, add_row, line_in};
 use crate::value::SavedValue;
-use crate::words::{last_line, split};
+use crate::words::{ends_line, last_line, split};
 use itoa::Buffer;
 use std::alloc::{AllocError, Global};
 
@@ -69,6 +70,13 @@ fn is_end(line: &[u8]) -> bool
     line == b"<END>".as_slice()
 }
 
+/// Returns whether the last line is `<END>`, with its line feed.
+fn is_whole(text: &[u8]) -> bool
+    ensures { result ≡ is_whole text.now }
+{
+    ends_line(text) && is_end(last_line(text))
+}
+
 /// Reads the values of the lines before the last one.
 fn values_of(alloc: Global, text: &[u8]) -> Result<Vec<SavedValue>, SavedFault>
     ensures { Reads (λ values. values.items) result (values_of 1 (lines_of text.now)) }
@@ -97,14 +105,14 @@ fn values_of(alloc: Global, text: &[u8]) -> Result<Vec<SavedValue>, SavedFault>
 ///
 /// # Errors
 ///
-/// [`SavedFault::NoEnd`] if the last line isn't `<END>`. [`SavedFault::BadLine`] with the number of
+/// [`SavedFault::NoEnd`] if the last line isn't `<END>` with its line feed. [`SavedFault::BadLine`] with the number of
 /// the first line that has no dot, an empty or too long name, a value that is too long, or a
 /// backslash that begins no escape. [`SavedFault::NoMemory`] if allocation fails.
 #[tactic(auto, unfolding(crate::specs::Files::values_in))]
 pub fn parse_saved(alloc: Global, text: &[u8]) -> Result<Vec<SavedValue>, SavedFault>
     ensures { Reads (λ values. values.items) result (values_in text.now) }
 {
-    if !is_end(last_line(text)) {
+    if !is_whole(text) {
         return Err(SavedFault::NoEnd);
     }
     values_of(alloc, text)
@@ -120,4 +128,10 @@ pub fn saved_files_differ()
     ensures { (place other_place : ℕ) (values others : List SavedValue) → place < 2 ^ 64 → other_place < 2 ^ 64
         → AllByRecursion (λ v. is_saveable v ≡ true) values → AllByRecursion (λ v. is_saveable v ≡ true) others
         → file_of place values ≡ file_of other_place others → values ≡ others }
+{}
+
+/// The file of values that can be saved is refused wherever it is cut short.
+pub fn cut_files_are_refused()
+    ensures { (place : ℕ) (values : List SavedValue) (front rest : List ℕ) (next : ℕ) → place < 2 ^ 64 → AllByRecursion (λ v. is_saveable v ≡ true) values
+        → file_of place values ≡ front ++ next ∷ rest → values_in front ≡ Err NoEnd }
 {}

@@ -11,7 +11,8 @@ mod words;
 
 pub use fault::SavedFault;
 pub use file::{
-    add_saved, begin_saved, end_saved, parse_saved, saved_files_differ, saved_files_read_back,
+    add_saved, begin_saved, cut_files_are_refused, end_saved, parse_saved, saved_files_differ,
+    saved_files_read_back,
 };
 pub use value::{MAX_VALUE_BYTES, SavedText, SavedValue};
 

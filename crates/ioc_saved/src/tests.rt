@@ -45,8 +45,9 @@ fn fault(alloc: Global, text: &[u8]) -> Option<SavedFault> {
 #[test]
 fn files_that_are_not_taken(rt: HostRuntime) {
     let alloc = rt.alloc();
-    assert!(rt; fault(alloc, b"! from autosave\n\n# a\nA.B \\x4A\n<END>").is_none());
+    assert!(rt; fault(alloc, b"! from autosave\n\n# a\nA.B \\x4A\n<END>\n").is_none());
     assert!(rt; fault(alloc, b"") == Some(SavedFault::NoEnd));
+    assert!(rt; fault(alloc, b"A.B 1\n<END>") == Some(SavedFault::NoEnd));
     assert!(rt; fault(alloc, b"A.B 1\n<EN") == Some(SavedFault::NoEnd));
     assert!(rt; fault(alloc, b"<END>\nA.B 1\n") == Some(SavedFault::NoEnd));
     assert!(rt; fault(alloc, b"<END>\nA.B 1\n<END>\n") == Some(SavedFault::BadLine(1)));

@@ -1,6 +1,6 @@
 //! Bytes before and behind a separator.
 ghost use Rattle.std.specs.Prelude.{◌≡◌};
-ghost use Rattle.ioc_saved.specs.Words.{lacks, before, behind, lines_of, last_of};
+ghost use Rattle.ioc_saved.specs.Words.{lacks, before, behind, lines_of, last_of, ends_line};
 
 /// Returns whether the byte is none of these.
 pub(crate) fn lacks(byte: u8, bytes: &[u8]) -> bool
@@ -46,4 +46,14 @@ pub(crate) fn last_line(text: &[u8]) -> &[u8]
         rest = after;
     }
     rest
+}
+
+/// Returns whether the last byte is a line feed.
+pub(crate) fn ends_line(text: &[u8]) -> bool
+    ensures { result ≡ ends_line text.now }
+{
+    match text.last() {
+        Some(last) => *last == b'\n',
+        None => false,
+    }
 }
