@@ -2,3 +2,4 @@ pub mod Words
 pub mod Escapes
 pub mod Lines
 pub mod Files
+pub mod Requests

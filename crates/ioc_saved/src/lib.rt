@@ -6,6 +6,7 @@ mod escapes;
 mod fault;
 mod file;
 mod line;
+mod request;
 mod value;
 mod words;
 
@@ -14,6 +15,7 @@ pub use file::{
     add_saved, begin_saved, cut_files_are_refused, end_saved, parse_saved, saved_files_differ,
     saved_files_read_back,
 };
+pub use request::{RequestLine, request_line};
 pub use value::{MAX_VALUE_BYTES, SavedText, SavedValue};
 
 #[cfg(test)]

@@ -31,7 +31,7 @@ pub(crate) fn add_row(out: &mut Vec<u8>, saved: &SavedValue) -> Result<(), Alloc
 }
 
 /// Returns the name, or `None` if it is empty or doesn't fit.
-fn name_in<const CAP: usize>(name: &[u8]) -> Option<Short<CAP>>
+pub(crate) fn name_in<const CAP: usize>(name: &[u8]) -> Option<Short<CAP>>
     ensures { Gives (λ name. name) result (name_in CAP name.now) }
 {
     if is_long_as(CAP, name) {

@@ -56,3 +56,28 @@ fn files_that_are_not_taken(rt: HostRuntime) {
     assert!(rt; fault(alloc, b".B 1\n<END>\n") == Some(SavedFault::BadLine(1)));
     assert!(rt; fault(alloc, b"A.ABCDEFGHI 1\n<END>\n") == Some(SavedFault::BadLine(1)));
 }
+
+fn asks_for(line: &[u8], record: &[u8], field: &[u8]) -> bool {
+    match request_line(line) {
+        RequestLine::Channel(name, of) => name.as_slice() == record && of.as_slice() == field,
+        _ => false,
+    }
+}
+
+#[test]
+fn lines_of_a_request_file(rt: HostRuntime) {
+    assert!(rt; asks_for(b"plant:level.HIGH\r", b"plant:level", b"HIGH"));
+    assert!(rt; asks_for(b"\tplant:level  # the tank", b"plant:level", b"VAL"));
+    assert!(rt; matches!(request_line(b" # pumps"), RequestLine::Nothing));
+    assert!(rt; matches!(request_line(b""), RequestLine::Nothing));
+    assert!(rt; matches!(request_line(b"file"), RequestLine::Bad));
+    assert!(rt; matches!(request_line(b"a.VAL b"), RequestLine::Bad));
+    assert!(rt; matches!(request_line(b".VAL"), RequestLine::Bad));
+    assert!(rt;
+        match request_line(b"file pump.req P=a:, N=1") {
+            RequestLine::File(name, macros) => name == b"pump.req".as_slice()
+                && macros == b"P=a:, N=1".as_slice(),
+            _ => false,
+        }
+    );
+}
