@@ -1,15 +1,10 @@
 -- Values with escapes are read.
-use Rattle.std.proofs.Common.{◌≡◌, ℕ, zero, suc, ◌≤◌, ◌<◌, ◌+◌, ◌*◌, ◌-◌, ◌/◌, ◌%◌, Bool, true, false, cond, eqb, ltb, leb, not, ◌||◌, ◌&&◌, List, [], ◌∷◌, ◌++◌, length, Option, Some, None, refl, sym, ap, ◌∙◌, append_assoc, ◌⊎◌, inl, inr, arith}
-use Rattle.std.specs.List.{flat_map}
-use Rattle.std.proofs.lemmas.List.{append-nil}
-use Rattle.std.proofs.lemmas.Bool.{cases_Bool, cases_lt, lt-ltb, le-ltb, le-leb, lt-leb, ltb-true, ltb-false, eqb-true, ne_eqb, or_cases}
-use Rattle.std.proofs.lemmas.Bool.Decides.{nat_tests}
-use Rattle.ioc_saved.specs.declared.escapes.Escape.{Escape}
-use Rattle.ioc_saved.specs.declared.escapes.Escape.TheVariants.{No, Begun, Hex, High}
-use Rattle.ioc_saved.specs.declared.escapes.Step.{Step}
-use Rattle.ioc_saved.specs.declared.escapes.Step.TheVariants.{Bad, Goes, Gives}
+use Rattle.std.proofs.Common.{◌≡◌, ℕ, ◌≤◌, ◌<◌, ◌+◌, ◌/◌, ◌%◌, true, false, eqb, ltb, not, ◌||◌, List, [], ◌∷◌, ◌++◌, length, Option, Some, None, refl, sym, ap, ◌∙◌, append_assoc, ◌⊎◌, inl, inr, arith}
+use Rattle.std.proofs.lemmas.Bool.{cases_Bool, cases_lt, lt-ltb, le-ltb, le-leb, lt-leb, ltb-true, eqb-true, ne_eqb, or_cases}
+use Rattle.ioc_saved.specs.declared.escapes.Escape.TheVariants.{No, Begun}
+use Rattle.ioc_saved.specs.declared.escapes.Step.TheVariants.{Gives}
 use Rattle.ioc_saved.specs.Words.{lacks}
-use Rattle.ioc_saved.specs.Escapes.{hex_digit, escape, escaped, hex_value, digits, next_step, onto, follow, ended, unescaped, limited}
+use Rattle.ioc_saved.specs.Escapes.{hex_digit, escape, escaped, hex_value, digits, next_step, onto, unescaped, limited}
 use Rattle.ioc_saved.proofs.Cuts.{lacks_append}
 
 -- ---- Reading bytes one after the other

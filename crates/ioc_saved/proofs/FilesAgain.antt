@@ -1,26 +1,24 @@
 -- The file of values is read as these values.
-use Rattle.std.proofs.Common.{◌≡◌, ℕ, zero, suc, ◌≤◌, ◌<◌, ◌+◌, ◌^◌, Bool, true, false, cond, eqb, ltb, leb, not, ◌&&◌, List, [], ◌∷◌, ◌++◌, length, Option, Some, None, Result, Ok, Err, refl, sym, ap, ◌∙◌, append_assoc, inl, inr, arith}
+use Rattle.std.proofs.Common.{◌≡◌, ℕ, ◌≤◌, ◌<◌, ◌+◌, ◌^◌, true, false, eqb, not, List, [], ◌∷◌, ◌++◌, length, Some, Result, Ok, Err, refl, sym, ap, ◌∙◌, append_assoc, inl, inr, arith}
 use Rattle.std.specs.Prelude.{codes}
-use Rattle.std.specs.List.{flat_map, AllByRecursion}
+use Rattle.std.specs.List.{flat_map}
 use Rattle.std.specs.Fmt.{decimal}
 use Rattle.std.specs.Cmp.Lexicographic.{bytes_decides}
 use Rattle.std.specs.Char.{digit_value}
 use Rattle.std.specs.Str.Parse.{AllDigits}
 use Rattle.std.proofs.lemmas.Int.{ints}
 use Rattle.std.proofs.lemmas.List.{append-nil}
-use Rattle.std.proofs.lemmas.Bool.{cases_Bool, le-leb, leb-true, ne_eqb, and_parts, and_right, not-true}
+use Rattle.std.proofs.lemmas.Bool.{cases_Bool, leb-true, ne_eqb, and_parts, and_right, not-true}
 use Rattle.std.proofs.lemmas.Bool.Decides.{nat_tests}
 use Rattle.std.proofs.lemmas.Fmt.{decimal_is_IsNumeral}
 use Rattle.ioc_saved.specs.declared.value.SavedValue.{SavedValue}
-use Rattle.ioc_saved.specs.declared.line.SavedLine.{SavedLine}
 use Rattle.ioc_saved.specs.declared.line.SavedLine.TheVariants.{Passed, Value, Bad}
 use Rattle.ioc_saved.specs.declared.fault.SavedFault.{SavedFault}
-use Rattle.ioc_saved.specs.declared.fault.SavedFault.TheVariants.{NoEnd, BadLine, NoMemory}
-use Rattle.ioc_saved.specs.declared.escapes.Escape.TheVariants.{No}
-use Rattle.ioc_saved.specs.Words.{lacks, before, behind, lines_of, no_lines, last_of, last_byte, ends_line}
-use Rattle.ioc_saved.specs.Escapes.{escaped, unescaped, limited}
-use Rattle.ioc_saved.specs.Lines.{is_passed, is_long_as, is_record_name, is_field_name, is_saveable, row, ◌>>=◌, name_in, text_in, value_in, line_with, line_in}
-use Rattle.ioc_saved.specs.Files.{head, value_line, end_line, file_of, is_end, onto_values, with_line, is_whole, values_of, values_in}
+use Rattle.ioc_saved.specs.declared.fault.SavedFault.TheVariants.{NoEnd, BadLine}
+use Rattle.ioc_saved.specs.Words.{lacks, before, behind, lines_of, no_lines, last_of, last_byte}
+use Rattle.ioc_saved.specs.Escapes.{escaped, limited}
+use Rattle.ioc_saved.specs.Lines.{is_passed, is_long_as, is_record_name, is_field_name, is_saveable, row, name_in, text_in, value_in, line_with, line_in}
+use Rattle.ioc_saved.specs.Files.{head, value_line, end_line, file_of, is_end, onto_values, with_line, is_whole, values_of, values_in, AllSaveable}
 use Rattle.ioc_saved.proofs.Cuts.{and_true, lacks_append, before_cut, behind_cut, lines_cut, lines_here, none_left, some_left, last_append, last_lacks, lacks_not, cut_line, has_lines}
 use Rattle.ioc_saved.proofs.EscapesAgain.{within, escaped_read, escaped_lacks}
 
@@ -122,9 +120,6 @@ end_row = codes "<END>"
 abbrev rows : List SavedValue → List (List ℕ)
 rows [] = end_row ∷ []
 rows (v ∷ values) = row v ∷ rows values
-
-abbrev AllSaveable : List SavedValue → Type 0
-AllSaveable values = AllByRecursion (λ v. is_saveable v ≡ true) values
 
 one_line : (w rest : List ℕ) → (w ++ 10 ∷ []) ++ rest ≡ w ++ 10 ∷ rest
 one_line w rest = append_assoc w (10 ∷ []) rest

@@ -1,3 +1,5 @@
 mod Cuts
 mod EscapesAgain
 mod FilesAgain
+mod Ends
+mod SavedAgain

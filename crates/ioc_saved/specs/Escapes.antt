@@ -1,6 +1,6 @@
 -- Escapes in values: a line feed is `\n`, a carriage return `\r`, a tab `\t`, a backslash `\\`, any
 -- other byte below 32 and the byte 127 `\xHH`. Any other byte stands as it is.
-use Rattle.std.specs.Prelude.{ℕ, Bool, ◌+◌, ◌-◌, ◌*◌, ◌/◌, ◌%◌, List, [], ◌∷◌, length, Option, Some, None, nat_lt, nat_le, ◌==◌, ◌||◌, ◌&&◌, if◌then◌else◌}
+use Rattle.std.specs.Prelude.{ℕ, ◌+◌, ◌-◌, ◌*◌, ◌/◌, ◌%◌, List, [], ◌∷◌, length, Option, Some, None, nat_lt, nat_le, ◌==◌, ◌||◌, if◌then◌else◌}
 use Rattle.std.specs.List.{flat_map}
 use Rattle.ioc_saved.specs.declared.escapes.Escape.{Escape}
 use Rattle.ioc_saved.specs.declared.escapes.Escape.TheVariants.{No, Begun, Hex, High}

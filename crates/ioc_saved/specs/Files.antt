@@ -1,6 +1,6 @@
 -- Files of saved values.
-use Rattle.std.specs.Prelude.{◌≡◌, ℕ, ◌+◌, Bool, List, [], ◌∷◌, ◌++◌, Result, Ok, Err, codes, decimal, nat_eq, ◌&&◌, if◌then◌else◌}
-use Rattle.std.specs.List.{flat_map}
+use Rattle.std.specs.Prelude.{◌≡◌, ℕ, ◌+◌, Bool, true, List, [], ◌∷◌, ◌++◌, Result, Ok, Err, codes, decimal, nat_eq, ◌&&◌, if◌then◌else◌}
+use Rattle.std.specs.List.{flat_map, AllByRecursion}
 use Rattle.std.specs.Cmp.Lexicographic.{pointwise}
 use Rattle.ioc_saved.specs.declared.value.SavedValue.{SavedValue}
 use Rattle.ioc_saved.specs.declared.line.SavedLine.{SavedLine}
@@ -8,7 +8,7 @@ use Rattle.ioc_saved.specs.declared.line.SavedLine.TheVariants.{Passed, Value, B
 use Rattle.ioc_saved.specs.declared.fault.SavedFault.{SavedFault}
 use Rattle.ioc_saved.specs.declared.fault.SavedFault.TheVariants.{NoEnd, BadLine, NoMemory}
 use Rattle.ioc_saved.specs.Words.{lines_of, no_lines, last_of, ends_line}
-use Rattle.ioc_saved.specs.Lines.{row, line_in}
+use Rattle.ioc_saved.specs.Lines.{row, line_in, is_saveable}
 
 -- ---- What is printed
 
@@ -67,3 +67,11 @@ Fails NoMemory read = Unit {0}
 abbrev pub Reads : {X : Type 0} → (X → List SavedValue) → Result X SavedFault → Result (List SavedValue) SavedFault → Type 0
 Reads view (Ok x) read = read ≡ Ok (view x)
 Reads view (Err e) read = Fails e read
+
+-- Holds if the text ends with the last line of a file.
+abbrev pub EndsWell : List ℕ → Type 0
+EndsWell text = (front : List ℕ) × (text ≡ front ++ end_line)
+
+-- Holds if each value can be saved.
+abbrev pub AllSaveable : List SavedValue → Type 0
+AllSaveable values = AllByRecursion (λ v. is_saveable v ≡ true) values

@@ -1,11 +1,9 @@
 //! Whole files.
-ghost use Rattle.std.specs.Prelude.{◌≡◌, ◌++◌, ◌<◌, ◌^◌, ℕ, List, true, decimal, ◌∷◌, Ok, Err, OnOk};
-ghost use Rattle.std.specs.List.{AllByRecursion};
+ghost use Rattle.std.specs.Prelude.{◌≡◌, ◌++◌, ◌<◌, ◌^◌, ℕ, List, decimal, ◌∷◌, Ok, Err, OnOk, IfOk};
 ghost use Rattle.ioc_saved.specs.declared.value.SavedValue.{SavedValue};
 ghost use Rattle.ioc_saved.specs.declared.fault.SavedFault.TheVariants.{NoEnd};
-ghost use Rattle.ioc_saved.specs.Lines.{is_saveable};
 ghost use Rattle.ioc_saved.specs.Words.{lines_of};
-ghost use Rattle.ioc_saved.specs.Files.{head, value_line, end_line, file_of, is_whole, is_end, values_of, values_in, Reads};
+ghost use Rattle.ioc_saved.specs.Files.{head, value_line, end_line, file_of, is_whole, is_end, values_of, values_in, Reads, EndsWell, AllSaveable};
 
 use crate::fault::SavedFault;
 use crate::line::{SavedLine, add_row, line_in};
@@ -101,7 +99,7 @@ fn values_of(alloc: Global, text: &[u8]) -> Result<Vec<SavedValue>, SavedFault>
 }
 
 /// Reads a file of saved values, in their order. Empty lines and lines that begin with `#` or `!`
-/// are passed over.
+/// are passed over. Each value can be saved again.
 ///
 /// # Errors
 ///
@@ -110,7 +108,9 @@ fn values_of(alloc: Global, text: &[u8]) -> Result<Vec<SavedValue>, SavedFault>
 /// backslash that begins no escape. [`SavedFault::NoMemory`] if allocation fails.
 #[tactic(auto, unfolding(crate::specs::Files::values_in))]
 pub fn parse_saved(alloc: Global, text: &[u8]) -> Result<Vec<SavedValue>, SavedFault>
-    ensures { Reads (λ values. values.items) result (values_in text.now) }
+    ensures values { Reads (λ values. values.items) result (values_in text.now) }
+    ensures ended { IfOk result (λ values. EndsWell text.now) }
+    ensures saveable { IfOk result (λ values. AllSaveable values.items) }
 {
     if !is_whole(text) {
         return Err(SavedFault::NoEnd);
@@ -120,18 +120,18 @@ pub fn parse_saved(alloc: Global, text: &[u8]) -> Result<Vec<SavedValue>, SavedF
 
 /// The file of values that can be saved is read as these values.
 pub fn saved_files_read_back()
-    ensures { (place : ℕ) (values : List SavedValue) → place < 2 ^ 64 → AllByRecursion (λ v. is_saveable v ≡ true) values → values_in (file_of place values) ≡ Ok values }
+    ensures { (place : ℕ) (values : List SavedValue) → place < 2 ^ 64 → AllSaveable values → values_in (file_of place values) ≡ Ok values }
 {}
 
 /// Different values have different files.
 pub fn saved_files_differ()
     ensures { (place other_place : ℕ) (values others : List SavedValue) → place < 2 ^ 64 → other_place < 2 ^ 64
-        → AllByRecursion (λ v. is_saveable v ≡ true) values → AllByRecursion (λ v. is_saveable v ≡ true) others
+        → AllSaveable values → AllSaveable others
         → file_of place values ≡ file_of other_place others → values ≡ others }
 {}
 
 /// The file of values that can be saved is refused wherever it is cut short.
 pub fn cut_files_are_refused()
-    ensures { (place : ℕ) (values : List SavedValue) (front rest : List ℕ) (next : ℕ) → place < 2 ^ 64 → AllByRecursion (λ v. is_saveable v ≡ true) values
+    ensures { (place : ℕ) (values : List SavedValue) (front rest : List ℕ) (next : ℕ) → place < 2 ^ 64 → AllSaveable values
         → file_of place values ≡ front ++ next ∷ rest → values_in front ≡ Err NoEnd }
 {}
