@@ -52,7 +52,9 @@ text_in coded = limited 120 (unescaped No coded)
 -- The value of a line. The first space ends the names, the first dot the record's name.
 unfoldable pub value_in : List ℕ → Option SavedValue
 value_in line =
-    name_in 60 (before 46 (before 32 line)) >>= λ name. name_in 8 (behind 46 (before 32 line)) >>= λ field. text_in (behind 32 line) >>= λ value.
+    name_in 60 (before 46 (before 32 line)) >>= λ name.
+    name_in 8 (behind 46 (before 32 line)) >>= λ field.
+    text_in (behind 32 line) >>= λ value.
     Some (record { record_name = name; field = field; value = value })
 
 abbrev pub line_with : Option SavedValue → SavedLine

@@ -37,7 +37,8 @@ pub fn begin_saved(out: &mut Vec<u8>, place: u64) -> Result<(), AllocError>
 
 /// Appends the line of a value: the record, a dot, the field, a space and the value. A line feed in
 /// the value is `\n`, a carriage return `\r`, a tab `\t`, a backslash `\\`, and any other byte below
-/// 32 and the byte 127 is `\xHH`.
+/// 32 and the byte 127 is `\xHH`. A value that can't be saved ([`SavedValue::is_saveable`]) has a
+/// line too, which may be read as another value or not at all.
 ///
 /// # Errors
 ///
@@ -98,14 +99,19 @@ fn values_of(alloc: Global, text: &[u8]) -> Result<Vec<SavedValue>, SavedFault>
     Ok(values)
 }
 
-/// Reads a file of saved values, in their order. Empty lines and lines that begin with `#` or `!`
-/// are passed over. Each value can be saved again.
+/// Reads the values of a file, in their order. Empty lines and lines that begin with `#` or `!` are
+/// passed over. Each value can be saved again.
+///
+/// A line of a value is the record, a dot, the field, a space and the value, which goes to the end
+/// of the line and may have spaces. Where there is no space, the value is empty. Its escapes are
+/// those of [`add_saved`], where `\xHH` may stand for any byte and have capital letters.
 ///
 /// # Errors
 ///
-/// [`SavedFault::NoEnd`] if the last line isn't `<END>` with its line feed. [`SavedFault::BadLine`] with the number of
-/// the first line that has no dot, an empty or too long name, a value that is too long, or a
-/// backslash that begins no escape. [`SavedFault::NoMemory`] if allocation fails.
+/// [`SavedFault::NoEnd`] if the last line isn't `<END>` with its line feed. Otherwise
+/// [`SavedFault::BadLine`] with the number of the first line that has no dot, an empty or too long
+/// name, a value that is too long, or a backslash that begins no escape.
+/// [`SavedFault::NoMemory`] if allocation fails.
 #[tactic(auto, unfolding(crate::specs::Files::values_in))]
 pub fn parse_saved(alloc: Global, text: &[u8]) -> Result<Vec<SavedValue>, SavedFault>
     ensures values { Reads (λ values. values.items) result (values_in text.now) }
