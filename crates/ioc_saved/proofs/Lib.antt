@@ -1,0 +1,5 @@
+mod Cuts
+mod EscapesAgain
+mod FilesAgain
+mod Ends
+mod SavedAgain

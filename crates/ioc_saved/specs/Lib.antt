@@ -1,0 +1,5 @@
+pub mod Words
+pub mod Escapes
+pub mod Lines
+pub mod Files
+pub mod Requests
