@@ -1,5 +1,5 @@
 -- What an audit finds in the text of a journal.
-use Rattle.std.specs.Prelude.{◌≡◌, ◌≢◌, ◌⊎◌, ⊥, ℕ, suc, List, [], ◌∷◌, ◌++◌, length, Bool, not, ◌==◌, Option, Some, None}
+use Rattle.std.specs.Prelude.{◌≡◌, ◌≢◌, ◌⊎◌, ℕ, suc, List, [], ◌∷◌, ◌++◌, length, Bool, not, ◌==◌, Option, Some, None}
 use Rattle.std.specs.Io.BufRead.{take_through, drop_through}
 use Rattle.ioc_device.specs.declared.Answer.{Answer}
 use Rattle.ioc_events.specs.declared.event.Call.{Call}
