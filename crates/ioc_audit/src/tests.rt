@@ -155,7 +155,14 @@ fn last_line_cut_off(rt: HostRuntime) -> Result<(), Stop> {
         to: 8,
         instead: b"1",
     };
-    assert!(rt; tells(rt.alloc(), &cut, b"line 7 is cut off; 6 entries agree\n", "")?);
+    assert!(rt;
+        tells(
+            rt.alloc(),
+            &cut,
+            b"line 7 is cut off; 6 entries agree\n",
+            ""
+        )?
+    );
     assert!(rt; tells(rt.alloc(), &one, b"line 2 is cut off; 1 entry agrees\n", "")?);
     Ok(())
 }
