@@ -48,8 +48,6 @@ enum Then {
 #[derive(Drop)]
 struct Talk<
     'a,
-    'j,
-    'e,
     E: Write + Drop,
     B: EngineName<D>,
     D: Device,
@@ -58,8 +56,8 @@ struct Talk<
     R: Wait,
 > {
     answerer: &'a mut Answerer<E>,
-    caller: Caller<'e, B, D, C, R>,
-    journal: &'j mut Option<JournalWriter<J>>,
+    caller: Caller<'a, B, D, C, R>,
+    journal: &'a mut Option<JournalWriter<J>>,
     // The reply to a line.
     said: Vec<u8>,
     has_ended: bool,
@@ -318,33 +316,57 @@ impl<I: Read + Drop, E: Write + Drop> Task for Console<I, E> {
         desk: &mut Desk<B, D>,
         streams: &mut Streams<W, J>,
     ) -> Result<(), RunFault> {
-        let caller = Caller {
-            rt,
-            alloc,
-            engine,
-            desk,
-        };
         let Console { input, answerer } = self;
         let Streams { lines, journal } = streams;
-        let has_prompt = answerer.has_prompt;
-        let mut talk = Talk {
-            answerer,
-            caller,
-            journal,
-            said: Vec::new(alloc),
-            has_ended: false,
-            fault: None,
-        };
-        let mut out = Noted::new(lines);
-        let ran = run_script(alloc, &mut talk, input, &mut out);
-        let is_prompted = has_prompt && !talk.has_ended;
-        let reason = out.reason;
-        ended(talk.fault, ran, reason)?;
-        if is_prompted {
+        if converse(rt, alloc, engine, desk, answerer, journal, input, lines)? {
             streams.write(b"\n")?;
         }
         Ok(())
     }
+}
+
+// Answers the lines of an input, and returns whether a prompt stands behind the last reply.
+fn converse<
+    'a,
+    I: Read + Drop,
+    E: Write + Drop,
+    B: EngineName<D>,
+    D: Device,
+    C: Clock + Drop,
+    W: Write,
+    J: Write + Drop,
+    R: Wait,
+>(
+    rt: &'a R,
+    alloc: Global,
+    engine: &'a Engine<B, D, C>,
+    desk: &'a mut Desk<B, D>,
+    answerer: &'a mut Answerer<E>,
+    journal: &'a mut Option<JournalWriter<J>>,
+    input: &mut I,
+    lines: &mut W,
+) -> Result<bool, RunFault> {
+    let has_prompt = answerer.has_prompt;
+    let caller = Caller {
+        rt,
+        alloc,
+        engine,
+        desk,
+    };
+    let mut talk = Talk {
+        answerer,
+        caller,
+        journal,
+        said: Vec::new(alloc),
+        has_ended: false,
+        fault: None,
+    };
+    let mut out = Noted::new(lines);
+    let ran = run_script(alloc, &mut talk, input, &mut out);
+    let is_prompted = has_prompt && !talk.has_ended;
+    let reason = out.reason;
+    ended(talk.fault, ran, reason)?;
+    Ok(is_prompted)
 }
 
 // Returns why a console ended early, if it has: by a fault of its calls or its journal, or by one of
@@ -372,7 +394,7 @@ impl<
     C: Clock + Drop,
     J: Write + Drop,
     R: Wait,
-> Session for Talk<'_, '_, '_, E, B, D, C, J, R> {
+> Session for Talk<'_, E, B, D, C, J, R> {
     ghost use Rattle.std.specs.Prelude.{[]};
     ghost use Rattle.std.proofs.Common.{refl};
 
