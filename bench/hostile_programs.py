@@ -38,7 +38,7 @@ COUNTS = re.compile(r"(\d+) errors?, (\d+) warnings?\n")
 FINDING = re.compile(r"[^\n]+?:[1-9]\d*:[1-9]\d*: (error|warning): .+")
 DIFFERENCE = re.compile(r"ioc-audit: journal '[^']*' line ([1-9]\d*): (no entry|place \d+ expected|call \d+ of its desk expected"
                         r"|another reply: [^\n]+|other answers: [^\n]+)\n", re.S)
-AGREE = re.compile(r"(?:line (?P<cut>\d+) is cut off; )?(?P<count>\d+) entr(?:ies agree|y agrees)")
+AGREE = re.compile(r"(?:line (?P<cut>\d+) is cut off; )?(?P<count>\d+) entr(?:ies agree|y agrees)(?P<running>, and the run did not end)?")
 REFUSED = re.compile(r"bad|E(?:[1-9]|1[0-3]) [A-Za-z]+")
 # The replies of a console that a script doesn't have, beside those of hostile.FORMS.
 SESSION_FORMS = {**FORMS, "dbgf": FORMS["get"], "dbpf": FORMS["put"], "checkpoint": "ok", "tick": r"ok \d+"}
@@ -327,6 +327,10 @@ class Case:
             want([it[1] for it in rows] == self.names, "the names of the records", ran)
         return {it[1]: it.groups()[1:] for it in rows}
 
+    def refusal_of(self, plain):
+        """What ioc and ioc-audit say of a database that is refused: what the load says, and which program says more."""
+        return f"{plain.said}ioc-check {self.database} says more\n"
+
     def begin(self, kind):
         """The words of a run of ioc, and its journal."""
         journal = self.runner.path(f"{kind}.journal")
@@ -338,7 +342,7 @@ class Case:
         count = self.generator.choice([1, 3, 10, 20, 100]) if self.is_small else self.generator.choice([1, 10])
         ran = self.runner.run("ioc", self.database, "--ticks", str(count), *words, kind="ticks")
         if plain.status == 1:
-            want((ran.status, ran.out, ran.said) == (1, "", plain.said) and not os.path.exists(journal), "a refused database", ran)
+            want((ran.status, ran.out, ran.said) == (1, "", self.refusal_of(plain)) and not os.path.exists(journal), "a refused database", ran)
             return None
         want((ran.status, ran.said) == (0, ""), "a run", ran)
         shown = self.judge_end(lines_of(ran.out, ran), ran)
@@ -374,7 +378,7 @@ class Case:
         given = self.runner.write("session", text)
         ran = self.runner.run("ioc", "--console", self.database, *words, given=given, kind="console")
         if plain.status == 1:
-            want((ran.status, ran.out, ran.said) == (1, "", plain.said) and not os.path.exists(journal), "a refused database", ran)
+            want((ran.status, ran.out, ran.said) == (1, "", self.refusal_of(plain)) and not os.path.exists(journal), "a refused database", ran)
             return None
         want(ran.status == 0, "a session", ran)
         told = lines_of(ran.out, ran)
@@ -433,7 +437,9 @@ class Case:
         ran = self.runner.run("ioc-audit", self.database, journal, *words, *self.macros)
         want((ran.status, ran.said) == (0, ""), "the journal of a run", (ran, made))
         told = lines_of(ran.out, ran)
-        want(told.pop() == ("1 entry agrees" if len(lines) == 1 else f"{len(lines)} entries agree"), "how many agree", ran)
+        # The header and the end are no entries.
+        count = len(lines) - 2
+        want(told.pop() == ("1 entry agrees" if count == 1 else f"{count} entries agree"), "how many agree", ran)
         if sets is not None:
             want(told.pop() == sets, f"other sets than {sets!r}", ran)
         if self.is_lined:
@@ -444,7 +450,7 @@ class Case:
         """A database that the load refuses is refused by an audit too, whatever the journal is."""
         journal = self.runner.write("any.journal", self.generator.choice(["", "none\n", '0\t0\t0\t1\tget\t0\tVAL\t"0"\t0\n']))
         ran = self.runner.run("ioc-audit", self.database, journal, *self.macros)
-        want((ran.status, ran.out, ran.said) == (1, "", plain.said), "a refused database", ran)
+        want((ran.status, ran.out, ran.said) == (1, "", self.refusal_of(plain)), "a refused database", ran)
 
     def changed_journal(self, lines):
         """Lines with a change, and how many of them are as they were."""
@@ -475,8 +481,8 @@ class Case:
         return changed, next(differing, min(len(lines), len(changed)))
 
     def audit_changed(self, journal):
-        """A changed journal differs at the change, or behind it, or agrees."""
-        lines = self.runner.read(os.path.basename(journal)).split("\n")[:-1]
+        """A journal without its end, whose entries were changed, differs at the change, or behind it, or agrees."""
+        header, *lines, _ = self.runner.read(os.path.basename(journal)).split("\n")[:-1]
         if len(lines) > 3000:
             return
         changed, same = self.changed_journal(lines)
@@ -487,7 +493,7 @@ class Case:
             same = min(same, text.count("\n"))
         whole = text.count("\n")
         changed = text.removesuffix("\n").split("\n") if text else []
-        file = self.runner.write("changed.journal", text)
+        file = self.runner.write("changed.journal", f"{header}\n{text}")
         words, most = [], None
         if self.chance(0.3):
             most = self.generator.choice([0, 1, same, len(lines), 2**64 - 1, 2**64])
@@ -507,15 +513,17 @@ class Case:
         if ran.status == 1:
             fault = DIFFERENCE.fullmatch(ran.said)
             want(fault and (has_trace or ran.out == ""), "what an audit says", ran)
-            want(same < int(fault[1]) <= len(changed), f"a fault in line {fault[1]} of {len(changed)}, of which {same} are right", ran)
-            want(most is None or int(fault[1]) <= most + 1, "a fault behind --at", ran)
+            line = int(fault[1]) - 1
+            want(same < line <= len(changed), f"a fault in line {line} of {len(changed)}, of which {same} are right", ran)
+            want(most is None or line <= most + 1, "a fault behind --at", ran)
         else:
             want(ran.said == "" and told and AGREE.fullmatch(told[-1]), "an audit that agrees", ran)
             agree = AGREE.fullmatch(told[-1])
             count, wanted = int(agree["count"]), whole if most is None else min(whole, most + 1)
             want(count == wanted, f"{count} of {whole} entries", ran)
             is_cut_off = whole < len(changed) and (most is None or whole <= most)
-            want(agree["cut"] == (str(whole + 1) if is_cut_off else None), "whether a line is cut off", ran)
+            want(agree["cut"] == (str(whole + 2) if is_cut_off else None), "whether a line is cut off", ran)
+            want(bool(agree["running"]) == (not is_cut_off and (most is None or whole <= most)), "whether the run has ended", ran)
             self.seen["changed journals that agree"] += changed != lines
         # A text of a changed journal may have a line end.
         if has_trace and self.is_lined and "\\0a" not in text:
@@ -569,7 +577,8 @@ class Case:
         entries = self.runner.read("other.journal")
         part = self.runner.write("part.journal", entries[: entries.rfind("\n") + 1])
         told = self.runner.run("ioc-audit", self.database, part, *self.macros, kind="of a failed run")
-        want(told.status == 0, "the journal of a failed run", (told, ran))
+        # A run that failed before its first line was written has left no journal.
+        want(told.status == (0 if "\n" in entries else 1), "the journal of a failed run", (told, ran))
 
     def unwritten(self):
         """Nobody takes the output, or the journal, or the written text: status 3 if there was some."""

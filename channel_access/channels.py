@@ -234,10 +234,10 @@ class Circuit(asyncio.Protocol):
             elif status is not Status.NORMAL:
                 self._send(protocol.error(message.header, status, f"{field.name}: {words}", channel.client_number))
 
-        def put(refusal: Optional[str]) -> None:
+        def put(refusal: Optional[str], place: Optional[int]) -> None:
             if not has_callback:
                 self.end_request()
-            self._server.log_put(self, channel.served, given, refusal)
+            self._server.log_put(self, channel.served, given, refusal, place)
             done(Status.NORMAL if refusal is None else Status.PUT_FAILED, refusal or "")
 
         if not channel.may_write:
@@ -252,7 +252,7 @@ class Circuit(asyncio.Protocol):
             self._requests += 1
             self._server.ioc.put(record, field, given, put)
         elif not self._server.puts.begin(self, record, field, given, put):
-            put("too many put callbacks wait")
+            put("too many put callbacks wait", None)
 
     # Subscriptions.
 

@@ -83,8 +83,8 @@ def state_texts(properties: Mapping[str, bytes]) -> Tuple[bytes, ...]:
 
 # What is put: a text, or the number of a number, state or menu.
 Given = Union[bytes, int]
-# Is told None where a put was done, or the words of its refusal.
-Done = Callable[[Optional[str]], None]
+# Is told None where a put was done, or the words of its refusal, and the place of the call in the journal if it has one.
+Done = Callable[[Optional[str], Optional[int]], None]
 GotReading = Callable[[Optional[Reading]], None]
 # Is told of a change: which of VALUE, LOG, ALARM, PROPERTY it is due for, and the reading.
 Told = Callable[[int, Reading], None]

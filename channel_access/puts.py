@@ -52,12 +52,12 @@ class Puts:
             owner = self._next()
 
     def _start(self, owner: Hashable, record: Record, field: Field, given: Given, done: Done) -> None:
-        def ended(refusal: Optional[str]) -> None:
+        def ended(refusal: Optional[str], place: Optional[int]) -> None:
             live = self._live[owner]
             live.remove(begun)
             if not live:
                 del self._live[owner]
-            done(refusal)
+            done(refusal, place)
             self._freed()
 
         self._free -= 1

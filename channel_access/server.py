@@ -78,12 +78,13 @@ class Server(asyncio.DatagramProtocol):
 
         self.ioc.find(match[1], found)
 
-    def log_put(self, circuit: Circuit, channel: Served, given: Given, refusal: Optional[str]) -> None:
-        """Writes a line for a put: when, who, what, and what came of it. User and host are what the client says."""
+    def log_put(self, circuit: Circuit, channel: Served, given: Given, refusal: Optional[str], place: Optional[int]) -> None:
+        """Writes a line for a put: when, who, what, and what came of it, with the place in the journal. The client says user and host."""
         now, record = time.time(), channel.record.name.decode("latin-1")
         stamp = time.strftime("%Y-%m-%dT%H:%M:%S", time.gmtime(now)) + f".{int(now % 1 * 1e6):06}Z"
         user, host, text = (ascii(part.decode("latin-1")) if isinstance(part, bytes) else part for part in (circuit.user, circuit.host, given))
-        print(f"{stamp} put {record}.{channel.field.name} {text} by {user} at {host} ({circuit.peer}): {refusal or 'ok'}", file=sys.stderr)
+        said = (refusal or "ok") + (f" at place {place}" if place is not None else "")
+        print(f"{stamp} put {record}.{channel.field.name} {text} by {user} at {host} ({circuit.peer}): {said}", file=sys.stderr)
 
     def connection_made(self, transport: Any) -> None:
         self._udp = transport

@@ -1,6 +1,6 @@
 """The IOC as a child process. All that depends on the language of its lines is in here.
 
-`console` speaks that of `ioc DB --console`, and `survey` finds out what today's console doesn't tell.
+`console` speaks that of `ioc DB --console`, `survey` finds the records and their fields, and `texts` has the escapes of lines.
 """
 import os
 from typing import Optional, Sequence

@@ -1,51 +1,48 @@
 """`ioc DB --console` as a child: lines go out, and replies come back in the same order.
 
-A reading of one moment has TIME in front and behind, and STAT too, since a record that becomes disabled keeps its TIME; if they differ, it
-is asked again. Watched fields are read ten times a second, after the tick. `ioc --live` tells what this module finds out by asking.
+`read` shows fields of one moment. Watched fields are read ten times a second, after the tick.
 """
 import asyncio
 import re
 import sys
 from collections import deque
-from typing import Callable, Deque, Dict, List, Mapping, NamedTuple, Optional, Sequence, Tuple
+from typing import Callable, Deque, Dict, Iterator, List, Mapping, NamedTuple, Optional, Sequence, Tuple
 
 from ..interface import (
     ALARM, LOG, PROPERTIES, PROPERTY, VALUE, Done, Extent, Field, Given, GotReading, Ioc, Kind, PutCallback, Reading, Record, Told, Watch,
-    is_record_name, state_texts,
+    is_record_name,
 )  # fmt: skip
-from .survey import SEVERITIES, STATUSES, ChildError
+from .survey import ChildError
+from .texts import escaped, unescaped
 
 _PERIOD = 0.1
-# A line has at most 1,024 bytes; verb, record and field take fewer than 100.
-_MOST_TEXT = 900
-# How often a reading is asked again, how many names are looked up at a time and remembered, and how many sets of fields.
-_MOST_TRIES = 20
+# A line has at most 4,096 bytes; verb, record and field take fewer than 100.
+_MOST_TEXT = 3900
+# How many names are looked up at a time and remembered, and how many sets of fields.
 _MOST_LOOKUPS = 1000
 _MOST_NAMES = 100_000
 _MOST_BATCHES = 10_000
 _DEADBANDS = ("MDEL", "ADEL")
 # What the console writes on standard error for a refusal, which its reply has told.
 _TOLD = re.compile(rb"line \d+: (E\d+ \w+|bad)\Z")
-_STATUS = {b"= " + name: number for number, name in enumerate(STATUSES)}
-_SEVERITY = {b"= " + name: number for number, name in enumerate(SEVERITIES)}
+# What stands behind the reply to a put: its place in the journal.
+_PLACED = re.compile(r"(.*) place (\d+)\Z")
 
 Replied = Callable[[List[bytes]], None]
 GotReadings = Callable[[Optional[List[Reading]]], None]
 
 
 class _Known(NamedTuple):
-    """What was read last of a record, and when: the texts of its properties, and its deadbands."""
+    """What was read last of a record: the texts of its properties, and its deadbands."""
 
     properties: Mapping[str, bytes]
     deadbands: Mapping[str, int]
-    when: float
 
 
 class _Batch(NamedTuple):
-    """The lines of a reading, in which NUL stands for the record's name, how many, and which properties and deadbands they ask for."""
+    """The line of a reading, in which NUL stands for the record's name, and which properties and deadbands it asks for."""
 
     text: bytes
-    lines: int
     known: Tuple[str, ...]
 
 
@@ -91,15 +88,22 @@ def _asked(field: Field) -> str:
     return field.name if field.name != "RTYP" else "NAME"
 
 
-def _reading(record: Record, field: Field, text: bytes, status: int, severity: int, time: int, properties: Mapping[str, bytes]) -> Reading:
-    """The reading of a field that shows a text. ValueError if that is of a state which isn't known any more."""
-    number: Optional[int] = None
+def _reading(record: Record, field: Field, values: Iterator[bytes], status: int, severity: int, time: int, properties: Mapping[str, bytes]) -> Reading:
+    """The reading of a field of which the next value is the text, and the one behind it the number of a state or choice."""
+    text, number = next(values), None
     if field.name == "RTYP":
         text = record.type.encode()
+    elif field.kind in (Kind.STATES, Kind.MENU):
+        number = int(next(values))
     elif field.kind not in (Kind.TEXT, Kind.LINK):
-        texts = state_texts(properties) if field.kind is Kind.STATES else field.choices
-        number = texts.index(text) if text and text in texts else int(text)
+        number = int(text)
     return Reading(text, number, status, severity, time, properties)
+
+
+def _names(field: Field) -> Tuple[str, ...]:
+    """The words that ask for a field."""
+    name = _asked(field)
+    return (name, name + "#") if field.kind in (Kind.STATES, Kind.MENU) else (name,)
 
 
 class Console(Ioc, asyncio.SubprocessProtocol):
@@ -119,7 +123,7 @@ class Console(Ioc, asyncio.SubprocessProtocol):
         self._lookups = self._ticks = self._polls = 0
         self._known: Dict[bytes, _Known] = {}
         self._batches: Dict[Tuple[str, Tuple[Field, ...], bool], _Batch] = {}
-        self._live: Dict[int, Done] = {}
+        self._live: Dict[int, Callable[[], None]] = {}
         self._watched: Dict[bytes, List[_Watch]] = {}
         self._fault: Optional[str] = None
 
@@ -152,7 +156,7 @@ class Console(Ioc, asyncio.SubprocessProtocol):
             elif line.startswith(b"ended "):
                 done = self._live.pop(int(line[6:]), None)
                 if done is not None:
-                    done(None)
+                    done()
             elif self._calls:
                 self._got.append(line)
                 if len(self._got) == self._calls[0][0]:
@@ -201,7 +205,7 @@ class Console(Ioc, asyncio.SubprocessProtocol):
         self._clock = self._loop.call_at(max(self._begun + (self._ticks + 1) * _PERIOD, self._loop.time()), self._tick)
         self._ask(b"tick\n", 1, lambda got: None)
         if self._ticks % 10 == 0 and not self._has_journal:
-            self._ask(b"checkpoint\n", 1, lambda got: None)  # each get is an entry of the journal
+            self._ask(b"checkpoint\n", 1, lambda got: None)  # each request of a tick is an entry of the journal
         if self._polls == 0:
             for watches in self._watched.values():
                 self._poll(watches[0].record, self._ticks % 10 == 0)
@@ -217,11 +221,11 @@ class Console(Ioc, asyncio.SubprocessProtocol):
             self._lookups -= 1
             if len(self._names) >= _MOST_NAMES:
                 self._names.clear()
-            self._names[name] = self._named(got[0][2:]) if got[0].startswith(b"= ") else None
+            self._names[name] = self._named(unescaped(got[0][2:])) if got[0].startswith(b"=\t") else None
             done(self._names[name])
 
         self._lookups += 1
-        self._ask(b"get %b.NAME\n" % name, 1, replied)
+        self._ask(b"read %b NAME\n" % name, 1, replied)
 
     def _named(self, text: bytes) -> Optional[Record]:
         """The record of which NAME shows these bytes, the first 39 of its name."""
@@ -230,54 +234,37 @@ class Console(Ioc, asyncio.SubprocessProtocol):
         named = [record for name, record in self.records.items() if name.startswith(text)]
         return named[0] if len(named) == 1 else None
 
-    def _read_moment(self, record: Record, fields: Tuple[Field, ...], with_properties: bool, done: GotReadings, tries: int = 0) -> None:
+    def _read_moment(self, record: Record, fields: Tuple[Field, ...], with_properties: bool, done: GotReadings) -> None:
         """Reads fields of one moment, and the record's properties with them if they aren't known."""
-        with_properties = with_properties or self._is_stale(record)
-        batch = self._batch(record, fields, with_properties)
-
-        def again(with_properties: bool) -> None:
-            if tries < _MOST_TRIES:
-                self._read_moment(record, fields, with_properties, done, tries + 1)
-            else:
-                done(None)
+        batch = self._batch(record, fields, with_properties or record.name not in self._known)
 
         def replied(got: List[bytes]) -> None:
-            if not got[0].startswith(b"= "):
+            if not got[0].startswith(b"=\t"):
                 return self._out_of_step(got)
-            if got[0] != got[-1] or got[1] != got[-2]:
-                return again(with_properties)
+            values = iter([unescaped(value) for value in got[0][2:].split(b"\t")])
             try:
-                status, severity, time = _STATUS[got[-2]], _SEVERITY[got[-3]], int(got[0][2:])
-            except (KeyError, ValueError):
+                status, severity, time = int(next(values)), int(next(values)), int(next(values))
+                if batch.known:
+                    self._learn(record, {name: next(values) for name in batch.known})
+                properties = self._known[record.name].properties
+                readings = [_reading(record, field, values, status, severity, time, properties) for field in fields]
+            except (KeyError, ValueError, StopIteration):
                 return self._out_of_step(got)
-            texts = [reply[2:] for reply in got[2:-3]]
-            if with_properties:
-                self._learn(record, dict(zip(batch.known, texts[len(fields) :])))
-            properties = self._known[record.name].properties
-            try:
-                readings = [_reading(record, field, text, status, severity, time, properties) for field, text in zip(fields, texts)]
-            except ValueError:
-                return again(True)
             done(readings)
 
-        self._ask(batch.text.replace(b"\0", record.name), batch.lines, replied)
+        self._ask(batch.text.replace(b"\0", record.name), 1, replied)
 
     def _batch(self, record: Record, fields: Tuple[Field, ...], with_properties: bool) -> _Batch:
-        """The lines for a reading, the same for all records of a type."""
+        """The line for a reading, the same for all records of a type."""
         key = record.type, fields, with_properties
         batch = self._batches.get(key)
         if batch is None:
             if len(self._batches) >= _MOST_BATCHES:
                 self._batches.clear()
-            known = tuple(name for name in record.fields if _is_known(name)) if with_properties else ()
-            names = ("TIME", "STAT", *map(_asked, fields), *known, "SEVR", "STAT", "TIME")
-            batch = self._batches[key] = _Batch(b"".join(b"get \0.%b\n" % name.encode() for name in names), len(names), known)
+            known = ("NAME", *(name for name in record.fields if _is_known(name))) if with_properties else ()
+            names = ("STAT#", "SEVR#", "TIME", *known, *(name for field in fields for name in _names(field)))
+            batch = self._batches[key] = _Batch(b"read \0 %b\n" % " ".join(names).encode(), known)
         return batch
-
-    def _is_stale(self, record: Record) -> bool:
-        """Whether the record's properties have to be read: the number of a state stands on texts of the last second."""
-        known = self._known.get(record.name)
-        return known is None or (record.fields["VAL"].kind is Kind.STATES and known.when < self._loop.time() - 1)
 
     def _learn(self, record: Record, texts: Mapping[str, bytes]) -> None:
         """Keeps what was read of a record. Properties that haven't changed stay the same object."""
@@ -285,56 +272,54 @@ class Console(Ioc, asyncio.SubprocessProtocol):
         last = self._known.get(record.name)
         if last is not None and last.properties == properties:
             properties = last.properties
-        self._known[record.name] = _Known(properties, {name: int(texts[name]) for name in _DEADBANDS if name in texts}, self._loop.time())
+        self._known[record.name] = _Known(properties, {name: int(texts[name]) for name in _DEADBANDS if name in texts})
 
     def read(self, record: Record, field: Field, extent: Extent, done: GotReading) -> None:
-        if extent is not Extent.FIELD or self._is_stale(record):
-            wants_all = extent is Extent.PROPERTIES
-            return self._read_moment(record, (field,), wants_all, lambda readings: done(readings[0] if readings else None))
-
-        def replied(got: List[bytes]) -> None:
-            try:
-                reading = _reading(record, field, got[0][2:], 0, 0, 0, self._known[record.name].properties)
-            except ValueError:  # the text of a state that isn't known
-                return self.read(record, field, Extent.PROPERTIES, done)
-            done(reading)
-
-        self._ask(b"get %b.%b\n" % (record.name, _asked(field).encode()), 1, replied)
+        wants_all = extent is Extent.PROPERTIES
+        self._read_moment(record, (field,), wants_all, lambda readings: done(readings[0] if readings else None))
 
     # Puts.
 
-    def _put(self, verb: bytes, record: Record, field: Field, given: Given, replied: Callable[[str], None]) -> None:
-        """Sends a put; `replied` is told the reply, or why the value can't stand in a line."""
-        if isinstance(given, int):  # the text of a state may be a number, but hardly one of 39 bytes
-            given = (b"%+039d" if field.kind is Kind.STATES else b"%d") % given
-        if b"\n" in given or len(given) > _MOST_TEXT:
-            self._loop.call_soon(replied, "a line feed, or too long")
+    def _put(self, verb: bytes, record: Record, field: Field, given: Given, replied: Callable[[str, Optional[int]], None]) -> None:
+        """Sends a put; `replied` is told the reply and its place in the journal, or why the value can't stand in a line."""
+        # A link has a verb of its own, and a state or menu is put by a number in the lines for programs alone.
+        is_plain = isinstance(given, bytes) and field.kind in (Kind.LINK, Kind.STATES, Kind.MENU)
+        text = b"%d" % given if isinstance(given, int) else given if is_plain else escaped(given)
+        if b"\n" in text or len(text) > _MOST_TEXT:
+            self._loop.call_soon(replied, "a line feed, or too long", None)
             return
-        line = b"%b %b.%b %b\n" % (b"link" if field.kind is Kind.LINK else verb, record.name, field.name.encode(), given)
-        self._ask(line, 1, lambda got: replied(got[0].decode("latin-1")))
+        verb = b"link" if field.kind is Kind.LINK else verb.rstrip(b"#") if is_plain else verb
+        line = b"%b %b.%b %b\n" % (verb, record.name, field.name.encode(), text)
+
+        def answered(got: List[bytes]) -> None:
+            reply = got[0].decode("latin-1")
+            placed = _PLACED.match(reply)
+            replied(placed[1] if placed else reply, int(placed[2]) if placed else None)
+
+        self._ask(line, 1, answered)
         if record.name in self._watched and _is_known(field.name):
             self._poll(record, True)
         elif _is_known(field.name):
             self._read_moment(record, (), True, lambda readings: None)
 
     def put(self, record: Record, field: Field, given: Given, done: Done) -> None:
-        self._put(b"put", record, field, given, lambda reply: done(None if reply.startswith("ok") else reply))
+        self._put(b"put#", record, field, given, lambda reply, place: done(None if reply.startswith("ok") else reply, place))
 
     def notify(self, record: Record, field: Field, given: Given, done: Done) -> PutCallback:
         begun = PutCallback()
 
-        def replied(reply: str) -> None:
+        def replied(reply: str, place: Optional[int]) -> None:
             if reply.startswith("ok notify "):
                 begun.number = int(reply[10:])
-                self._live[begun.number] = done
+                self._live[begun.number] = lambda: done(None, place)
                 if begun.freed is not None:
                     self.cancel(begun, begun.freed)
             elif begun.freed is not None:
                 begun.freed()
             else:  # a link change has ended with its reply
-                done(None if reply.startswith("ok") else reply)
+                done(None if reply.startswith("ok") else reply, place)
 
-        self._put(b"notify", record, field, given, replied)
+        self._put(b"notify#", record, field, given, replied)
         return begun
 
     def cancel(self, begun: PutCallback, freed: Callable[[], None]) -> None:

@@ -1,59 +1,10 @@
-"""Which records a database has, of which types, with which fields: found by asking a scratch `ioc DB --console`.
-
-Today's console tells names of records and of fields, and neither types nor kinds. `records`, `fields` and `menu` of `ioc --live` replace
-this module.
-"""
+"""Which records a database has, of which types, with which fields: found by asking a scratch `ioc DB --console`."""
 import subprocess
-from typing import Dict, Iterable, List, Sequence, Tuple
+from typing import IO, Dict, List, Sequence, Tuple
 
-from ..interface import STATE_TEXTS, Field, Kind, Record
+from ..interface import Field, Kind, Record
 
-SEVERITIES = tuple(b"NO_ALARM MINOR MAJOR INVALID".split())
-STATUSES = tuple(
-    b"NO_ALARM READ WRITE HIHI HIGH LOLO LOW STATE COS COMM TIMEOUT HWLIMIT CALC SCAN LINK SOFT BAD_SUB UDF DISABLE SIMM "
-    b"READ_ACCESS WRITE_ACCESS".split()
-)
-_PREFIXES = [name[:2] for name in STATE_TEXTS]
-
-# The choices of menus, by the names of fields.
-_MENUS: Dict[str, Tuple[bytes, ...]] = {
-    "SCAN": (b"Passive", b"Event", b"I/O Intr", b"10 second", b"5 second", b"2 second", b"1 second", b".5 second", b".2 second", b".1 second"),
-    "PINI": (b"NO", b"YES"),
-    "PRIO": (b"LOW", b"MEDIUM", b"HIGH"),
-    "STAT": STATUSES,
-    "NSTA": STATUSES,
-    "OMSL": (b"supervisory", b"closed_loop"),
-    "SELM": (b"All", b"Specified", b"Mask"),
-    "IVOA": (b"Continue normally", b"Don't drive outputs", b"Set output to IVOV"),
-    **dict.fromkeys("DISS UDFS SEVR NSEV HHSV LLSV HSV LSV ZSV OSV COSV UNSV".split(), SEVERITIES),
-    **dict.fromkeys((prefix + "SV" for prefix in _PREFIXES), SEVERITIES),
-}
-# The kinds of fields that hold the same in each type which has them; a field that is in no table is served as a text.
-_KINDS: Dict[str, Kind] = {
-    **dict.fromkeys(("SDIS FLNK INP OUT DOL SELL " + " ".join("LNK" + digit for digit in "0123456789ABCDEF")).split(), Kind.LINK),
-    **dict.fromkeys("PHAS TSE DISV DISA OFFS".split(), Kind.SHORT),
-    **dict.fromkeys("PROC DISP UDF LCNT PACT PUTF RPRO".split(), Kind.UCHAR),
-    **dict.fromkeys("SELN NOBT".split(), Kind.USHORT),
-    **dict.fromkeys(["RVAL", "MASK", *(prefix + "VL" for prefix in _PREFIXES)], Kind.ULONG),
-}
-# The kinds of VAL, and of the fields that hold a value as VAL does.
-_VALUES: Dict[str, Kind] = {
-    **dict.fromkeys(("longin", "longout", "fanout"), Kind.LONG),
-    **dict.fromkeys(("int64in", "int64out"), Kind.INT64),
-    **dict.fromkeys(("bi", "bo", "mbbi", "mbbo"), Kind.STATES),
-}
-_AS_VALUE = set("VAL IVOV LALM HIHI HIGH LOW LOLO HYST ADEL MDEL HOPR LOPR DRVH DRVL".split())
-# What only the record changes.
-_FIXED = set("NAME TIME STAT SEVR NSTA NSEV LCNT PACT PUTF RPRO LALM MASK RTYP".split())
-
-# What is asked of each record; the lines behind the gets are for its scratch copy alone. The number shows whether a number has 64 bits. A
-# put to UDF requests the record; an event record then has UDF 0, and a stringin keeps it, since no link gives a value.
-_TELLING = ("LNK0", "ZRVL", "ZNAM", "HIHI", "OUT")
-_QUESTIONS = (
-    *(f"get \0.{field}" for field in _TELLING),
-    *("put \0.DISP 0", "link \0.INP", "link \0.SDIS", "put \0.DISA 0", "put \0.DISV 1", "put \0.SCAN Passive", "put \0.UDF 1"),
-    *("put \0.HYST 4294967296", "get \0.UDF"),
-)
+_KINDS = {kind.name.lower(): kind for kind in Kind}
 
 
 class ChildError(Exception):
@@ -72,56 +23,60 @@ def lack_of_live(ioc: str) -> str:
     return "it needs an `ioc` with --live, and `ioc --help` doesn't list it"
 
 
-def kind_of(record_type: str, name: str) -> Kind:
-    """Returns what a field of a type holds."""
-    if name in _MENUS or name in _KINDS:
-        return _KINDS.get(name, Kind.MENU)
-    if name == "SHFT":
-        return Kind.SHORT if record_type == "fanout" else Kind.USHORT
-    value = _VALUES.get(record_type, Kind.TEXT) if name in _AS_VALUE else Kind.TEXT
-    return Kind.USHORT if value is Kind.STATES and name != "VAL" else value
+class _Asking:
+    """A console that is asked one line after another."""
+
+    def __init__(self, lines: IO[bytes], replies: IO[bytes]) -> None:
+        self._lines, self._replies = lines, replies
+
+    def ask(self, line: str) -> List[bytes]:
+        """Returns the lines of a reply behind `- `, without the count at their end. EOFError if the program has ended."""
+        self._lines.write(line.encode("latin-1") + b"\n")
+        self._lines.flush()
+        got: List[bytes] = []
+        for reply in self._replies:
+            if not reply.startswith(b"- "):
+                return got
+            got.append(reply[2:-1])
+        raise EOFError
 
 
-def _type_by(replies: Sequence[bytes]) -> str:
-    """Returns the type of the record that has given these replies to the questions."""
-    has = {field: reply.startswith(b"= ") for field, reply in zip(_TELLING, replies)}
-    if has["LNK0"]:
-        return "fanout"
-    if has["ZRVL"] or has["ZNAM"]:
-        return ("mbb" if has["ZRVL"] else "b") + ("o" if has["OUT"] else "i")
-    if not has["HIHI"] and not has["OUT"] and replies[-1] == b"= 0":
-        return "event"
-    number = "int64" if replies[-2] == b"ok" else "long"
-    return (number if has["HIHI"] else "string") + ("out" if has["OUT"] else "in")
+def _fields(asking: _Asking, record_type: str, menus: Dict[str, Tuple[bytes, ...]]) -> Dict[str, Field]:
+    """The fields of a record type. A link is put by a change of the link, so it can be put, though not as a value."""
+    fields = {"RTYP": Field("RTYP", Kind.TEXT, False)}
+    for line in asking.ask(f"fields {record_type}"):
+        name, kind, *more = line.decode().split(" ")
+        menu = more[0] if kind == "menu" else ""
+        if menu and menu not in menus:
+            menus[menu] = tuple(choice.split(b" ", 1)[1] for choice in asking.ask(f"menu {menu}"))
+        fields[name] = Field(name, _KINDS[kind], kind == "link" or more[-1:] == ["put"], menus.get(menu, ()))
+    return fields
 
 
-def _replies(words: Sequence[str], lines: Iterable[str]) -> List[bytes]:
-    """Returns the lines that a console prints for lines."""
-    script = "".join(line + "\n" for line in lines).encode("latin-1")
-    run = subprocess.run([*words, "--console", "--workers", "1"], input=script, capture_output=True, timeout=300)
-    if run.returncode:
-        raise ChildError(run.stderr.decode("utf-8", "replace").strip() or "ioc has ended", run.returncode)
-    return run.stdout.split(b"\n")
+def _records(asking: _Asking) -> Dict[bytes, Record]:
+    """All records, by their names."""
+    types: Dict[str, Dict[str, Field]] = {}
+    menus: Dict[str, Tuple[bytes, ...]] = {}
+    records = {}
+    for line in asking.ask("records"):
+        name, record_type = line.rsplit(b" ", 1)
+        word = record_type.decode()
+        if word not in types:
+            types[word] = _fields(asking, word, menus)
+        records[name] = Record(name, word, types[word])
+    return records
 
 
 def survey(words: Sequence[str]) -> Dict[bytes, Record]:
     """Returns the records of a database by their names. The words are a program `ioc`, the database and macros."""
-    lines = _replies(words, ["dbl"])
-    names = [line.decode("latin-1") for line in lines[: next(at for at, line in enumerate(lines) if line.startswith(b"ok "))]]
-    lines = _replies(words, (question.replace("\0", name) for name in names for question in _QUESTIONS))
-    count = len(_QUESTIONS)
-    types = {name: _type_by(lines[at * count : (at + 1) * count]) for at, name in enumerate(names)}
-    with open(words[1], "rb") as file:  # a text with a line feed would get replies out of step
-        may_have_line_feeds = b"\\n" in file.read() or any("\n" in word or "\\n" in word for word in words)
-    shown = names if may_have_line_feeds else list({record_type: name for name, record_type in types.items()}.values())
-    lines = _replies(words, (f"dbpr {name}" for name in shown))
-    fields: Dict[str, Dict[str, Field]] = {}
-    at = 0
-    for name in shown:
-        end = next((place for place in range(at, len(lines)) if lines[place].startswith(b"ok ")), at)
-        if lines[end] != b"ok %d" % (end - at):
-            raise ChildError(f"a text of {name} has a line feed, which needs an `ioc` with --live", 1)
-        has = [line.split(b":")[0].decode() for line in lines[at:end]] + ["RTYP"]
-        fields[types[name]] = {one: Field(one, kind_of(types[name], one), one not in _FIXED, _MENUS.get(one, ())) for one in has}
-        at = end + 1
-    return {name.encode("latin-1"): Record(name.encode("latin-1"), types[name], fields[types[name]]) for name in names}
+    run = subprocess.Popen([*words, "--console", "--workers", "1"], stdin=subprocess.PIPE, stdout=subprocess.PIPE, stderr=subprocess.PIPE)
+    assert run.stdin is not None and run.stdout is not None
+    records: Dict[bytes, Record] = {}
+    try:
+        records = _records(_Asking(run.stdin, run.stdout))
+    except (EOFError, OSError):
+        pass  # its status and its words say why
+    _, told = run.communicate(timeout=300)
+    if run.returncode:
+        raise ChildError(told.decode("utf-8", "replace").strip() or "ioc has ended", run.returncode)
+    return records

@@ -14,7 +14,7 @@ import unittest
 from typing import List, Tuple
 
 from .. import protocol
-from ..child.survey import kind_of
+from ..child.survey import survey
 from ..client import Client, Refused
 from ..interface import Kind
 from ..protocol import Base, Command, Message, Status, pack
@@ -32,15 +32,17 @@ class Starts(unittest.TestCase):
             file.write('record(longin, "a") { field(HIGHEST, 1) }')
             file.flush()
             run = command(file.name, "--port", str(free_ports(1)[0]))
-        self.assertEqual((run.returncode, run.stdout, run.stderr), (1, "", "ioc-ca: E13 BadDb line 1: unknown field\n"))
+        told = f"ioc-ca: E13 BadDb line 1: unknown field\nioc-check {file.name} says more\n"
+        self.assertEqual((run.returncode, run.stdout, run.stderr), (1, "", told))
 
     def test_a_text_with_a_line_feed(self) -> None:
-        with tempfile.NamedTemporaryFile("w", suffix=".db") as file:
-            file.write('record(stringin, "a") { field(VAL, "$(TEXT)") }\nrecord(stringin, "b") { field(DESC, "a\\\\nb") }')
-            file.flush()
-            for text in ("a\nok 5", "\\n"):
-                run = command(file.name, "--port", str(free_ports(1)[0]), "-m", f"TEXT={text}")
-                self.assertEqual((run.returncode, "a text of a has a line feed" in run.stderr), (1, True))
+        """A text with bytes that end lines, and with what escapes look like, is read as it is."""
+        database = 'record(stringin, "a") { field(VAL, "$(TEXT)") }\nrecord(stringin, "b") { field(DESC, "a\\\\nb\\tc") }'
+        for text, wanted in (("a\nok 5", "a\nok 5"), ("\\n", "\n")):
+            front = Front("-m", f"TEXT={text}", database=database)
+            self.addCleanup(front.clean)
+            client = Client("127.0.0.1", front.port)
+            self.assertEqual((client.read("a")[0], client.read("b.DESC")[0]), (wanted, "a\\nb\tc"))
 
     def test_another_address_and_more_workers(self) -> None:
         front = Front("--interface", "127.0.0.2", "--workers", "3")
@@ -238,18 +240,15 @@ class Names(WithFront):
         self.assertEqual([(one.command, one.elements, one.first) for one in beacons], [(Command.BEACON, front.port, number) for number in range(4)])
 
     def test_kinds_are_those_of_the_rules(self) -> None:
-        """The kinds that the front's table has are compared with those that `ioc-replay` names when it refuses a value."""
+        """The kinds that `ioc` tells are compared with those that `ioc-replay` names when it refuses a value."""
         words = {"Long": Kind.LONG, "ULong": Kind.ULONG, "Short": Kind.SHORT, "UShort": Kind.USHORT, "UChar": Kind.UCHAR, "Int64": Kind.INT64}
-        client = self.client()
+        records = survey([str(BIN / "ioc"), str(self.front.database)])
         compared = 0
         for name in ("li", "lo", "i6", "o6", "b", "bo", "mi", "mo", "si", "so", "ev", "fan"):
-            record_type = client.read(name + ".RTYP")[0]
-            console = [str(BIN / "ioc"), str(self.front.database), "--console", "--workers", "1"]
-            shown = subprocess.run(console, input=f"dbpr {name}\n", text=True, capture_output=True)
-            fields = re.findall(r"^(\w+): ", shown.stdout.split("\nok ")[0], re.M)
-            explained = replay(self.front.database, [f"put {name}.{field} x!" for field in fields], "--explain")
+            fields = records[name.encode()].fields
+            explained = replay(self.front.database, [f"put {name}.{field} x!" for field in fields if field != "RTYP"], "--explain")
             for field, kind in re.findall(r"doesn't fit \S+\.(\w+) \((\w+)", explained.stderr):
                 if kind in words:
-                    self.assertEqual((name, field, kind_of(record_type, field)), (name, field, words[kind]))
+                    self.assertEqual((name, field, fields[field].kind), (name, field, words[kind]))
                     compared += 1
         self.assertGreater(compared, 150)

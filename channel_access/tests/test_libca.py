@@ -333,7 +333,10 @@ class WithLibrary(unittest.TestCase):
         status, told = audit(self.front.database, self.front.journal, "--trace", "so")
         self.assertEqual(status, 0)
         self.assertIn("VAL 17 -> found", told)
-        self.assertRegex(self.front.errors(), r"put so\.VAL 'found' by '\w+' at '[^']+' \(127\.0\.0\.1:\d+\): ok")
+        logged = re.search(r"put so\.VAL 'found' by '\w+' at '[^']+' \(127\.0\.0\.1:\d+\): ok at place (\d+)\n", self.front.errors())
+        assert logged is not None
+        entries = [line.split("\t") for line in self.front.journal.read_text().splitlines()]
+        self.assertIn('"found"', next(entry for entry in entries if entry[0] == logged[1]))
 
 
 if __name__ == "__main__":

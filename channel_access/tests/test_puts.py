@@ -46,11 +46,11 @@ class FairPuts(unittest.TestCase):
         self.ended: List[str] = []
 
     def begin(self, owner: str, count: int) -> List[bool]:
-        return [self.puts.begin(owner, RECORD, FIELD, 1, lambda refusal: self.ended.append(owner)) for _ in range(count)]
+        return [self.puts.begin(owner, RECORD, FIELD, 1, lambda refusal, place: self.ended.append(owner)) for _ in range(count)]
 
     def end_one(self) -> None:
         begun = next(iter(self.ioc.live))
-        self.ioc.live.pop(begun)(None)
+        self.ioc.live.pop(begun)(None, None)
 
     def test_no_client_has_all_places(self) -> None:
         self.begin("greedy", 300)

@@ -4,14 +4,17 @@
 #![tactic(auto)]
 
 use ioc_app::{
-    Args, Console, Mode, Outputs, PROGRAM, Plant, RunFault, Ticks, counting_devices, ioc_args,
-    ioc_run,
+    Args, Console, Header, JournalFile, Mode, Outputs, PROGRAM, Plant, RunFault, SyncedFile, Ticks,
+    counting_devices, database_hash, file_name, ioc_args, ioc_run,
 };
-use ioc_command_line::{Ending, FileRole, Reason, Stage, Stop, given, read_whole, show};
-use ioc_engine::{Database, LoadError, SystemClock, load};
+use ioc_command_line::{
+    Ending, FileRole, Reason, Stage, Stop, bad_database, given, read_whole, show,
+};
+use ioc_engine::{Database, Device, LoadError, SystemClock, load};
+use ioc_values::Short;
 use std::alloc::{Alloc, Global};
 use std::env;
-use std::fs::{File, Files};
+use std::fs::{File, Files, OpenFile};
 use std::io::{self, ErrorKind, IsTerminal, Print, Read, Write};
 use std::process::ExitCode;
 use std::sync::Wait;
@@ -26,34 +29,122 @@ struct Terminal<I: Read + Drop, E: Write + Drop> {
     has_prompt: bool,
 }
 
+// How many names are tried for a file of a folder.
+const NAMES: u64 = 1_000;
+
+// A database, and the hash of its text and macros.
+#[derive(Drop)]
+struct HashedDatabase {
+    database: Database,
+    hash: [u8; 32],
+}
+
 // Loads the database text.
-fn loaded<R: Files + Alloc<A = Global>>(rt: &R, args: &Args<'_>) -> Result<Database, Stop> {
+fn loaded<R: Files + Alloc<A = Global>>(rt: &R, args: &Args<'_>) -> Result<HashedDatabase, Stop> {
     let text = read_whole(rt, FileRole::Database, args.database)?;
     match load(rt.alloc(), &text, &args.macros) {
-        Ok(database) => Ok(database),
-        Err(LoadError::BadDb(fault)) => Err(Stop::BadDb(fault)),
+        Ok(database) => Ok(HashedDatabase {
+            database,
+            hash: database_hash(&text, &args.definitions),
+        }),
+        Err(LoadError::BadDb(fault)) => Err(bad_database(rt.alloc(), args.database, fault)),
         Err(LoadError::NoMemory) => Err(Stop::Memory(Stage::Loading)),
     }
 }
 
-// Creates the file of the journal, if it is kept. A file that is there already is written over only if
-// that is asked for.
-fn journal_of<R: Files + Alloc<A = Global>>(
+// The new file of a journal.
+#[derive(Drop)]
+struct NewFile<F: Drop> {
+    path: String,
+    file: F,
+}
+
+// Creates the file of a journal. A file that is there already is written over only if that is asked
+// for.
+fn new_file<R: Files + Alloc<A = Global>>(
     rt: &R,
-    args: &Args<'_>,
-) -> Result<Option<R::File>, Stop> {
-    let Some(path) = args.journal else {
-        return Ok(None);
-    };
-    let created = if args.overwrites {
+    path: &str,
+    overwrites: bool,
+) -> Result<NewFile<R::File>, Stop> {
+    let created = if overwrites {
         File::create(rt, path)
     } else {
         File::create_new(rt, path)
     };
     match created {
-        Ok(file) => Ok(Some(file)),
+        Ok(file) => Ok(NewFile {
+            path: String::from_str(rt.alloc(), path)?,
+            file,
+        }),
         Err(error) if error.kind() == ErrorKind::AlreadyExists => Err(exists(rt.alloc(), path)),
         Err(error) => Err(unwritable(rt.alloc(), path, Reason::of(&error))),
+    }
+}
+
+// Creates the file of a journal in a folder, whose path ends with `/`. Its name is the moment, or the
+// next one whose name is free.
+fn new_file_in<R: Files + Alloc<A = Global>>(
+    rt: &R,
+    folder: &str,
+    now: u64,
+) -> Result<NewFile<R::File>, Stop> {
+    for moment in now..now.saturating_add(NAMES) {
+        let name = file_name(rt.alloc(), moment)?;
+        let path = format!(in rt.alloc(); "{folder}{name}")?;
+        match new_file(rt, path.as_str(), false) {
+            Err(Stop::Exists(_)) => {}
+            created => return created,
+        }
+    }
+    Err(exists(rt.alloc(), folder))
+}
+
+// Creates the file of the journal, if it is kept.
+fn journal_of<R: Files + Alloc<A = Global>>(
+    rt: &R,
+    args: &Args<'_>,
+    now: u64,
+) -> Result<Option<NewFile<R::File>>, Stop> {
+    match args.journal {
+        None => Ok(None),
+        Some(path) if path.ends_with('/') => Ok(Some(new_file_in(rt, path, now)?)),
+        Some(path) => Ok(Some(new_file(rt, path, args.overwrites)?)),
+    }
+}
+
+// Returns the first line of a journal.
+fn header_of(args: &Args<'_>, hash: [u8; 32]) -> Header {
+    Header {
+        program: Short::cut(PROGRAM.version.as_bytes()),
+        database: hash,
+        is_sealed: args.seals,
+        first: 0,
+    }
+}
+
+// Returns another handle of a file whose last bytes are to reach the disk.
+fn handle_of<F: OpenFile + Drop>(
+    alloc: Global,
+    created: &NewFile<F>,
+    args: &Args<'_>,
+) -> Result<Option<F>, Stop> {
+    if !args.syncs {
+        return Ok(None);
+    }
+    match created.file.try_clone() {
+        Ok(handle) => Ok(Some(handle)),
+        Err(error) => Err(unwritable(alloc, created.path.as_str(), Reason::of(&error))),
+    }
+}
+
+// Brings the last bytes of a file to the disk.
+fn sync<F: OpenFile + Drop>(alloc: Global, handle: Option<F>, path: &str) -> Result<(), Stop> {
+    let Some(file) = handle else {
+        return Ok(());
+    };
+    match file.sync_all() {
+        Ok(()) => Ok(()),
+        Err(error) => Err(unwritable(alloc, path, Reason::of(&error))),
     }
 }
 
@@ -82,11 +173,11 @@ fn unreadable(alloc: Global, reason: Reason) -> Stop {
 }
 
 // Returns why the program stops if its run has ended early.
-fn stop_of(alloc: Global, fault: RunFault, args: &Args<'_>) -> Stop {
+fn stop_of(alloc: Global, fault: RunFault, journal: &str) -> Stop {
     match fault {
         RunFault::Read(reason) => unreadable(alloc, reason),
         RunFault::Write(reason) => Stop::Write(reason),
-        RunFault::Journal(reason) => unwritable(alloc, args.journal.unwrap_or(""), reason),
+        RunFault::Journal(reason) => unwritable(alloc, journal, reason),
         RunFault::Start => Stop::Memory(Stage::Loading),
         RunFault::Memory => Stop::Memory(Stage::Run),
     }
@@ -106,6 +197,37 @@ fn console_of<I: Read + Drop, E: Write + Drop>(
     Ok(Console::new(alloc, database, input, errors, has_prompt)?)
 }
 
+// Does the task of a mode.
+fn do_task<
+    R: Threads + Wait + Sync,
+    D: Device + Send + Sync,
+    C: ioc_engine::Clock + Drop + Send + Sync,
+    I: Read + Drop,
+    E: Write + Drop,
+    W: Write + Drop,
+    J: Write + Drop,
+>(
+    rt: &R,
+    alloc: Global,
+    plant: Plant<D, C>,
+    mode: Mode,
+    console: &mut Console<I, E>,
+    outputs: Outputs<W, J>,
+) -> Result<(), RunFault> {
+    match mode {
+        Mode::Ticks(count) => ioc_run(rt, alloc, plant, &mut Ticks(count), outputs),
+        Mode::Console => ioc_run(rt, alloc, plant, console, outputs),
+    }
+}
+
+// Returns what comes of a run whose journal has this path.
+fn ran(alloc: Global, done: Result<(), RunFault>, journal: &str) -> Result<(), Stop> {
+    match done {
+        Ok(()) => Ok(()),
+        Err(fault) => Err(stop_of(alloc, fault, journal)),
+    }
+}
+
 // Runs what the words of the command line ask for.
 fn work<
     R: Alloc<A = Global> + Clock + Files + Print + Threads + Wait + Sync,
@@ -113,7 +235,7 @@ fn work<
     E: Write + Drop,
 >(rt: &R, args: &Args<'_>, terminal: Terminal<I, E>) -> Result<(), Stop> {
     let alloc = rt.alloc();
-    let database = loaded(rt, args)?;
+    let HashedDatabase { database, hash } = loaded(rt, args)?;
     let mut console = console_of(alloc, &database, terminal)?;
     let plant = Plant {
         devices: counting_devices(alloc, &database)?,
@@ -121,18 +243,32 @@ fn work<
         clock: SystemClock::new(rt),
         workers: args.workers,
     };
+    let created = journal_of(rt, args, ioc_engine::Clock::now(&plant.clock))?;
+    let Some(created) = created else {
+        let outputs = Outputs {
+            lines: io::writer(rt),
+            journal: None::<JournalFile<SyncedFile<'_, R>>>,
+        };
+        return ran(
+            alloc,
+            do_task(rt, alloc, plant, args.mode, &mut console, outputs),
+            "",
+        );
+    };
+    let handle = handle_of(alloc, &created, args)?;
+    let NewFile { path, file } = created;
+    let journal = JournalFile {
+        file: SyncedFile::new(rt, file, args.syncs),
+        header: header_of(args, hash),
+    };
     let outputs = Outputs {
         lines: io::writer(rt),
-        journal: journal_of(rt, args)?,
+        journal: Some(journal),
     };
-    let ran = match args.mode {
-        Mode::Ticks(count) => ioc_run(rt, alloc, plant, &mut Ticks(count), outputs),
-        Mode::Console => ioc_run(rt, alloc, plant, &mut console, outputs),
-    };
-    match ran {
-        Ok(()) => Ok(()),
-        Err(fault) => Err(stop_of(alloc, fault, args)),
-    }
+    let done = do_task(rt, alloc, plant, args.mode, &mut console, outputs);
+    let synced = sync(alloc, handle, path.as_str());
+    ran(alloc, done, path.as_str())?;
+    synced
 }
 
 // Does what the words of the command line ask for.

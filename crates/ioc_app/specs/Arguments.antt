@@ -29,9 +29,9 @@ file_option_rule name = record (new_rule name) { long = Some name; value_names =
 -- The arguments of the program.
 unfoldable pub ioc_words : App
 ioc_words =
-    with_rule (with_rule (with_rule (with_rule (with_rule (with_rule (with_rule (with_rule (program_app (codes "ioc"))
+    with_rule (with_rule (with_rule (with_rule (with_rule (with_rule (with_rule (with_rule (with_rule (with_rule (program_app (codes "ioc"))
     (file_rule (codes "DB"))) ticks_rule) (flag_rule (codes "console"))) workers_rule)
-    (file_option_rule (codes "journal"))) (flag_rule (codes "overwrite"))) definitions_rule) macros_rule
+    (file_option_rule (codes "journal"))) (flag_rule (codes "overwrite"))) (flag_rule (codes "seal"))) (flag_rule (codes "sync"))) definitions_rule) macros_rule
 
 -- The number that the first value of an option has, which lies between 1 and `most`.
 pub record IsNumber (rows : List Row) (id : Text) (most : ℕ) (number : ℕ) : Type 0 where
@@ -53,6 +53,8 @@ pub record IsAskedBy (rows : List Row) (args : Args) : Type 0 where
   pub workers : IsNumber rows (codes "workers") 64 args.workers
   pub journal : first_of (codes "journal") rows ≡ option_map (λ s. s.now) args.journal
   pub overwrites : args.overwrites ≡ is_true (first_of (codes "overwrite") rows)
+  pub seals : args.seals ≡ is_true (first_of (codes "seal") rows)
+  pub syncs : args.syncs ≡ is_true (first_of (codes "sync") rows)
   pub macros : all_defined [] (definitions_in rows) ≡ Some args.macros
 
 -- The same of the words, by what the program makes of them.

@@ -9,8 +9,8 @@ ghost use Rattle.ioc_app.specs.declared.arguments.Mode.TheVariants.{Ticks};
 use clap::builder::ValueParser;
 use clap::{Arg, ArgMatches, Command};
 use ioc_command_line::{
-    Program, Stop, UsageFault, definitions_argument, file_argument, flag, is_given, macros_in,
-    macros_option, parse,
+    Program, Stop, UsageFault, definitions_argument, definitions_in, file_argument, flag, is_given,
+    macros_in, macros_option, parse,
 };
 use ioc_dblex::Macros;
 use std::alloc::{AllocError, Global};
@@ -54,6 +54,10 @@ const JOURNAL: &str = "journal";
 
 const OVERWRITE: &str = "overwrite";
 
+const SEAL: &str = "seal";
+
+const SYNC: &str = "sync";
+
 /// What the program does with the records.
 #[derive(Clone, Copy, Debug, PartialEq, Eq)]
 pub enum Mode {
@@ -77,10 +81,17 @@ pub struct Args<'a> {
     pub mode: Mode,
     /// From 1 to [`MAX_WORKERS`].
     pub workers: u64,
-    /// The path of the file to which the journal is written.
+    /// The path of the file to which the journal is written, or of the folder, with `/` at its end, in
+    /// which it is a new file.
     pub journal: Option<&'a str>,
     /// Whether a file that is there already may be written over.
     pub overwrites: bool,
+    /// Whether the journal has seals.
+    pub seals: bool,
+    /// Whether what is written to the journal is to reach the disk within a second.
+    pub syncs: bool,
+    /// The definitions of macros, each behind a byte 0.
+    pub definitions: Vec<u8>,
 }
 
 // Returns the option of a number from 1 to `most`.
@@ -140,8 +151,18 @@ fn command<'a>(alloc: Global) -> Result<Command<'a>, AllocError>
             "answers the lines of standard input, in place of ticks",
         ))?
         .arg(workers_option(alloc))?
-        .arg(file_option(alloc, JOURNAL, "the journal is written to this new file"))?
+        .arg(file_option(
+            alloc,
+            JOURNAL,
+            "the journal is written to this new file, or to a new one in this folder if it ends with /",
+        ))?
         .arg(flag(alloc, OVERWRITE, "the journal's file may be there already"))?
+        .arg(flag(
+            alloc,
+            SEAL,
+            "the journal has seals, which ioc-audit compares",
+        ))?
+        .arg(flag(alloc, SYNC, "the journal is on the disk within a second"))?
         .arg(definitions_argument(alloc))?
         .arg(macros_option(alloc))
 }
@@ -179,6 +200,7 @@ fn read<'a>(alloc: Global, matches: &ArgMatches<'a>) -> Result<Args<'a>, Stop>
     let mode = mode_in(matches)?;
     let workers = number_in(matches, WORKERS, MAX_WORKERS)?;
     let macros = macros_in(alloc, matches)?;
+    let definitions = definitions_in(alloc, matches)?;
     Ok(Args {
         database,
         macros,
@@ -186,11 +208,14 @@ fn read<'a>(alloc: Global, matches: &ArgMatches<'a>) -> Result<Args<'a>, Stop>
         workers,
         journal: matches.get_str(JOURNAL),
         overwrites: is_given(matches, OVERWRITE),
+        seals: is_given(matches, SEAL),
+        syncs: is_given(matches, SYNC),
+        definitions,
     })
 }
 
 /// Reads the words of a command line, of which the first is the program's name: DB, `--ticks N` or
-/// `--console`, `--workers W`, `--journal FILE`, `--overwrite`, and definitions of macros, as `NAME=VALUE`, `P=a,R=b`, or with
+/// `--console`, `--workers W`, `--journal FILE`, `--overwrite`, `--seal`, `--sync`, and definitions of macros, as `NAME=VALUE`, `P=a,R=b`, or with
 /// `-m` before them.
 ///
 /// # Errors

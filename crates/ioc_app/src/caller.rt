@@ -2,7 +2,8 @@
 use crate::fault::RunFault;
 use crate::task::tick;
 use ioc_engine::{
-    Channel, Clock, Desk, Device, Engine, EngineName, FieldText, Input, IocError, NotifyId, Reply,
+    Channel, Clock, Desk, Device, Engine, EngineName, FieldSeen, FieldText, Input, IocError,
+    NotifyId, Reply,
 };
 use ioc_fields::{FieldNo, name_of};
 use ioc_scan::Period;
@@ -51,7 +52,7 @@ pub struct Caller<'e, B: EngineName<D>, D: Device, C: Drop, R> {
     pub desk: &'e mut Desk<B, D>,
 }
 
-// The text of a channel. A line has 1,024 bytes at most.
+// The text of a channel. A name that is too long for any record stays too long when it is cut.
 fn channel_text(record: &[u8], field: &[u8]) -> ByteBuffer<1025> {
     let mut text = ByteBuffer::new();
     text.extend_cut(record);
@@ -86,6 +87,16 @@ impl<'e, B: EngineName<D>, D: Device, C: Clock + Drop, R: Wait> Caller<'e, B, D,
         self.get(record, name_of(field).as_bytes())
     }
 
+    /// Looks at fields of a record, all at one moment. That is no call.
+    ///
+    /// # Errors
+    ///
+    /// As [`Engine::record`] and [`Engine::look`].
+    pub fn look(&mut self, record: &[u8], fields: &[FieldNo]) -> Result<Vec<FieldSeen>, LineFault> {
+        let number = self.engine.record(record)?;
+        Ok(self.engine.look(self.rt, self.desk, number, fields)?)
+    }
+
     /// Puts a text into a field.
     ///
     /// # Errors
@@ -96,6 +107,39 @@ impl<'e, B: EngineName<D>, D: Device, C: Clock + Drop, R: Wait> Caller<'e, B, D,
         let given = Input::from_text(text);
         let (reply, _receipt) = self.engine.put(self.rt, self.desk, channel, given)?;
         Ok(reply)
+    }
+
+    /// Puts a value into a field. Returns the reply, and the place of the call in the journal.
+    ///
+    /// # Errors
+    ///
+    /// As [`Engine::channel`] and [`Engine::put`].
+    pub fn put_placed(
+        &mut self,
+        record: &[u8],
+        field: &[u8],
+        given: Input,
+    ) -> Result<(Reply, u64), LineFault> {
+        let channel = self.channel(record, field)?;
+        let (reply, receipt) = self.engine.put(self.rt, self.desk, channel, given)?;
+        Ok((reply, receipt.place()))
+    }
+
+    /// Puts a value into a field with notification. Returns the reply, and the place of the call in
+    /// the journal.
+    ///
+    /// # Errors
+    ///
+    /// As [`Engine::channel`] and [`Engine::put_notify`].
+    pub fn notify_placed(
+        &mut self,
+        record: &[u8],
+        field: &[u8],
+        given: Input,
+    ) -> Result<(Reply, u64), LineFault> {
+        let channel = self.channel(record, field)?;
+        let (reply, receipt) = self.engine.put_notify(self.rt, self.desk, channel, given)?;
+        Ok((reply, receipt.place()))
     }
 
     /// Puts a text into a field with notification.

@@ -2,14 +2,18 @@
 use crate::caller::{Caller, LineFault};
 use crate::fault::RunFault;
 use crate::journal::JournalWriter;
-use crate::listing::{RecordList, add_count, add_field, add_reply, add_shown};
+use crate::kinds::{add_choices, add_kinds, given_by};
+use crate::listing::{
+    RecordList, add_count, add_field, add_placed, add_reply, add_shown, add_tagged,
+};
+use crate::reading::Wanted;
 use crate::streams::{Noted, Streams, write_entries};
 use crate::task::Task;
 use ioc_command_line::Reason;
-use ioc_commands::{Command, Dialect, Help, Request};
-use ioc_engine::{Clock, Database, Desk, Device, Engine, EngineName, IocError, Reply};
+use ioc_commands::{BadLine, Command, Dialect, Help, Request, Tagged};
+use ioc_engine::{Clock, Database, Desk, Device, Engine, EngineName, Input, IocError, Reply};
 use ioc_fields::field_list::fields;
-use ioc_fields::row_of;
+use ioc_fields::{RecordType, row_of};
 use ioc_main::{PROMPT, PendingOutput, ScriptFault, Session, ended_line, run_script};
 use std::alloc::{AllocError, Global};
 use std::io::{Read, Write};
@@ -28,12 +32,29 @@ pub struct Console<I: Read + Drop, E: Write + Drop> {
 struct Answerer<E: Write + Drop> {
     // Where the number of the line of each refusal is written.
     errors: E,
-    // If there is a prompt, numbers of lines aren't written.
+    // If there is a prompt, numbers of lines aren't written, and a line that asks for nothing is
+    // explained behind its reply.
     has_prompt: bool,
+    // Whether the line has a tag. Then neither is done.
+    is_tagged: bool,
     records: RecordList,
     // The number of the line, from 1 on, and that of the last tick.
     line: u64,
     tick: u64,
+}
+
+// What is said to a line: its reply, and the lines that come behind it without a tag.
+#[derive(Drop)]
+struct Answer {
+    reply: Vec<u8>,
+    behind: Vec<u8>,
+}
+
+impl Answer {
+    fn clear(&mut self) {
+        self.reply.clear();
+        self.behind.clear();
+    }
 }
 
 // What is to be done after a line.
@@ -58,8 +79,8 @@ struct Talk<
     answerer: &'a mut Answerer<E>,
     caller: Caller<'a, B, D, C, R>,
     journal: &'a mut Option<JournalWriter<J>>,
-    // The reply to a line.
-    said: Vec<u8>,
+    // What is said to the line.
+    answer: Answer,
     has_ended: bool,
     fault: Option<RunFault>,
 }
@@ -83,6 +104,7 @@ impl<I: Read + Drop, E: Write + Drop> Console<I, E> {
             answerer: Answerer {
                 errors,
                 has_prompt,
+                is_tagged: false,
                 records: RecordList::new(alloc, database)?,
                 line: 0,
                 tick: 0,
@@ -95,7 +117,7 @@ impl<E: Write + Drop> Answerer<E> {
     // Writes the number of the line and what was wrong with it. If it can't be written, nothing
     // else changes.
     fn tell(&mut self, alloc: Global, words: &str) -> Result<(), AllocError> {
-        if self.has_prompt {
+        if self.has_prompt || self.is_tagged {
             return Ok(());
         }
         let number = self.line;
@@ -115,10 +137,34 @@ impl<E: Write + Drop> Answerer<E> {
         self.tell(alloc, refused.words())
     }
 
-    // Appends the reply to a line that is none of the console.
-    fn say_bad(&mut self, alloc: Global, said: &mut Vec<u8>) -> Result<(), AllocError> {
+    // Appends the reply to a line that is none of the console, and at a prompt what is wrong with it.
+    fn say_bad(
+        &mut self,
+        alloc: Global,
+        line: &[u8],
+        said: &mut Vec<u8>,
+    ) -> Result<(), AllocError> {
         said.extend_from_slice(b"bad\n")?;
+        if self.has_prompt && !self.is_tagged {
+            let why = format!(in alloc; "{}\n", BadLine::of(Dialect::Console, line))?;
+            said.extend_from_slice(why.as_bytes())?;
+        }
         self.tell(alloc, "bad")
+    }
+
+    // Appends the reply to a call of a program, with the call's place in the journal.
+    fn say_placed(
+        &mut self,
+        alloc: Global,
+        answered: (Reply, u64),
+        said: &mut Vec<u8>,
+    ) -> Result<(), AllocError> {
+        let (reply, place) = answered;
+        add_placed(alloc, said, &reply, place)?;
+        match reply {
+            Reply::Refused(refused) => self.tell(alloc, refused.words()),
+            _ => Ok(()),
+        }
     }
 
     // Walks the periods of so many ticks.
@@ -160,21 +206,29 @@ impl<E: Write + Drop> Answerer<E> {
     }
 }
 
+// Appends a line for each put with notification that has ended by the last call.
+fn add_ended<B: EngineName<D>, D: Device, C: Clock + Drop, R: Wait>(
+    caller: &Caller<'_, B, D, C, R>,
+    behind: &mut Vec<u8>,
+) -> Result<(), AllocError> {
+    for number in caller.desk.ended() {
+        behind.extend_from_slice(ended_line(*number).as_slice())?;
+    }
+    Ok(())
+}
+
 // Appends the line of a reply and one for each put with notification that has ended by its call, or
 // returns the refusal.
 fn say<B: EngineName<D>, D: Device, C: Clock + Drop, R: Wait>(
     caller: &Caller<'_, B, D, C, R>,
     reply: Reply,
-    said: &mut Vec<u8>,
+    answer: &mut Answer,
 ) -> Result<(), LineFault> {
     if let Reply::Refused(refused) = reply {
         return Err(LineFault::from(refused));
     }
-    add_reply(said, &reply)?;
-    for number in caller.desk.ended() {
-        said.extend_from_slice(ended_line(*number).as_slice())?;
-    }
-    Ok(())
+    add_reply(&mut answer.reply, &reply)?;
+    Ok(add_ended(caller, &mut answer.behind)?)
 }
 
 // Makes the call that a line of a script asks for, if its answer is a reply.
@@ -207,32 +261,49 @@ fn count_for<B: EngineName<D>, D: Device, C: Clock + Drop, R: Wait>(
     Ok(Some(count))
 }
 
+// Makes the put of a program with this value, if a line asks for one. Returns the reply and the place
+// of the call.
+fn placed_by<B: EngineName<D>, D: Device, C: Clock + Drop, R: Wait>(
+    caller: &mut Caller<'_, B, D, C, R>,
+    request: &Request<'_>,
+    given: Input,
+) -> Result<Option<(Reply, u64)>, LineFault> {
+    match *request {
+        Request::PutPlaced(record, field, _) => Ok(Some(caller.put_placed(record, field, given)?)),
+        Request::NotifyPlaced(record, field, _) => {
+            Ok(Some(caller.notify_placed(record, field, given)?))
+        }
+        _ => Ok(None),
+    }
+}
+
 impl<E: Write + Drop> Answerer<E> {
     // Does what a line of a script asks for, and appends its reply.
     fn do_script<B: EngineName<D>, D: Device, C: Clock + Drop, R: Wait>(
         &mut self,
         caller: &mut Caller<'_, B, D, C, R>,
+        line: &[u8],
         command: &Command<'_>,
-        said: &mut Vec<u8>,
+        answer: &mut Answer,
     ) -> Result<(), LineFault> {
         match *command {
             Command::Silent => return Ok(()),
             Command::Get(record, field) => {
                 let text = caller.get(record, field)?;
-                return Ok(add_shown(said, text.as_slice())?);
+                return Ok(add_shown(&mut answer.reply, text.as_slice())?);
             }
             Command::Sets => {
                 let sets = caller.engine.parts(caller.rt, caller.desk)?;
-                return Ok(self.records.add_sets(said, sets.as_slice())?);
+                return Ok(self.records.add_sets(&mut answer.reply, sets.as_slice())?);
             }
             _ => {}
         }
         if let Some(reply) = reply_to(caller, command)? {
-            return say(caller, reply, said);
+            return say(caller, reply, answer);
         }
         match count_for(caller, command)? {
-            Some(count) => Ok(add_count(said, count)?),
-            None => Ok(self.say_bad(caller.alloc, said)?),
+            Some(count) => Ok(add_count(&mut answer.reply, count)?),
+            None => Ok(self.say_bad(caller.alloc, line, &mut answer.reply)?),
         }
     }
 
@@ -247,37 +318,170 @@ impl<E: Write + Drop> Answerer<E> {
         }
     }
 
+    // Makes the put of a program, and appends its reply.
+    fn do_placed<B: EngineName<D>, D: Device, C: Clock + Drop, R: Wait>(
+        &mut self,
+        caller: &mut Caller<'_, B, D, C, R>,
+        line: &[u8],
+        request: &Request<'_>,
+        answer: &mut Answer,
+    ) -> Result<(), LineFault> {
+        let (Request::PutPlaced(record, field, text) | Request::NotifyPlaced(record, field, text)) =
+            *request
+        else {
+            return Ok(());
+        };
+        let number = caller.engine.record(record)?;
+        let Some(given) = given_by(self.records.record_type(number), field, text)? else {
+            return Ok(self.say_bad(caller.alloc, line, &mut answer.reply)?);
+        };
+        let Some(answered) = placed_by(caller, request, given)? else {
+            return Ok(());
+        };
+        self.say_placed(caller.alloc, answered, &mut answer.reply)?;
+        Ok(add_ended(caller, &mut answer.behind)?)
+    }
+
+    // Appends the names of the records that a type, a pattern, or both stand for.
+    fn list(
+        &mut self,
+        alloc: Global,
+        line: &[u8],
+        word: &[u8],
+        pattern: Option<&[u8]>,
+        said: &mut Vec<u8>,
+    ) -> Result<(), AllocError> {
+        let count = match (RecordType::from_name(word), pattern) {
+            (None, None) => self.records.add_names(said, None, word)?,
+            (None, Some(_)) => return self.say_bad(alloc, line, said),
+            (wanted, pattern) => self
+                .records
+                .add_names(said, wanted, pattern.unwrap_or(b"*"))?,
+        };
+        add_count(said, count)
+    }
+
+    // Appends the line of fields of a record, all of one moment.
+    fn read<B: EngineName<D>, D: Device, C: Clock + Drop, R: Wait>(
+        &mut self,
+        caller: &mut Caller<'_, B, D, C, R>,
+        name: &[u8],
+        words: &[u8],
+        said: &mut Vec<u8>,
+    ) -> Result<(), LineFault> {
+        let number = caller.engine.record(name)?;
+        let Some(record_type) = self.records.record_type(number) else {
+            return Err(LineFault::Refused(IocError::NoRecord));
+        };
+        let wanted = Wanted::of(caller.alloc, record_type, words)?;
+        let shown = caller.look(name, wanted.fields.as_slice())?;
+        Ok(wanted.add_line(caller.alloc, said, shown.as_slice())?)
+    }
+
+    // Appends what programs ask about records, record types and menus.
+    fn describe(
+        &mut self,
+        alloc: Global,
+        request: &Request<'_>,
+        said: &mut Vec<u8>,
+    ) -> Result<(), LineFault> {
+        let count = match *request {
+            Request::Fields(name) => match RecordType::from_name(name) {
+                Some(record_type) => add_kinds(said, record_type)?,
+                None => return Err(LineFault::Refused(IocError::BadValue)),
+            },
+            Request::Choices(name) => match add_choices(alloc, said, name)? {
+                Some(count) => count,
+                None => return Err(LineFault::Refused(IocError::BadValue)),
+            },
+            _ => self.records.add_types(said)?,
+        };
+        Ok(add_count(said, count)?)
+    }
+
+    // Appends a line for each command, and `ok`.
+    fn help(alloc: Global, said: &mut Vec<u8>) -> Result<(), AllocError> {
+        let help = format!(in alloc; "{}", Help(Dialect::Console))?;
+        said.extend_from_slice(help.as_bytes())?;
+        add_reply(said, &Reply::Plain)
+    }
+
     // Does what a line asks for, appends its reply, and returns whether the console goes on.
     fn carry_out<B: EngineName<D>, D: Device, C: Clock + Drop, J: Write + Drop, R: Wait>(
         &mut self,
         caller: &mut Caller<'_, B, D, C, R>,
         line: &[u8],
-        said: &mut Vec<u8>,
+        answer: &mut Answer,
         journal: &mut Option<JournalWriter<J>>,
     ) -> Result<Then, LineFault> {
-        match Request::from_line(Dialect::Console, line) {
-            Request::Command(command) => self.do_script(caller, &command, said)?,
-            Request::Tick(count) => add_count(said, self.walk(caller, count, journal)?)?,
+        let request = Request::from_line(Dialect::Console, line);
+        match request {
+            Request::Command(command) => self.do_script(caller, line, &command, answer)?,
+            Request::Tick(count) => {
+                add_count(&mut answer.reply, self.walk(caller, count, journal)?)?
+            }
             Request::Checkpoint => {
                 Self::checkpoint(caller, journal)?;
-                add_reply(said, &Reply::Plain)?;
+                add_reply(&mut answer.reply, &Reply::Plain)?;
             }
-            Request::List(pattern) => {
-                let count = self.records.add_names(said, pattern)?;
-                add_count(said, count)?;
+            Request::List(word, pattern) => {
+                self.list(caller.alloc, line, word, pattern, &mut answer.reply)?
             }
             Request::Show(name) => {
-                let count = self.add_fields(caller, name, said)?;
-                add_count(said, count)?;
+                let count = self.add_fields(caller, name, &mut answer.reply)?;
+                add_count(&mut answer.reply, count)?;
             }
-            Request::Help => {
-                let help = format!(in caller.alloc; "{}", Help(Dialect::Console))?;
-                said.extend_from_slice(help.as_bytes())?;
-                add_reply(said, &Reply::Plain)?;
+            Request::PutPlaced(_, _, _) | Request::NotifyPlaced(_, _, _) => {
+                self.do_placed(caller, line, &request, answer)?
             }
+            Request::Read(name, words) => { self.read(caller, name, words, &mut answer.reply)? }
+            Request::Records | Request::Fields(_) | Request::Choices(_) => {
+                self.describe(caller.alloc, &request, &mut answer.reply)?
+            }
+            Request::Help => Self::help(caller.alloc, &mut answer.reply)?,
             Request::Exit => return Ok(Then::End),
         }
         Ok(Then::More)
+    }
+
+    // Answers a line without its tag, and returns whether the console goes on.
+    fn answer_untagged<B: EngineName<D>, D: Device, C: Clock + Drop, J: Write + Drop, R: Wait>(
+        &mut self,
+        caller: &mut Caller<'_, B, D, C, R>,
+        line: &[u8],
+        answer: &mut Answer,
+        journal: &mut Option<JournalWriter<J>>,
+    ) -> Result<Then, RunFault> {
+        match self.carry_out(caller, line, answer, journal) {
+            Ok(then) => Ok(then),
+            Err(LineFault::Refused(refused)) => {
+                self.refuse(caller.alloc, refused, &mut answer.reply)?;
+                Ok(Then::More)
+            }
+            Err(LineFault::Run(fault)) => Err(fault),
+        }
+    }
+
+    // Answers a line with this tag. A line for which nothing is said is answered `ok`.
+    fn answer_tagged<B: EngineName<D>, D: Device, C: Clock + Drop, J: Write + Drop, R: Wait>(
+        &mut self,
+        caller: &mut Caller<'_, B, D, C, R>,
+        tag: &[u8],
+        line: &[u8],
+        answer: &mut Answer,
+        journal: &mut Option<JournalWriter<J>>,
+    ) -> Result<Then, RunFault> {
+        self.is_tagged = true;
+        let answered = self.answer_untagged(caller, line, answer, journal);
+        self.is_tagged = false;
+        let then = answered?;
+        if answer.reply.is_empty() && matches!(then, Then::More) {
+            add_reply(&mut answer.reply, &Reply::Plain)?;
+        }
+        let mut tagged = Vec::new(caller.alloc);
+        add_tagged(&mut tagged, tag, answer.reply.as_slice())?;
+        answer.reply = tagged;
+        Ok(then)
     }
 
     // Answers a line, and returns whether the console goes on.
@@ -285,17 +489,17 @@ impl<E: Write + Drop> Answerer<E> {
         &mut self,
         caller: &mut Caller<'_, B, D, C, R>,
         line: &[u8],
-        said: &mut Vec<u8>,
+        answer: &mut Answer,
         journal: &mut Option<JournalWriter<J>>,
     ) -> Result<Then, RunFault> {
         self.line = self.line.saturating_add(1);
-        match self.carry_out(caller, line, said, journal) {
-            Ok(then) => Ok(then),
-            Err(LineFault::Refused(refused)) => {
-                self.refuse(caller.alloc, refused, said)?;
+        match Tagged::of(line) {
+            Tagged::Plain(line) => self.answer_untagged(caller, line, answer, journal),
+            Tagged::Tag(tag, line) => self.answer_tagged(caller, tag, line, answer, journal),
+            Tagged::Malformed => {
+                self.say_bad(caller.alloc, line, &mut answer.reply)?;
                 Ok(Then::More)
             }
-            Err(LineFault::Run(fault)) => Err(fault),
         }
     }
 }
@@ -357,7 +561,10 @@ fn converse<
         answerer,
         caller,
         journal,
-        said: Vec::new(alloc),
+        answer: Answer {
+            reply: Vec::new(alloc),
+            behind: Vec::new(alloc),
+        },
         has_ended: false,
         fault: None,
     };
@@ -408,11 +615,11 @@ impl<
 
     /// Answers a line. After a fault of its call no more lines are answered.
     fn answer(&mut self, line: &[u8], said: &mut PendingOutput) -> Result<(), AllocError> {
-        self.said.clear();
+        self.answer.clear();
         let caller = &mut self.caller;
         match self
             .answerer
-            .answer(caller, line, &mut self.said, self.journal)
+            .answer(caller, line, &mut self.answer, self.journal)
         {
             Ok(Then::More) => {}
             Ok(Then::End) => self.has_ended = true,
@@ -422,7 +629,9 @@ impl<
                 return Ok(());
             }
         }
-        said.add(self.said.as_slice())
+        let Answer { reply, behind } = &mut self.answer;
+        reply.extend_from_slice(behind.as_slice())?;
+        said.add(reply.as_slice())
     }
 
     /// Writes the entries of the journal that the pending replies tell of, and those before them.

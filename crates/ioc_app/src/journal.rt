@@ -1,11 +1,13 @@
 //! The journal's file.
 use crate::fault::RunFault;
+use crate::journal_text::JournalText;
 use crate::running::PLACES;
 use ioc_command_line::Reason;
-use ioc_engine::{Desk, Device, Engine, EngineName, Excerpt, JournalEntry, Report};
-use ioc_journal_file::{add_entries, add_entry};
+use ioc_engine::{Desk, Device, Engine, EngineName, JournalEntry, Report};
+use ioc_journal_lines::Header;
 use std::alloc::Global;
 use std::io::Write;
+use std::slice;
 use std::sync::Wait;
 
 // How many bytes of lines are written at once.
@@ -22,9 +24,7 @@ const COPIES: u64 = PLACES / 64;
 pub struct JournalWriter<J: Write + Drop> {
     out: J,
     // The lines that aren't written yet.
-    text: Vec<u8>,
-    // The place of the next entry.
-    place: u64,
+    text: JournalText,
     // The place of the first entry since the last checkpoint.
     kept: u64,
     // The largest number of entries that stay in memory after a tick.
@@ -32,23 +32,35 @@ pub struct JournalWriter<J: Write + Drop> {
 }
 
 impl<J: Write + Drop> JournalWriter<J> {
-    /// Creates a writer that has written no entry. If more than `most` entries are in memory after a
-    /// tick, it drops them.
-    pub fn new(alloc: Global, out: J, most: u64) -> Self {
-        JournalWriter {
+    /// Creates a writer that has written this header. If more than `most` entries are in memory after
+    /// a tick, it drops them.
+    ///
+    /// # Errors
+    ///
+    /// [`RunFault::Journal`] if a write fails. [`RunFault::Memory`] if allocation fails.
+    pub fn begin(alloc: Global, out: J, header: &Header, most: u64) -> Result<Self, RunFault> {
+        let mut writer = JournalWriter {
             out,
-            text: Vec::new(alloc),
-            place: 0,
-            kept: 0,
+            text: JournalText::begin(alloc, header)?,
+            kept: header.first,
             most,
-        }
+        };
+        writer.flush(false)?;
+        Ok(writer)
     }
 
-    // Writes the lines that aren't written yet. If that fails, they are left out.
-    fn flush(&mut self) -> Result<(), RunFault> {
-        let written = self.out.write_all(&self.text);
+    // Writes the lines that aren't written yet, with a seal behind them if one is due. If that fails,
+    // they are left out.
+    fn flush(&mut self, is_last: bool) -> Result<(), RunFault> {
+        let written = match self.text.seal(is_last) {
+            Ok(()) => self.out.write_all(self.text.lines()),
+            Err(error) => return Err(RunFault::from(error)),
+        };
         self.text.clear();
-        match written {
+        if let Err(error) = written {
+            return Err(RunFault::Journal(Reason::of(&error)));
+        }
+        match self.out.flush() {
             Ok(()) => Ok(()),
             Err(error) => Err(RunFault::Journal(Reason::of(&error))),
         }
@@ -56,32 +68,15 @@ impl<J: Write + Drop> JournalWriter<J> {
 
     // Writes the lines that aren't written yet if there are many.
     fn flush_many(&mut self) -> Result<(), RunFault> {
-        if self.text.len() < BYTES_AT_ONCE {
+        if self.text.lines().len() < BYTES_AT_ONCE {
             return Ok(());
         }
-        self.flush()
+        self.flush(false)
     }
 
     // Adds the lines of these entries, which follow those before, or none of them.
-    fn add(&mut self, excerpt: &Excerpt) -> Result<(), RunFault> {
-        let before = self.text.len();
-        match add_entries(&mut self.text, excerpt.first, &excerpt.entries) {
-            Ok(place) => self.place = place,
-            Err(error) => {
-                self.text.truncate(before);
-                return Err(RunFault::from(error));
-            }
-        }
-        self.flush_many()
-    }
-
-    // Adds the line of the entry at a place, or nothing.
-    fn add_one(&mut self, place: u64, kept: &JournalEntry) -> Result<(), RunFault> {
-        let before = self.text.len();
-        if let Err(error) = add_entry(&mut self.text, place, kept) {
-            self.text.truncate(before);
-            return Err(RunFault::from(error));
-        }
+    fn add(&mut self, first: u64, entries: &[JournalEntry]) -> Result<(), RunFault> {
+        self.text.add(first, entries)?;
         self.flush_many()
     }
 
@@ -90,11 +85,11 @@ impl<J: Write + Drop> JournalWriter<J> {
         &mut self,
         report: &Report<B, D>,
     ) -> Result<(), RunFault> {
-        for place in self.place..u64::MAX {
+        for place in self.text.place()..u64::MAX {
             let Some(kept) = report.entry_at(place) else {
                 break;
             };
-            self.add_one(place, kept)?;
+            self.add(place, slice::from_ref(kept))?;
         }
         Ok(())
     }
@@ -107,8 +102,8 @@ impl<J: Write + Drop> JournalWriter<J> {
         engine: &Engine<B, D, C>,
         desk: &mut Desk<B, D>,
     ) -> Result<bool, RunFault> {
-        let excerpt = engine.entries(rt, desk, self.place, ENTRIES_AT_ONCE)?;
-        self.add(&excerpt)?;
+        let excerpt = engine.entries(rt, desk, self.text.place(), ENTRIES_AT_ONCE)?;
+        self.add(excerpt.first, &excerpt.entries)?;
         Ok(excerpt.entries.len() == ENTRIES_AT_ONCE)
     }
 
@@ -123,12 +118,12 @@ impl<J: Write + Drop> JournalWriter<J> {
         engine: &Engine<B, D, C>,
         desk: &mut Desk<B, D>,
     ) -> Result<(), RunFault> {
-        let Ok(excerpt) = engine.checkpoint_from(rt, desk, self.place) else {
+        let Ok(excerpt) = engine.checkpoint_from(rt, desk, self.text.place()) else {
             return Err(RunFault::Memory);
         };
-        self.add(&excerpt)?;
-        self.kept = self.place;
-        self.flush()
+        self.add(excerpt.first, &excerpt.entries)?;
+        self.kept = self.text.place();
+        self.flush(false)
     }
 
     /// Writes the entries that an engine has beyond those before, all that were in its journal when
@@ -149,8 +144,8 @@ impl<J: Write + Drop> JournalWriter<J> {
                 break;
             }
         }
-        self.flush()?;
-        if self.place.saturating_sub(self.kept) > self.most {
+        self.flush(false)?;
+        if self.text.place().saturating_sub(self.kept) > self.most {
             self.checkpoint(rt, engine, desk)?;
         }
         Ok(())
@@ -166,8 +161,18 @@ impl<J: Write + Drop> JournalWriter<J> {
         report: &Report<B, D>,
     ) -> Result<(), RunFault> {
         let added = self.add_rest(report);
-        let flushed = self.flush();
+        let flushed = self.flush(false);
         added?;
         flushed
+    }
+
+    /// Writes the end of a run, behind all of its entries.
+    ///
+    /// # Errors
+    ///
+    /// [`RunFault::Journal`] if a write fails. [`RunFault::Memory`] if allocation fails.
+    pub fn write_end(&mut self) -> Result<(), RunFault> {
+        self.text.end()?;
+        self.flush(true)
     }
 }

@@ -1,6 +1,6 @@
 //! The records of a database by their names, and the replies of several lines.
 use crate::pattern::matches;
-use ioc_commands::{add_to_set, begin_set, begin_sets, end_set, end_sets};
+use ioc_commands::{add_shown_text, add_to_set, begin_set, begin_sets, cut_at, end_set, end_sets};
 use ioc_dbfile::Database;
 use ioc_events::Reply;
 use ioc_fields::{FieldNo, RecordType, name_of};
@@ -15,6 +15,16 @@ use std::alloc::{AllocError, Global};
 struct Listed {
     name: Name,
     record_type: RecordType,
+}
+
+impl Listed {
+    // Returns whether the record has this type, if there is one.
+    fn is_of(&self, record_type: Option<RecordType>) -> bool {
+        match record_type {
+            Some(record_type) => self.record_type == record_type,
+            None => true,
+        }
+    }
 }
 
 /// The names and types of the records of a database, by their numbers.
@@ -34,6 +44,43 @@ pub fn add_reply(said: &mut Vec<u8>, reply: &Reply) -> Result<(), AllocError> {
     said.extend_from_slice(line.as_slice())
 }
 
+/// Appends the line of a reply with the place of its call in the journal: `REPLY place P`.
+///
+/// # Errors
+///
+/// [`AllocError`] if allocation fails.
+pub fn add_placed(
+    alloc: Global,
+    said: &mut Vec<u8>,
+    reply: &Reply,
+    place: u64,
+) -> Result<(), AllocError> {
+    let mut line = LineReply::new();
+    say_reply(&mut line, reply);
+    said.extend_from_slice(cut_at(line.as_slice(), b'\n').0)?;
+    let placed = format!(in alloc; " place {place}\n")?;
+    said.extend_from_slice(placed.as_bytes())
+}
+
+/// Appends lines, each behind this tag: `@TAG LINE`.
+///
+/// # Errors
+///
+/// [`AllocError`] if allocation fails.
+pub fn add_tagged(said: &mut Vec<u8>, tag: &[u8], lines: &[u8]) -> Result<(), AllocError> {
+    let mut begins = true;
+    for byte in lines {
+        if begins {
+            said.push(b'@')?;
+            said.extend_from_slice(tag)?;
+            said.push(b' ')?;
+        }
+        said.push(*byte)?;
+        begins = *byte == b'\n';
+    }
+    Ok(())
+}
+
 /// Appends the line of a count, `ok N`.
 ///
 /// # Errors
@@ -50,7 +97,7 @@ pub fn add_count(said: &mut Vec<u8>, count: u64) -> Result<(), AllocError> {
 /// [`AllocError`] if allocation fails.
 pub fn add_shown(said: &mut Vec<u8>, text: &[u8]) -> Result<(), AllocError> {
     said.extend_from_slice(b"= ")?;
-    said.extend_from_slice(text)?;
+    add_shown_text(said, text)?;
     said.push(b'\n')?;
     Ok(())
 }
@@ -63,7 +110,7 @@ pub fn add_shown(said: &mut Vec<u8>, text: &[u8]) -> Result<(), AllocError> {
 pub fn add_field(said: &mut Vec<u8>, field: FieldNo, text: &[u8]) -> Result<(), AllocError> {
     said.extend_from_slice(name_of(field).as_bytes())?;
     said.extend_from_slice(b": ")?;
-    said.extend_from_slice(text)?;
+    add_shown_text(said, text)?;
     said.push(b'\n')?;
     Ok(())
 }
@@ -101,22 +148,43 @@ impl RecordList {
         }
     }
 
-    /// Appends the names of the records that a pattern stands for, a line each, in the order of
-    /// their numbers. Returns how many.
+    /// Appends the names of the records of a type, or of any, that a pattern stands for, a line
+    /// each, in the order of their numbers. Returns how many.
     ///
     /// # Errors
     ///
     /// [`AllocError`] if allocation fails.
-    pub fn add_names(&self, said: &mut Vec<u8>, pattern: &[u8]) -> Result<u64, AllocError> {
+    pub fn add_names(
+        &self,
+        said: &mut Vec<u8>,
+        record_type: Option<RecordType>,
+        pattern: &[u8],
+    ) -> Result<u64, AllocError> {
         let mut count = 0u64;
         for listed in &self.records {
-            if matches(pattern, listed.name.as_slice()) {
+            if listed.is_of(record_type) && matches(pattern, listed.name.as_slice()) {
                 said.extend_from_slice(listed.name.as_slice())?;
                 said.push(b'\n')?;
                 count = count.saturating_add(1);
             }
         }
         Ok(count)
+    }
+
+    /// Appends a line `- REC TYPE` for each record, in the order of their numbers. Returns how many.
+    ///
+    /// # Errors
+    ///
+    /// [`AllocError`] if allocation fails.
+    pub fn add_types(&self, said: &mut Vec<u8>) -> Result<u64, AllocError> {
+        for listed in &self.records {
+            said.extend_from_slice(b"- ")?;
+            said.extend_from_slice(listed.name.as_slice())?;
+            said.push(b' ')?;
+            said.extend_from_slice(listed.record_type.name().as_bytes())?;
+            said.push(b'\n')?;
+        }
+        Ok(self.records.len() as u64)
     }
 
     /// Appends the line of these sets of records.

@@ -1,19 +1,21 @@
 //! The line of a record.
 ghost use Rattle.std.specs.Prelude.{◌≡◌, ◌++◌, ◌∷◌, OnOk};
 ghost use Rattle.ioc_record.specs.Values.{text_of};
+ghost use Rattle.ioc_commands.specs.Texts.{shown};
 ghost use Rattle.ioc_app.specs.Lines.{AddsLine, AddsMoment, front_of};
 
 use crate::moment::moment_text;
+use ioc_commands::add_shown_text;
 use ioc_fields::{CommonField, FieldNo, OwnField};
 use ioc_record::{RecordKind, text_of};
 use std::alloc::AllocError;
 
-// Appends a space and the text of a field.
+// Appends a space and the text of a field, as a line shows it.
 fn add_field<K: RecordKind>(out: &mut Vec<u8>, item: &K, field: FieldNo) -> Result<(), AllocError>
-    ensures { OnOk result (out.new.items ≡ out.old.items ++ 32 ∷ text_of K.rules item.now field) }
+    ensures { OnOk result (out.new.items ≡ out.old.items ++ 32 ∷ shown (text_of K.rules item.now field)) }
 {
     out.push(b' ')?;
-    out.extend_from_slice(text_of(item, field).as_slice())
+    add_shown_text(out, text_of(item, field).as_slice())
 }
 
 // Appends the name of a record and the texts of its fields VAL, STAT and SEVR.
@@ -37,8 +39,8 @@ fn add_moment(out: &mut Vec<u8>, nanoseconds: u64) -> Result<(), AllocError>
     Ok(())
 }
 
-/// Appends the line of a record: its name, the texts of its fields VAL, STAT and SEVR, and its time
-/// stamp, with a space between each two of them, and a line feed.
+/// Appends the line of a record: its name, the texts of its fields VAL, STAT and SEVR, as lines show
+/// them, and its time stamp, with a space between each two of them, and a line feed.
 ///
 /// # Errors
 ///

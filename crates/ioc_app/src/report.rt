@@ -55,7 +55,7 @@ fn write_journal<B: EngineName<D>, D: Device, J: Write + Drop>(
 }
 
 /// Writes what a run leaves: the rest of the journal if it is kept, and, unless the run has ended
-/// early, a line for each record, in the order of the database text, and the line of the counts of
+/// early, the journal's end, a line for each record, in the order of the database text, and the line of the counts of
 /// requests.
 ///
 /// # Errors
@@ -76,5 +76,9 @@ pub fn end<B: EngineName<D>, D: Device, W: Write + Drop, J: Write + Drop>(
     if !is_complete {
         return Err(RunFault::Memory);
     }
-    streams.write(&lines?)
+    let lines = lines?;
+    if let Some(writer) = &mut streams.journal {
+        writer.write_end()?;
+    }
+    streams.write(&lines)
 }

@@ -7,6 +7,7 @@ use crate::report::end;
 use crate::streams::Streams;
 use crate::task::{Task, fault_of};
 use ioc_engine::{Clock, Database, Desk, Device, DeviceName, Engine, EngineName, Limits, Seed};
+use ioc_journal_lines::Header;
 use std::alloc::Global;
 use std::io::Write;
 use std::marker::Brand;
@@ -29,11 +30,18 @@ pub struct Plant<D: Drop, C: Drop> {
     pub workers: u64,
 }
 
+/// The file of a journal, with its first line.
+#[derive(Drop)]
+pub struct JournalFile<J: Write + Drop> {
+    pub file: J,
+    pub header: Header,
+}
+
 /// Where a run writes to: the lines of the records, and the journal if it is kept.
 #[derive(Drop)]
 pub struct Outputs<W: Write + Drop, J: Write + Drop> {
     pub lines: W,
-    pub journal: Option<J>,
+    pub journal: Option<JournalFile<J>>,
 }
 
 // Serves the requests that wait, until none does or many were served.
@@ -152,12 +160,16 @@ fn in_threads<
     served
 }
 
-// Returns the writer of a journal, if it is kept.
-fn writer_of<J: Write + Drop>(alloc: Global, file: Option<J>) -> Option<JournalWriter<J>> {
-    match file {
-        Some(file) => Some(JournalWriter::new(alloc, file, PLACES / 4)),
-        None => None,
-    }
+// Begins a journal, if it is kept.
+fn writer_of<J: Write + Drop>(
+    alloc: Global,
+    journal: Option<JournalFile<J>>,
+) -> Result<Option<JournalWriter<J>>, RunFault> {
+    let Some(JournalFile { file, header }) = journal else {
+        return Ok(None);
+    };
+    let writer = JournalWriter::begin(alloc, file, &header, PLACES / 4)?;
+    Ok(Some(writer))
 }
 
 // Returns the limits of an engine, which makes its checkpoints itself if its journal isn't kept.
@@ -223,7 +235,8 @@ fn run<
 
 /// Does a task with the records of a database, while as many threads serve the requests that wait.
 /// Then it writes a line for each record, in the order of the database text, and the line of the
-/// counts of requests. If the journal is kept, each of its entries is a line of its file.
+/// counts of requests. If the journal is kept, each of its entries is a line of its file, behind its
+/// header, and its end is the last line if the run ends well.
 ///
 /// # Errors
 ///
@@ -253,7 +266,7 @@ pub fn ioc_run<
     let Outputs { lines, journal } = outputs;
     let mut streams = Streams {
         lines,
-        journal: writer_of(alloc, journal),
+        journal: writer_of(alloc, journal)?,
     };
     let Ok(seed) = Seed::new(alloc, database, devices) else {
         return Err(RunFault::Start);

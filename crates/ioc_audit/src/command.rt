@@ -1,7 +1,8 @@
 //! The command line of the program.
 use clap::{Arg, ArgAction, Command, value_parser};
 use ioc_command_line::{
-    Program, Stop, UsageFault, definitions_argument, file_argument, macros_in, macros_option, parse,
+    Program, Stop, UsageFault, definitions_argument, definitions_in, file_argument, macros_in,
+    macros_option, parse,
 };
 use ioc_dblex::Macros;
 use std::alloc::{AllocError, Global};
@@ -16,8 +17,8 @@ pub const PROGRAM: Program<'static> = Program {
 An entry agrees if its place and its call number are the next ones, and if the records before it and \
     the answers of its devices give its reply and use all of these answers.
 
-The exit status: 0 all entries agree, 1 the database is refused, an entry differs or a line is no \
-    entry, 2 the command line is wrong, 3 a file cannot be read or what is found cannot be written, \
+The exit status: 0 all entries agree, 1 the database is refused, it isn't that of the journal, an \
+    entry differs, a line is no entry, or the journal isn't whole and has to be, 2 the command line is wrong, 3 a file cannot be read or what is found cannot be written, \
     4 memory ran out",
 };
 
@@ -33,6 +34,8 @@ const SHOW: &str = "show";
 const TRACE: &str = "trace";
 
 const SETS: &str = "sets";
+
+const WHOLE: &str = "whole";
 
 /// What a command line asks for.
 #[derive(Drop)]
@@ -50,6 +53,10 @@ pub struct Words<'a> {
     pub traced: Option<&'a str>,
     /// Whether the lock sets are shown.
     pub sets: bool,
+    /// Whether the run has to have ended.
+    pub whole: bool,
+    /// The definitions of macros, each behind a byte 0.
+    pub definitions: Vec<u8>,
 }
 
 // Returns the options of the command.
@@ -79,6 +86,14 @@ fn with_options<'a>(alloc: Global, command: Command<'a>) -> Result<Command<'a>, 
                 .long(SETS)
                 .action(ArgAction::SetTrue)
                 .help("shows the lock sets at the end"),
+        )?
+        .arg(
+            Arg::new(alloc, WHOLE)
+                .long(WHOLE)
+                .action(ArgAction::SetTrue)
+                .help(
+                    "takes a journal only if its run has ended, and it is sealed to its end if it has seals",
+                ),
         )
 }
 
@@ -123,6 +138,8 @@ impl<'a> Words<'a> {
             shown,
             traced: matches.get_str(TRACE),
             sets: matches.get_flag(SETS),
+            whole: matches.get_flag(WHOLE),
+            definitions: definitions_in(alloc, &matches)?,
         })
     }
 

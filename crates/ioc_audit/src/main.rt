@@ -12,10 +12,11 @@ use crate::command::{PROGRAM, Words};
 use crate::showing::{Found, add_shown, found_in};
 use crate::telling::{Telling, told_of};
 use ioc_command_line::{
-    Ending, FileRole, Reason, Stage, Stop, given, open, read_whole, show, unreadable,
+    Ending, FileRole, Reason, Stage, Stop, bad_database, given, open, read_whole, show, unreadable,
 };
 use ioc_dbfile::{Database, load};
-use ioc_journal_audit::{AuditFault, Audited, Auditor, Trace, audit};
+use ioc_journal_audit::{AuditFault, Auditor, Trace, audit_file};
+use ioc_journal_lines::database_hash;
 use ioc_values::LoadError;
 use std::alloc::Global;
 use std::env;
@@ -38,7 +39,7 @@ fn stop_of(alloc: Global, fault: AuditFault, journal: &str) -> Stop {
 fn loaded(alloc: Global, words: &Words<'_>, text: &[u8]) -> Result<Database, Stop> {
     match load(alloc, text, &words.macros) {
         Ok(database) => Ok(database),
-        Err(LoadError::BadDb(fault)) => Err(Stop::BadDb(fault)),
+        Err(LoadError::BadDb(fault)) => Err(bad_database(alloc, words.database, fault)),
         Err(LoadError::NoMemory) => Err(Stop::Memory(Stage::Loading)),
     }
 }
@@ -59,14 +60,17 @@ fn run<R: BufRead, W: Write>(
         Some(number) => Some(Trace::new(alloc, auditor.map(), number)?),
         None => None,
     };
-    let audited = match audit(alloc, &mut auditor, journal, words.most(), &mut trace, out) {
+    let hash = database_hash(text, words.definitions.as_slice());
+    let most = words.most();
+    let audited = audit_file(alloc, &mut auditor, journal, &hash, most, &mut trace, out);
+    let audited = match audited {
         Ok(audited) => audited,
         Err(fault) => return Err(stop_of(alloc, fault, words.journal)),
     };
     let mut said = Vec::new(alloc);
     add_shown(alloc, words, &found, auditor.map(), &audited, &mut said)?;
     match out.write_all(said.as_slice()) {
-        Ok(()) => Ok(told_of(alloc, words.journal, audited)?),
+        Ok(()) => Ok(told_of(alloc, words, &hash, audited)?),
         Err(e) => Err(Stop::Write(Reason::of(&e))),
     }
 }

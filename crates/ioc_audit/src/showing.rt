@@ -1,10 +1,11 @@
 //! What is shown of a database after its last entry.
 use crate::command::{PROGRAM, Words};
 use ioc_command_line::Stop;
+use ioc_commands::add_shown_text;
 use ioc_dbfile::Database;
 use ioc_dblex::split_at_byte;
 use ioc_fields::{FieldNo, field};
-use ioc_journal_audit::{Audited, PlayedMap, add_sets};
+use ioc_journal_audit::{Audited, FileFound, Frame, PlayedMap, Tail, add_sets};
 use ioc_names::RecordNo;
 use ioc_record::{RecordKind, text_of};
 use ioc_store::Store;
@@ -98,22 +99,47 @@ fn add_field(
     out.push(b' ')?;
     if map.has(place.record) {
         let text = text_of(map.record(place.record), place.field);
-        out.extend_from_slice(text.as_slice())?;
+        add_shown_text(out, text.as_slice())?;
     }
     out.push(b'\n')?;
     Ok(())
 }
 
-// Appends how many entries agree, and whether the line behind them is cut off.
-fn add_count(out: &mut String, count: u64, is_cut_off: bool) -> Result<(), AllocError> {
-    if is_cut_off {
-        write!(out, "line {} is cut off; ", count.saturating_add(1))?;
-    }
+// Appends a number of things, each of which has one name, and more of which have another.
+fn add_number(out: &mut String, count: u64, one: &str, many: &str) -> Result<(), AllocError> {
     if count == 1 {
-        writeln!(out, "1 entry agrees")
+        write!(out, "1 {one}")
     } else {
-        writeln!(out, "{count} entries agree")
+        write!(out, "{count} {many}")
     }
+}
+
+// Appends what the seals of a journal cover.
+fn add_seals(out: &mut String, frame: &Frame) -> Result<(), AllocError> {
+    if !frame.is_sealed {
+        return Ok(());
+    }
+    out.push_str(" under ")?;
+    add_number(out, frame.seals, "seal", "seals")?;
+    if frame.unsealed > 0 {
+        write!(out, ", {} of them behind the last one", frame.unsealed)?;
+    }
+    Ok(())
+}
+
+// Appends how many entries agree, and whether the line behind them is cut off or missing.
+fn add_count(out: &mut String, frame: &Frame, is_cut_off: bool) -> Result<(), AllocError> {
+    if is_cut_off {
+        let line = frame.entries.saturating_add(frame.others).saturating_add(1);
+        write!(out, "line {line} is cut off; ")?;
+    }
+    add_number(out, frame.entries, "entry agrees", "entries agree")?;
+    add_seals(out, frame)?;
+    out.push_str(match frame.tail {
+        Tail::Running => ", and the run did not end\n",
+        Tail::Unsealed => ", and the last seal is missing\n",
+        Tail::Ended | Tail::Unknown | Tail::NotSeen => "\n",
+    })
 }
 
 /// Appends the lines of what was asked for, and how many entries agree.
@@ -126,13 +152,13 @@ pub fn add_shown(
     words: &Words<'_>,
     found: &Found,
     map: &PlayedMap<Record>,
-    audited: &Audited,
+    audited: &FileFound,
     out: &mut Vec<u8>,
 ) -> Result<(), AllocError> {
-    let (count, is_cut_off) = match audited {
-        Audited::Agree(count) => (*count, false),
-        Audited::CutOff(count) => (*count, true),
-        Audited::Differs(..) | Audited::NoEntry(_) => return Ok(()),
+    let (frame, is_cut_off) = match audited {
+        FileFound::Checked(Audited::Agree(_), frame) => (frame, false),
+        FileFound::Checked(Audited::CutOff(_), frame) => (frame, true),
+        FileFound::Checked(..) | FileFound::Fault(_) => return Ok(()),
     };
     for (word, place) in words.shown.iter().zip(found.shown.iter()) {
         add_field(map, word, place, out)?;
@@ -141,6 +167,6 @@ pub fn add_shown(
         add_sets(alloc, map.records(), out)?;
     }
     let mut text = String::new(alloc);
-    add_count(&mut text, count, is_cut_off)?;
+    add_count(&mut text, frame, is_cut_off)?;
     out.extend_from_slice(text.as_bytes())
 }

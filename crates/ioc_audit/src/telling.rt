@@ -1,7 +1,7 @@
 //! What the program tells of an audit.
-use crate::command::PROGRAM;
+use crate::command::{PROGRAM, Words};
 use ioc_command_line::{Ending, Stop, Stream};
-use ioc_journal_audit::{Audited, Difference};
+use ioc_journal_audit::{Audited, Difference, FileFault, FileFound, Frame, Tail};
 use ioc_journal_file::{Line, print};
 use std::alloc::{AllocError, Global};
 use std::fmt::Write;
@@ -9,8 +9,8 @@ use std::fmt::Write;
 /// What is told at the end of an audit.
 #[derive(Drop)]
 pub enum Telling {
-    /// All entries agree.
-    Agreement,
+    /// All entries agree, and maybe something that has to be known.
+    Agreement(Option<String>),
     /// The entry or the line that this text names is the first one that doesn't.
     Fault(String),
 }
@@ -19,7 +19,13 @@ impl Telling {
     /// Returns the ending of the program.
     pub fn ending(self) -> Ending {
         match self {
-            Telling::Agreement => Ending::of(PROGRAM.name, Ok(())),
+            Telling::Agreement(None) => Ending::of(PROGRAM.name, Ok(())),
+            Telling::Agreement(Some(text)) => Ending {
+                program: PROGRAM.name,
+                status: 0,
+                stream: Stream::Error,
+                told: Some(Stop::Refused(text)),
+            },
             Telling::Fault(text) => Ending {
                 program: PROGRAM.name,
                 status: 1,
@@ -58,23 +64,83 @@ fn add_difference(
     }
 }
 
-/// Returns what an audit of this journal says.
+// Appends why a file isn't the journal of a database with this hash.
+fn add_fault(
+    alloc: Global,
+    text: &mut String,
+    fault: &FileFault,
+    hash: &[u8; 32],
+) -> Result<(), AllocError> {
+    match fault {
+        FileFault::Empty => text.push_str(" is empty, and no journal\n"),
+        FileFault::OtherDatabase(other) => {
+            let (other, hash) = (hex::encode(alloc, other)?, hex::encode(alloc, hash)?);
+            writeln!(
+                text,
+                " is that of another database or other macros: it has the hash {other}, and these have {hash}"
+            )
+        }
+        FileFault::Seal(line) => writeln!(text, " line {line}: other lines were sealed"),
+        FileFault::End(line, count) => writeln!(text, " line {line}: end {count} expected"),
+        FileFault::BehindEnd(line) => writeln!(text, " line {line}: behind the end"),
+    }
+}
+
+// Returns why a journal that agrees isn't whole, if it isn't.
+fn lack_of(audited: &Audited, frame: &Frame) -> Option<&'static str> {
+    match (audited, frame.tail) {
+        (Audited::CutOff(_), _) => Some("its last line is cut off"),
+        (_, Tail::Running) => Some("the run did not end"),
+        (_, Tail::Unsealed) => Some("its last seal is missing"),
+        (_, Tail::Unknown) => Some("it has no header"),
+        (_, Tail::Ended | Tail::NotSeen) => None,
+    }
+}
+
+// Returns the line that is printed if all entries of a journal agree.
+fn agreement(
+    alloc: Global,
+    words: &Words<'_>,
+    audited: &Audited,
+    frame: &Frame,
+) -> Result<Telling, AllocError> {
+    let (name, journal) = (PROGRAM.name, words.journal);
+    let lack = lack_of(audited, frame);
+    if let (true, Some(lack)) = (words.whole, lack) {
+        let text = format!(in alloc; "{name}: journal '{journal}' isn't whole: {lack}\n")?;
+        return Ok(Telling::Fault(text));
+    }
+    if frame.has_header {
+        return Ok(Telling::Agreement(None));
+    }
+    let text = format!(in alloc;
+        "{name}: journal '{journal}' has no header, as those of older programs: whether it is of this database, and whether its run has ended, isn't known\n"
+    )?;
+    Ok(Telling::Agreement(Some(text)))
+}
+
+/// Returns what an audit says of the journal of a database with this hash.
 ///
 /// # Errors
 ///
 /// [`AllocError`] if allocation fails.
-pub fn told_of(alloc: Global, journal: &str, audited: Audited) -> Result<Telling, AllocError> {
+pub fn told_of(
+    alloc: Global,
+    words: &Words<'_>,
+    hash: &[u8; 32],
+    found: FileFound,
+) -> Result<Telling, AllocError> {
     let name = PROGRAM.name;
-    let mut text = String::new(alloc);
-    match audited {
-        Audited::Agree(_) | Audited::CutOff(_) => return Ok(Telling::Agreement),
-        Audited::Differs(line, difference) => {
-            write!(text, "{name}: journal '{journal}' line {line}: ")?;
+    let journal = words.journal;
+    let mut text = format!(in alloc; "{name}: journal '{journal}'")?;
+    match found {
+        FileFound::Fault(fault) => add_fault(alloc, &mut text, &fault, hash)?,
+        FileFound::Checked(Audited::Differs(line, difference), _) => {
+            write!(text, " line {line}: ")?;
             add_difference(alloc, &mut text, &difference)?;
         }
-        Audited::NoEntry(line) => {
-            writeln!(text, "{name}: journal '{journal}' line {line}: no entry")?;
-        }
+        FileFound::Checked(Audited::NoEntry(line), _) => writeln!(text, " line {line}: no entry")?,
+        FileFound::Checked(audited, frame) => return agreement(alloc, words, &audited, &frame),
     }
     Ok(Telling::Fault(text))
 }

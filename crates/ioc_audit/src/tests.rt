@@ -3,6 +3,8 @@ use crate::run;
 use crate::telling::Telling;
 use ioc_command_line::Stop;
 use ioc_dblex::Macros;
+use ioc_journal_lines::{Header, add_header, database_hash};
+use ioc_values::Short;
 use std::alloc::{AllocError, Global};
 use std::test::*;
 
@@ -31,9 +33,16 @@ struct Change {
     instead: &'static [u8],
 }
 
-// Returns the text of a journal.
+// Returns the text of a journal of the database, without its end.
 fn journal_of(alloc: Global, change: &Change) -> Result<Vec<u8>, AllocError> {
     let mut journal = Vec::new(alloc);
+    let header = Header {
+        program: Short::cut(b"0.1.0"),
+        database: database_hash(DATABASE, b""),
+        is_sealed: false,
+        first: 0,
+    };
+    add_header(&mut journal, &header)?;
     let mut place = 0usize;
     for entry in &ENTRIES {
         if place == change.from {
@@ -57,13 +66,15 @@ fn tells(alloc: Global, change: &Change, said: &[u8], fault: &str) -> Result<boo
         shown: Vec::new(alloc),
         traced: None,
         sets: false,
+        whole: false,
+        definitions: Vec::new(alloc),
     };
     let journal = journal_of(alloc, change)?;
     let mut left = journal.as_slice();
     let mut out = Vec::new(alloc);
     let told = run(alloc, &words, DATABASE, &mut left, &mut out)?;
     let is_told = match &told {
-        Telling::Agreement => fault.is_empty(),
+        Telling::Agreement(note) => note.is_none() && fault.is_empty(),
         Telling::Fault(text) => text.as_bytes() == fault.as_bytes(),
     };
     Ok(is_told && out.as_slice() == said)
@@ -77,7 +88,7 @@ static CHANGES: [(Change, &str); 7] = [
             to: 2,
             instead: b"1\t1\t0\t1001\tget\t1\tVAL\t\"21\"\t0\n",
         },
-        "ioc-audit: journal 'valve.journal' line 2: another reply: \
+        "ioc-audit: journal 'valve.journal' line 3: another reply: \
         1\t1\t0\t1001\tget\t1\tVAL\t\"20\"\t0\n",
     ),
     (
@@ -86,7 +97,7 @@ static CHANGES: [(Change, &str); 7] = [
             to: 4,
             instead: b"",
         },
-        "ioc-audit: journal 'valve.journal' line 4: place 3 expected\n",
+        "ioc-audit: journal 'valve.journal' line 5: place 3 expected\n",
     ),
     (
         Change {
@@ -94,7 +105,7 @@ static CHANGES: [(Change, &str); 7] = [
             to: 5,
             instead: b"4\t2\t0\t1004\tpost\t\"fill\"\t2\t0\n3\t1\t1\t1003\tlive\t7\tyes\t0\n",
         },
-        "ioc-audit: journal 'valve.journal' line 4: place 3 expected\n",
+        "ioc-audit: journal 'valve.journal' line 5: place 3 expected\n",
     ),
     (
         Change {
@@ -102,7 +113,7 @@ static CHANGES: [(Change, &str); 7] = [
             to: 1,
             instead: b"0\t0\t0\t1000\tprocess\t0\tprocessed\t1\tlong\t21\n",
         },
-        "ioc-audit: journal 'valve.journal' line 2: another reply: \
+        "ioc-audit: journal 'valve.journal' line 3: another reply: \
         1\t1\t0\t1001\tget\t1\tVAL\t\"21\"\t0\n",
     ),
     (
@@ -111,7 +122,7 @@ static CHANGES: [(Change, &str); 7] = [
             to: 6,
             instead: b"5\t0\t2\t1005\tcomplete\t2\t1\tfault\tdone\t1\tlater\n",
         },
-        "ioc-audit: journal 'valve.journal' line 6: other answers: \
+        "ioc-audit: journal 'valve.journal' line 7: other answers: \
         5\t0\t2\t1005\tcomplete\t2\t1\tfault\tdone\t0\n",
     ),
     (
@@ -120,7 +131,7 @@ static CHANGES: [(Change, &str); 7] = [
             to: 8,
             instead: b"6\t1\t2\t1006\tli\n",
         },
-        "ioc-audit: journal 'valve.journal' line 7: no entry\n",
+        "ioc-audit: journal 'valve.journal' line 8: no entry\n",
     ),
     (
         Change {
@@ -128,7 +139,7 @@ static CHANGES: [(Change, &str); 7] = [
             to: 4,
             instead: b"3\t1\t2\t1003\tlive\t7\tyes\t0\n",
         },
-        "ioc-audit: journal 'valve.journal' line 4: call 1 of its desk expected\n",
+        "ioc-audit: journal 'valve.journal' line 5: call 1 of its desk expected\n",
     ),
 ];
 
@@ -139,7 +150,14 @@ fn all_agree(rt: HostRuntime) -> Result<(), Stop> {
         to: 0,
         instead: b"",
     };
-    assert!(rt; tells(rt.alloc(), &none, b"8 entries agree\n", "")?);
+    assert!(rt;
+        tells(
+            rt.alloc(),
+            &none,
+            b"8 entries agree, and the run did not end\n",
+            ""
+        )?
+    );
     Ok(())
 }
 
@@ -159,11 +177,11 @@ fn last_line_cut_off(rt: HostRuntime) -> Result<(), Stop> {
         tells(
             rt.alloc(),
             &cut,
-            b"line 7 is cut off; 6 entries agree\n",
+            b"line 8 is cut off; 6 entries agree\n",
             ""
         )?
     );
-    assert!(rt; tells(rt.alloc(), &one, b"line 2 is cut off; 1 entry agrees\n", "")?);
+    assert!(rt; tells(rt.alloc(), &one, b"line 3 is cut off; 1 entry agrees\n", "")?);
     Ok(())
 }
 

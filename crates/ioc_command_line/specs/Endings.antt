@@ -1,10 +1,11 @@
 -- How a program ends.
-use Rattle.std.specs.Prelude.{ℕ, List, [], ◌∷◌, ◌++◌, codes, Bool, true, false, String, if◌then◌else◌, Option, Some, None, Result, Ok, Err}
+use Rattle.std.specs.Prelude.{◌≡◌, ◌⊎◌, ℕ, List, [], ◌∷◌, ◌++◌, codes, Bool, true, false, String, if◌then◌else◌, Option, Some, None, Result, Ok, Err}
 use Rattle.std.specs.Borrow.{Bor}
 use Rattle.std.specs.Global.{Global}
 use Rattle.std.specs.String.{string_bytes}
 use Rattle.std.specs.declared.io.ErrorKind.{ErrorKind}
 use Rattle.std.specs.declared.io.ErrorKind.TheVariants as kind
+use Rattle.ioc_values.specs.declared.error.DbFault.{DbFault}
 use Rattle.ioc_values.specs.Words.{fault_text as db_fault_text}
 use Rattle.ioc_command_line.specs.declared.reason.Reason.{Reason}
 use Rattle.ioc_command_line.specs.declared.reason.Reason.TheVariants as reason
@@ -14,7 +15,7 @@ use Rattle.ioc_command_line.specs.declared.ending.FileRole.TheVariants.{Database
 use Rattle.ioc_command_line.specs.declared.ending.UsageFault.{UsageFault}
 use Rattle.ioc_command_line.specs.declared.ending.UsageFault.TheVariants.{NoDefinition, NoArgument, NotText}
 use Rattle.ioc_command_line.specs.declared.ending.Stop.{Stop}
-use Rattle.ioc_command_line.specs.declared.ending.Stop.TheVariants.{Shown, Refused, Usage, Unreadable, Unwritable, Exists, BadDb, Write, Memory}
+use Rattle.ioc_command_line.specs.declared.ending.Stop.TheVariants.{Shown, Refused, Usage, Unreadable, Unwritable, Exists, BadDb, BadDbIn, Write, Memory}
 use Rattle.ioc_command_line.specs.declared.ending.Ending.{Ending}
 use Rattle.ioc_command_line.specs.declared.ending.Stream.{Stream}
 use Rattle.ioc_command_line.specs.declared.ending.Stream.TheVariants as stream
@@ -37,6 +38,7 @@ reason_text reason.NotADirectory = codes "Not a directory"
 reason_text reason.IsADirectory = codes "Is a directory"
 reason_text reason.StorageFull = codes "No space left on device"
 reason_text reason.BrokenPipe = codes "Broken pipe"
+reason_text reason.Gap = codes "Entries are missing"
 reason_text reason.Other = codes "Input/output error"
 
 -- Whether allocation failed.
@@ -47,6 +49,10 @@ is_out_of_memory _ = false
 -- Why a file could not be opened or read.
 abbrev pub unreadable : FileRole → String Global → ErrorKind → Stop
 unreadable role path kind = if is_out_of_memory kind then Memory Loading else Unreadable role path (reason_of kind)
+
+-- Why the program stops if the database text of the file of this path is refused, unless allocation fails.
+abbrev pub IsBadDatabase : List ℕ → DbFault → Stop → Type 0
+IsBadDatabase path fault stop = ((text : String Global) × (string_bytes text ≡ path) × (stop ≡ BadDbIn text fault)) ⊎ (stop ≡ Memory Loading)
 
 -- The word for a file's role.
 unfoldable pub role_text : FileRole → List ℕ
@@ -64,6 +70,7 @@ usage_text NotText = codes "a word is no UTF-8"
 unfoldable pub status_of : Stop → ℕ
 status_of (Shown text) = 0
 status_of (BadDb fault) = 1
+status_of (BadDbIn path fault) = 1
 status_of (Refused text) = 2
 status_of (Usage fault) = 2
 status_of (Unreadable role path reason) = 3
@@ -81,6 +88,7 @@ stop_text (Unreadable role path reason) = codes "cannot read " ++ role_text role
 stop_text (Unwritable role path reason) = codes "cannot write " ++ role_text role ++ codes " '" ++ string_bytes path ++ codes "': " ++ reason_text reason
 stop_text (Exists path) = string_bytes path ++ codes " is there already: name another file, or --overwrite"
 stop_text (BadDb fault) = db_fault_text fault
+stop_text (BadDbIn path fault) = (db_fault_text fault ++ 10 ∷ []) ++ codes "ioc-check " ++ string_bytes path ++ codes " says more"
 stop_text (Write reason) = codes "cannot write the replies: " ++ reason_text reason
 stop_text (Memory Loading) = codes "out of memory while loading"
 stop_text (Memory Line) = codes "out of memory in a line of the script"
@@ -102,12 +110,13 @@ ending_of program (Ok _) = record { program = program; status = 0; stream = stre
 ending_of program (Err stop) = record { program = program; status = status_of stop; stream = stream_of stop; told = told_of stop }
 
 -- The printed text: what the parser of words says as it is, the fault of a database text on a line
--- of its own, and any other fault on a line behind the program's name.
+-- of its own, perhaps with a line of its file, and any other fault on a line behind the program's name.
 abbrev pub told_text : List ℕ → Option Stop → List ℕ
 told_text program None = []
 told_text program (Some (Shown text)) = string_bytes text
 told_text program (Some (Refused text)) = string_bytes text
 told_text program (Some (BadDb fault)) = db_fault_text fault ++ 10 ∷ []
+told_text program (Some (BadDbIn path fault)) = stop_text (BadDbIn path fault) ++ 10 ∷ []
 told_text program (Some stop) = program ++ codes ": " ++ stop_text stop ++ 10 ∷ []
 
 -- The text that is printed at the end.

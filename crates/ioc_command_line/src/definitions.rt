@@ -6,7 +6,7 @@ use crate::ending::{Stage, Stop, UsageFault};
 use ioc_dblex::macros::is_macro_name;
 use ioc_dblex::{Macros, split_at_byte};
 use ioc_values::IocError;
-use std::alloc::Global;
+use std::alloc::{AllocError, Global};
 
 // Returns the name and the value of NAME=VALUE, which is cut at its first `=`.
 fn definition(bytes: &[u8]) -> Option<(&[u8], &[u8])>
@@ -56,6 +56,22 @@ pub fn define(alloc: Global, word: &str, macros: &mut Macros) -> Result<(), Stop
             return Err(Stop::Memory(Stage::Loading));
         }
         rest = behind;
+    }
+    Ok(())
+}
+
+/// Appends the definitions of a word as [`define`] takes them, each behind a byte 0.
+///
+/// # Errors
+///
+/// [`AllocError`] if allocation fails.
+pub(crate) fn add_definitions(out: &mut Vec<u8>, word: &[u8]) -> Result<(), AllocError> {
+    out.push(0)?;
+    let mut rest = word;
+    while let [first, after @ ..] = rest {
+        let is_between = *first == b',' && definition(after).is_some();
+        out.push(if is_between { 0 } else { *first })?;
+        rest = after;
     }
     Ok(())
 }

@@ -1,12 +1,12 @@
 //! The end of a program.
 ghost use Rattle.std.specs.Prelude.{◌≡◌};
 ghost use Rattle.std.specs.IoError.{error_kind};
-ghost use Rattle.ioc_command_line.specs.Endings.{unreadable, status_of, stream_of, told_of, ending_of};
+ghost use Rattle.ioc_command_line.specs.Endings.{IsBadDatabase, unreadable, status_of, stream_of, told_of, ending_of};
 ghost use Rattle.ioc_command_line.specs.Endings.{role_text, ending_text, usage_text, stop_text};
 
 use crate::reason::{Reason, is_out_of_memory};
 use ioc_values::DbFault;
-use std::alloc::AllocError;
+use std::alloc::{AllocError, Global};
 use std::{fmt, io};
 
 /// An output stream of a program.
@@ -63,6 +63,9 @@ pub enum Stop {
     Exists(String),
     /// The database text is invalid.
     BadDb(DbFault),
+    /// The database text of the file of this path is invalid. A second line names the program
+    /// that says more of this file.
+    BadDbIn(String, DbFault),
     /// What the program says could not be written.
     Write(Reason),
     /// Allocation failed.
@@ -77,6 +80,16 @@ pub struct Ending {
     pub status: u8,
     pub stream: Stream,
     pub told: Option<Stop>,
+}
+
+/// Returns why the program stops if the database text of the file of this path is invalid.
+pub fn bad_database(alloc: Global, path: &str, fault: DbFault) -> Stop
+    ensures { IsBadDatabase path.now fault result }
+{
+    match String::from_str(alloc, path) {
+        Ok(path) => Stop::BadDbIn(path, fault),
+        Err(_) => Stop::Memory(Stage::Loading),
+    }
 }
 
 /// Returns why the program stops if an error kept it from opening or reading a file.
@@ -111,7 +124,7 @@ impl Stop {
     {
         match self {
             Stop::Shown(_) => 0,
-            Stop::BadDb(_) => 1,
+            Stop::BadDb(_) | Stop::BadDbIn(..) => 1,
             Stop::Refused(_) | Stop::Usage(_) => 2,
             Stop::Unreadable(..) | Stop::Unwritable(..) | Stop::Exists(_) | Stop::Write(_) => 3,
             Stop::Memory(_) => 4,
@@ -215,6 +228,10 @@ impl fmt::Display for Stop {
                 )
             }
             Stop::BadDb(fault) => fault.fmt(f),
+            Stop::BadDbIn(path, fault) => {
+                write!(f, "{fault}\n")?;
+                write!(f, "ioc-check {path} says more")
+            }
             Stop::Write(reason) => write!(f, "cannot write the replies: {reason}"),
             Stop::Memory(Stage::Loading) => f.write_str("out of memory while loading"),
             Stop::Memory(Stage::Line) => f.write_str("out of memory in a line of the script"),
@@ -239,6 +256,7 @@ impl fmt::Display for Ending {
             Some(Stop::Shown(text)) => f.write_str(text.as_str()),
             Some(Stop::Refused(text)) => f.write_str(text.as_str()),
             Some(Stop::BadDb(fault)) => write!(f, "{fault}\n"),
+            Some(stop @ Stop::BadDbIn(..)) => write!(f, "{stop}\n"),
             Some(stop) => write!(f, "{}: {stop}\n", self.program),
         }
     }

@@ -15,6 +15,8 @@ pub enum Reason {
     StorageFull,
     /// Nobody reads what is written.
     BrokenPipe,
+    /// Lines that were to be written before are missing.
+    Gap,
     Other,
 }
 
@@ -50,6 +52,7 @@ impl fmt::Display for Reason {
             Reason::IsADirectory => "Is a directory",
             Reason::StorageFull => "No space left on device",
             Reason::BrokenPipe => "Broken pipe",
+            Reason::Gap => "Entries are missing",
             Reason::Other => "Input/output error",
         })
     }

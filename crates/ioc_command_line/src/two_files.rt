@@ -9,7 +9,7 @@ ghost use Rattle.ioc_command_line.specs.Files.{Reads, ReadsWords, RowsRefused, W
 use crate::command_line::{
     DEFINITIONS, MACROS, Program, definitions_argument, file_argument, macros_option, parse,
 };
-use crate::definitions::defined;
+use crate::definitions::{add_definitions, defined};
 use crate::ending::{Stop, UsageFault};
 use clap::{ArgMatches, Command};
 use ioc_dblex::Macros;
@@ -76,6 +76,27 @@ pub fn macros_in(alloc: Global, matches: &ArgMatches<'_>) -> Result<Macros, Stop
     define_values(alloc, matches, MACROS, &mut macros)?;
     define_values(alloc, matches, DEFINITIONS, &mut macros)?;
     Ok(macros)
+}
+
+// Appends the definitions in the values of an argument.
+fn add_values(out: &mut Vec<u8>, matches: &ArgMatches<'_>, id: &str) -> Result<(), AllocError> {
+    for word in matches.get_strs(id).unwrap_or(&[]) {
+        add_definitions(out, word.as_bytes())?;
+    }
+    Ok(())
+}
+
+/// Returns the definitions of macros that the words of a command line have, in the order in which
+/// [`macros_in`] takes them, each as `NAME=VALUE` behind a byte 0.
+///
+/// # Errors
+///
+/// [`AllocError`] if allocation fails.
+pub fn definitions_in(alloc: Global, matches: &ArgMatches<'_>) -> Result<Vec<u8>, AllocError> {
+    let mut out = Vec::new(alloc);
+    add_values(&mut out, matches, MACROS)?;
+    add_values(&mut out, matches, DEFINITIONS)?;
+    Ok(out)
 }
 
 // Returns the files and macros of the matches.

@@ -25,7 +25,7 @@ lines_of (b ∷ bs) = if b == 10 then [] ∷ lines_of bs else onto_first b (line
 
 -- The beginning of a line, long enough to recognize that the line is too long.
 unfoldable pub cut : List ℕ → List ℕ
-cut line = take 1025 line
+cut line = take 4097 line
 
 -- The bytes before the first `separator`.
 abbrev pub before : ℕ → List ℕ → List ℕ

@@ -7,6 +7,17 @@ use Rattle.ioc_commands.specs.declared.verb.Verb.TheVariants as verb
 use Rattle.ioc_commands.specs.declared.verb.Dialect.{Dialect}
 use Rattle.ioc_commands.specs.declared.verb.Dialect.TheVariants.{Script, Prompt, Console}
 
+-- The first words that are meant for programs, by their spelling.
+abbrev pub program_verb_named : List ℕ → Option Verb
+program_verb_named word =
+    if pointwise nat_eq word (codes "put#") then Some verb.PutPlaced
+    else (if pointwise nat_eq word (codes "notify#") then Some verb.NotifyPlaced
+    else (if pointwise nat_eq word (codes "read") then Some verb.Read
+    else (if pointwise nat_eq word (codes "records") then Some verb.Records
+    else (if pointwise nat_eq word (codes "fields") then Some verb.Fields
+    else (if pointwise nat_eq word (codes "menu") then Some verb.Choices
+    else None)))))
+
 -- The first words that no script has, by their spelling.
 abbrev pub user_verb_named : List ℕ → Option Verb
 user_verb_named word =
@@ -18,7 +29,7 @@ user_verb_named word =
     else (if pointwise nat_eq word (codes "dbpr") then Some verb.Show
     else (if pointwise nat_eq word (codes "help") then Some verb.Help
     else (if pointwise nat_eq word (codes "exit") then Some verb.Exit
-    else None)))))))
+    else program_verb_named word)))))))
 
 -- The first word of a line, by its spelling.
 abbrev pub verb_named : List ℕ → Option Verb
@@ -69,4 +80,15 @@ knows dialect verb.Tick = of_the_console dialect
 knows dialect verb.Checkpoint = of_the_console dialect
 knows dialect verb.List = of_the_console dialect
 knows dialect verb.Show = of_the_console dialect
+knows dialect verb.PutPlaced = of_the_console dialect
+knows dialect verb.NotifyPlaced = of_the_console dialect
+knows dialect verb.Read = of_the_console dialect
+knows dialect verb.Records = of_the_console dialect
+knows dialect verb.Fields = of_the_console dialect
+knows dialect verb.Choices = of_the_console dialect
 knows dialect _ = true
+
+-- How many bytes a line may have, without its line feed.
+abbrev pub most_bytes : Dialect → ℕ
+most_bytes Console = 4096
+most_bytes dialect = 1024

@@ -91,14 +91,18 @@ fn with_wait<'a>(verb: Verb, words: Option<&'a [u8]>) -> BadLine<'a> {
 fn by_verb<'a>(verb: Verb, words: &'a [u8]) -> BadLine<'a> {
     let (word, rest) = cut_at(words, b' ');
     match verb {
-        Verb::Put | Verb::Get | Verb::Link | Verb::Notify | Verb::Dbpf | Verb::Dbgf => {
-            with_field(verb, word, rest)
-        }
+        Verb::Put
+        | Verb::Get
+        | Verb::Link
+        | Verb::Notify
+        | Verb::Dbpf
+        | Verb::Dbgf
+        | Verb::PutPlaced
+        | Verb::NotifyPlaced => with_field(verb, word, rest),
         Verb::At | Verb::Cancel | Verb::Tick => with_number(verb, word, rest),
         Verb::Scan => BadLine::NoPeriod(Quoted(words)),
-        Verb::Sets | Verb::Tally | Verb::Checkpoint | Verb::Help | Verb::Exit => {
-            BadLine::TooMuch(verb, words)
-        }
+        Verb::Sets | Verb::Tally | Verb::Checkpoint | Verb::Records | Verb::Help | Verb::Exit =>
+            BadLine::TooMuch(verb, words),
         _ if word.is_empty() => BadLine::Lacks(verb),
         Verb::Next => with_answer(verb, rest),
         Verb::Done | Verb::Fault => with_wait(verb, rest),
@@ -109,7 +113,7 @@ fn by_verb<'a>(verb: Verb, words: &'a [u8]) -> BadLine<'a> {
 impl<'a> BadLine<'a> {
     /// Returns why a line asks for nothing.
     pub fn of(dialect: Dialect, line: &'a [u8]) -> Self {
-        if let Some(fault) = LayoutFault::of(line) {
+        if let Some(fault) = LayoutFault::of(dialect, line) {
             return BadLine::Layout(fault);
         }
         let (word, words) = cut_at(line, b' ');

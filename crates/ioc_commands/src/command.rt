@@ -173,6 +173,12 @@ fn with_words(is_value: bool, verb: Verb, words: &[u8]) -> Command<'_>
         | Verb::Checkpoint
         | Verb::List
         | Verb::Show
+        | Verb::PutPlaced
+        | Verb::NotifyPlaced
+        | Verb::Read
+        | Verb::Records
+        | Verb::Fields
+        | Verb::Choices
         | Verb::Help
         | Verb::Exit => Command::Bad,
     }
@@ -181,7 +187,7 @@ fn with_words(is_value: bool, verb: Verb, words: &[u8]) -> Command<'_>
 // Returns the record and the field of a word, which is cut at its first dot. If `is_value`, a record
 // alone is its field VAL.
 #[inline(always)]
-fn channel(is_value: bool, word: &[u8]) -> (&[u8], Option<&[u8]>)
+pub(crate) fn channel(is_value: bool, word: &[u8]) -> (&[u8], Option<&[u8]>)
     ensures record { result.0.now ≡ before 46 word.now }
     ensures field { option_map bytes result.1 ≡ field_of_word is_value word.now }
 {

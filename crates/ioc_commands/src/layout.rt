@@ -1,13 +1,14 @@
 //! How a line is laid out: what is wrong with it before its words are looked at.
 use crate::parts::cut_at;
 use crate::quoted::Quoted;
+use crate::verb::Dialect;
 use std::fmt;
 
 /// What is wrong with a line before its words are looked at.
 #[derive(Clone, Copy)]
 pub enum LayoutFault<'a> {
-    /// The line has more than 1,024 bytes.
-    TooLong,
+    /// The line has more bytes than a speaker's may have, which is this number.
+    TooLong(usize),
     /// A byte order mark stands before the first word.
     ByteOrderMark,
     /// The line ends with a carriage return.
@@ -55,9 +56,10 @@ fn between_words(line: &[u8]) -> Option<LayoutFault<'_>> {
 
 impl<'a> LayoutFault<'a> {
     /// Returns what is wrong with a line before its words are looked at, if anything is.
-    pub fn of(line: &'a [u8]) -> Option<Self> {
-        if line.len() > 1024 {
-            return Some(LayoutFault::TooLong);
+    pub fn of(dialect: Dialect, line: &'a [u8]) -> Option<Self> {
+        let most = dialect.most_bytes();
+        if line.len() > most {
+            return Some(LayoutFault::TooLong(most));
         }
         if is_of_database(line) {
             return Some(LayoutFault::OfDatabase);
@@ -74,7 +76,7 @@ impl<'a> LayoutFault<'a> {
 impl fmt::Display for LayoutFault<'_> {
     fn fmt<W: fmt::Write>(&self, f: &mut fmt::Formatter<W>) -> fmt::Result {
         match self {
-            LayoutFault::TooLong => f.write_str("a line has at most 1024 bytes"),
+            LayoutFault::TooLong(most) => write!(f, "a line has at most {most} bytes"),
             LayoutFault::ByteOrderMark => f.write_str("a byte order mark before the first word"),
             LayoutFault::CarriageReturn => {
                 f.write_str("a carriage return at the end; a line feed alone ends a line")

@@ -11,6 +11,8 @@ mod quoted;
 mod request;
 mod sets_line;
 mod table;
+mod tag;
+mod texts;
 mod verb;
 
 pub use bad_line::BadLine;
@@ -21,4 +23,6 @@ pub use parts::{cut_at, split_before};
 pub use quoted::{Quoted, Shown};
 pub use request::{MAX_TICKS_OF_A_LINE, Request};
 pub use sets_line::{add_to_set, begin_set, begin_sets, end_set, end_sets};
+pub use tag::Tagged;
+pub use texts::{ReadText, add_escaped_text, add_shown_text, read_text};
 pub use verb::{Dialect, Verb};

@@ -3,9 +3,10 @@ ghost use Rattle.std.specs.Prelude.{◌≡◌, option_map};
 ghost use Rattle.ioc_commands.specs.Seen.{bytes};
 ghost use Rattle.ioc_commands.specs.Verbs.{verb_named};
 ghost use Rattle.ioc_commands.specs.Commands.{before, behind};
-ghost use Rattle.ioc_commands.specs.Requests.{request_of, by_any, asked_by, seen, ticks_of, listed, shown, alone};
+ghost use Rattle.ioc_commands.specs.Requests.{request_of, by_any, asked_by, seen, ticks_of, one_word, listed, shown, alone};
+ghost use Rattle.ioc_commands.specs.Requests.{fields_of, choices_of, placed_of, read_of};
 
-use crate::command::{Command, by_verb};
+use crate::command::{Command, by_verb, channel};
 use crate::parts::cut_at;
 use crate::verb::{Dialect, Verb};
 use ioc_values::number::decimal;
@@ -27,10 +28,23 @@ pub enum Request<'a> {
     Tick(u64),
     /// Makes a checkpoint of the journal.
     Checkpoint,
-    /// Prints the names of the records that this pattern stands for.
-    List(&'a [u8]),
+    /// Prints the names of the records that a word stands for, which is a type or a pattern, and if
+    /// there is a second word, of those of a type that the second stands for.
+    List(&'a [u8], Option<&'a [u8]>),
     /// Prints the fields of the record with this name.
     Show(&'a [u8]),
+    /// A record, a field of it, and the text to put, with escapes; prints the place too.
+    PutPlaced(&'a [u8], &'a [u8], &'a [u8]),
+    /// The same of a put with notification.
+    NotifyPlaced(&'a [u8], &'a [u8], &'a [u8]),
+    /// Prints fields of the record with this name, all of one moment. Their names are words.
+    Read(&'a [u8], &'a [u8]),
+    /// Prints the records with their types.
+    Records,
+    /// Prints the fields of this record type with their kinds.
+    Fields(&'a [u8]),
+    /// Prints the choices of the menu with this name.
+    Choices(&'a [u8]),
     Help,
     /// Ends the lines.
     Exit,
@@ -43,7 +57,7 @@ impl<'a> Request<'a> {
     pub fn from_line(dialect: Dialect, line: &'a [u8]) -> Self
         ensures { seen result ≡ request_of dialect line.now }
     {
-        if line.len() > 1024 {
+        if line.len() > dialect.most_bytes() {
             return Request::Command(Command::Bad);
         }
         match line {
@@ -73,6 +87,12 @@ fn asked_by<'a>(verb: Verb, words: Option<&'a [u8]>) -> Request<'a>
         Verb::Tick => tick(words),
         Verb::List => list(words),
         Verb::Show => show(words),
+        Verb::PutPlaced => placed(false, words),
+        Verb::NotifyPlaced => placed(true, words),
+        Verb::Read => read(words),
+        Verb::Records => alone(words, Request::Records),
+        Verb::Fields => fields(words),
+        Verb::Choices => menu(words),
         Verb::Checkpoint => alone(words, Request::Checkpoint),
         Verb::Help => alone(words, Request::Help),
         Verb::Exit => alone(words, Request::Exit),
@@ -102,26 +122,85 @@ fn tick<'a>(words: Option<&'a [u8]>) -> Request<'a>
     }
 }
 
-fn list<'a>(words: Option<&'a [u8]>) -> Request<'a>
-    ensures { seen result ≡ listed (option_map bytes words.entry) }
+// Returns the one word that is behind a first word, if there is just one.
+fn one_word<'a>(words: Option<&'a [u8]>) -> Option<&'a [u8]>
+    ensures { option_map bytes result ≡ one_word (option_map bytes words.entry) }
 {
-    let Some(words) = words else {
-        return Request::List(b"*");
-    };
-    match cut_at(words, b' ') {
-        ([], _) | (_, Some(_)) => Request::Command(Command::Bad),
-        (pattern, None) => Request::List(pattern),
+    match cut_at(words?, b' ') {
+        ([], _) | (_, Some(_)) => None,
+        (word, None) => Some(word),
     }
 }
 
 fn show<'a>(words: Option<&'a [u8]>) -> Request<'a>
     ensures { seen result ≡ shown (option_map bytes words.entry) }
 {
+    match one_word(words) {
+        Some(record) => Request::Show(record),
+        None => Request::Command(Command::Bad),
+    }
+}
+
+fn fields<'a>(words: Option<&'a [u8]>) -> Request<'a>
+    ensures { seen result ≡ fields_of (option_map bytes words.entry) }
+{
+    match one_word(words) {
+        Some(record_type) => Request::Fields(record_type),
+        None => Request::Command(Command::Bad),
+    }
+}
+
+fn menu<'a>(words: Option<&'a [u8]>) -> Request<'a>
+    ensures { seen result ≡ choices_of (option_map bytes words.entry) }
+{
+    match one_word(words) {
+        Some(name) => Request::Choices(name),
+        None => Request::Command(Command::Bad),
+    }
+}
+
+fn list<'a>(words: Option<&'a [u8]>) -> Request<'a>
+    ensures { seen result ≡ listed (option_map bytes words.entry) }
+{
+    let Some(words) = words else {
+        return Request::List(b"*", None);
+    };
+    let (first, more) = cut_at(words, b' ');
+    match (first, more) {
+        ([], _) => Request::Command(Command::Bad),
+        (_, None) => Request::List(first, None),
+        (_, Some(_)) => match one_word(more) {
+            Some(pattern) => Request::List(first, Some(pattern)),
+            None => Request::Command(Command::Bad),
+        },
+    }
+}
+
+fn read<'a>(words: Option<&'a [u8]>) -> Request<'a>
+    ensures { seen result ≡ read_of (option_map bytes words.entry) }
+{
     let Some(words) = words else {
         return Request::Command(Command::Bad);
     };
     match cut_at(words, b' ') {
-        ([], _) | (_, Some(_)) => Request::Command(Command::Bad),
-        (record, None) => Request::Show(record),
+        ([], _) | (_, None | Some([])) => Request::Command(Command::Bad),
+        (record, Some(fields)) => Request::Read(record, fields),
+    }
+}
+
+// Returns a put whose reply has its place, with a notification or without one.
+fn placed<'a>(notifies: bool, words: Option<&'a [u8]>) -> Request<'a>
+    ensures { seen result ≡ placed_of notifies (option_map bytes words.entry) }
+{
+    let Some(words) = words else {
+        return Request::Command(Command::Bad);
+    };
+    let (word, text) = cut_at(words, b' ');
+    let (record, field) = channel(true, word);
+    let text = text.unwrap_or(b"");
+    match field {
+        Some(field) if notifies => Request::NotifyPlaced(record, field, text),
+        Some(field) => Request::PutPlaced(record, field, text),
+        None => Request::Command(Command::Bad),
     }
 }

@@ -15,7 +15,7 @@ pub struct Form {
 }
 
 /// The forms of all commands, in the order in which help prints them.
-pub static FORMS: [Form; 23] = [
+pub static FORMS: [Form; 29] = [
     Form {
         verb: Verb::Process,
         line: "process REC",
@@ -132,7 +132,7 @@ pub static FORMS: [Form; 23] = [
     },
     Form {
         verb: Verb::List,
-        line: "dbl [PATTERN]",
+        line: "dbl [TYPE] [PATTERN]",
         about: "prints the names of records; * stands for any text, ? for a byte",
         shell: "",
     },
@@ -140,6 +140,42 @@ pub static FORMS: [Form; 23] = [
         verb: Verb::Show,
         line: "dbpr REC",
         about: "prints the fields of a record",
+        shell: "",
+    },
+    Form {
+        verb: Verb::PutPlaced,
+        line: "put# REC.F V",
+        about: "for programs: puts a number or an escaped text, and tells the place",
+        shell: "",
+    },
+    Form {
+        verb: Verb::NotifyPlaced,
+        line: "notify# REC.F V",
+        about: "for programs: the same of notify",
+        shell: "",
+    },
+    Form {
+        verb: Verb::Read,
+        line: "read REC F..",
+        about: "for programs: fields at one moment, F# for the number behind one",
+        shell: "",
+    },
+    Form {
+        verb: Verb::Records,
+        line: "records",
+        about: "for programs: a line '- REC TYPE' for each record",
+        shell: "",
+    },
+    Form {
+        verb: Verb::Fields,
+        line: "fields TYPE",
+        about: "for programs: a line '- F KIND' for each field",
+        shell: "",
+    },
+    Form {
+        verb: Verb::Choices,
+        line: "menu NAME",
+        about: "for programs: a line '- N TEXT' for each choice",
         shell: "",
     },
     Form {

@@ -1,6 +1,6 @@
 //! The first words of lines, and where each is known.
 ghost use Rattle.std.specs.Prelude.{◌≡◌};
-ghost use Rattle.ioc_commands.specs.Verbs.{knows, user_verb_named, verb_named};
+ghost use Rattle.ioc_commands.specs.Verbs.{knows, most_bytes, program_verb_named, user_verb_named, verb_named};
 
 /// The first word of a line.
 #[derive(Clone, Copy, PartialEq, Eq, Debug)]
@@ -28,6 +28,16 @@ pub enum Verb {
     Checkpoint,
     List,
     Show,
+    /// The word `put#`, for programs: a put whose reply has its place in the journal.
+    PutPlaced,
+    /// The word `notify#`, for programs: a put with notification whose reply has its place.
+    NotifyPlaced,
+    /// The word `read`, for programs: fields of a record at one moment.
+    Read,
+    Records,
+    Fields,
+    /// The word `menu`.
+    Choices,
     Help,
     Exit,
 }
@@ -105,6 +115,27 @@ fn of_a_user(word: &[u8]) -> Option<Verb>
     } else if word == b"exit".as_slice() {
         Some(Verb::Exit)
     } else {
+        of_a_program(word)
+    }
+}
+
+// Returns the first word with this spelling, of those that are meant for programs.
+fn of_a_program(word: &[u8]) -> Option<Verb>
+    ensures { result ≡ program_verb_named word.now }
+{
+    if word == b"put#".as_slice() {
+        Some(Verb::PutPlaced)
+    } else if word == b"notify#".as_slice() {
+        Some(Verb::NotifyPlaced)
+    } else if word == b"read".as_slice() {
+        Some(Verb::Read)
+    } else if word == b"records".as_slice() {
+        Some(Verb::Records)
+    } else if word == b"fields".as_slice() {
+        Some(Verb::Fields)
+    } else if word == b"menu".as_slice() {
+        Some(Verb::Choices)
+    } else {
         None
     }
 }
@@ -129,7 +160,26 @@ impl Dialect {
                 self != Dialect::Console
             }
             Verb::Dbpf | Verb::Dbgf | Verb::Help | Verb::Exit => self != Dialect::Script,
-            Verb::Tick | Verb::Checkpoint | Verb::List | Verb::Show => self == Dialect::Console,
+            Verb::Tick
+            | Verb::Checkpoint
+            | Verb::List
+            | Verb::Show
+            | Verb::PutPlaced
+            | Verb::NotifyPlaced
+            | Verb::Read
+            | Verb::Records
+            | Verb::Fields
+            | Verb::Choices => self == Dialect::Console,
+        }
+    }
+
+    /// Returns how many bytes a line may have, without its line feed.
+    pub fn most_bytes(self) -> usize
+        ensures { result ≡ most_bytes self }
+    {
+        match self {
+            Dialect::Script | Dialect::Prompt => 1024,
+            Dialect::Console => 4096,
         }
     }
 }

@@ -1,7 +1,7 @@
 -- The use of links. Application Developer's Guide, "Database Links".
 use Rattle.std.specs.Prelude.{ℕ, List, [], ◌∷◌, ◌++◌, Option, Some, None}
 use Rattle.ioc_links.specs.declared.link.Link.{Link}
-use Rattle.ioc_links.specs.declared.link.Link.TheVariants.{Empty, Constant, Device, Database}
+use Rattle.ioc_links.specs.declared.link.Link.TheVariants.{Empty, Constant, Real, Device, Database}
 use Rattle.ioc_links.specs.declared.link.Flags.{Flags}
 use Rattle.ioc_fields.specs.declared.field_no.FieldNo.{FieldNo}
 use Rattle.ioc_dbcommon.specs.declared.link_field.LinkField.{LinkField}
@@ -29,6 +29,7 @@ device_use _ = Absent
 abbrev pub use_as : Link → Lead → LinkUse
 use_as Empty lead = Unused
 use_as (Constant n) lead = Unused
+use_as (Real text) lead = Unused
 use_as (Device text) lead = device_use lead
 use_as (Database target flags) lead = database_use flags lead
 

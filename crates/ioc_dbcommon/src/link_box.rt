@@ -142,7 +142,7 @@ impl LinkBox {
         };
         match place.link {
             Link::Device(text) => text,
-            Link::Empty | Link::Constant(_) | Link::Database(..) => Short::new(),
+            Link::Empty | Link::Constant(_) | Link::Real(_) | Link::Database(..) => Short::new(),
         }
     }
 }

@@ -69,7 +69,7 @@ impl LinkField {
         ensures { result ≡ is_unused (use_of self.now) }
     {
         match self.link {
-            Link::Empty | Link::Constant(_) => true,
+            Link::Empty | Link::Constant(_) | Link::Real(_) => true,
             Link::Device(_) => match self.lead {
                 Lead::OwnDevice | Lead::Nowhere | Lead::Field(_) => false,
             },
@@ -84,7 +84,7 @@ impl LinkField {
         ensures { result ≡ is_own_device (use_of self.now) }
     {
         match self.link {
-            Link::Empty | Link::Constant(_) => false,
+            Link::Empty | Link::Constant(_) | Link::Real(_) => false,
             Link::Device(_) => match self.lead {
                 Lead::OwnDevice => true,
                 Lead::Nowhere | Lead::Field(_) => false,
@@ -100,7 +100,7 @@ impl LinkField {
         ensures { result ≡ record_named (use_of self.now) }
     {
         match self.link {
-            Link::Empty | Link::Constant(_) => None,
+            Link::Empty | Link::Constant(_) | Link::Real(_) => None,
             Link::Device(_) => match self.lead {
                 Lead::OwnDevice | Lead::Nowhere | Lead::Field(_) => None,
             },
@@ -116,7 +116,7 @@ impl LinkField {
         ensures { result ≡ use_of self.now }
     {
         match self.link {
-            Link::Empty | Link::Constant(_) => LinkUse::Unused,
+            Link::Empty | Link::Constant(_) | Link::Real(_) => LinkUse::Unused,
             Link::Device(_) => match self.lead {
                 Lead::OwnDevice => LinkUse::OwnDevice,
                 Lead::Nowhere | Lead::Field(_) => LinkUse::Absent,

@@ -3,7 +3,7 @@ use Rattle.std.proofs.Common.{◌≡◌, ℕ, zero, suc, ◌+◌, ◌<◌, Bool,
 use Rattle.std.specs.Prelude.{slice_get, slice_index_or, Contains, is_some}
 use Rattle.ioc_names.specs.NameTable.{NameTable, number_of}
 use Rattle.ioc_links.specs.declared.link.Link.{Link}
-use Rattle.ioc_links.specs.declared.link.Link.TheVariants.{Empty, Constant, Device, Database}
+use Rattle.ioc_links.specs.declared.link.Link.TheVariants.{Empty, Constant, Real, Device, Database}
 use Rattle.ioc_dbcommon.specs.declared.link_field.Lead.{Lead}
 use Rattle.ioc_dbcommon.specs.declared.link_field.Lead.TheVariants.{Nowhere, Field, OwnDevice}
 use Rattle.ioc_links.specs.declared.link.Flags.{Flags}
@@ -78,6 +78,7 @@ link_below : (names : NameTable) (types : List RecordType) (owner : Owner) (n : 
 unfolding standing_of
 link_below names types owner n Empty = tt
 link_below names types owner n (Constant z) = tt
+link_below names types owner n (Real text) = tt
 link_below names types owner n (Device text) = device_below (length types) (device_lead n (owner text))
 link_below names types owner n (Database target flags) = database_below (length types) flags (target_at types target.field (number_of names target.record_name)) (target_below types target.field (number_of names target.record_name))
 

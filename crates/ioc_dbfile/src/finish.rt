@@ -68,7 +68,7 @@ pub fn leads_to(
             None => Lead::Nowhere,
         },
         Link::Device(text) => owners.lead(number, text),
-        Link::Empty | Link::Constant(_) => Lead::Nowhere,
+        Link::Empty | Link::Constant(_) | Link::Real(_) => Lead::Nowhere,
     }
 }
 

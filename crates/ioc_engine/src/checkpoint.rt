@@ -1,5 +1,5 @@
 //! Checkpoints of an engine.
-ghost use Rattle.std.specs.Prelude.{◌≡◌, ◌≤◌, ◌⊎◌, take, drop, IfOk, IfErr};
+ghost use Rattle.std.specs.Prelude.{◌≡◌, ◌≤◌, ◌⊎◌, [], take, drop, IfOk, IfErr};
 ghost use Rattle.ioc_values.specs.declared.error.IocError.TheVariants.{Stopped};
 ghost use Rattle.ioc_journal.specs.Account.{calls, HasSeenMore, IsGiven};
 ghost use Rattle.ioc_journal.specs.Places.{IsNoPlace};
@@ -48,9 +48,12 @@ impl<B: EngineName<D>, D: Device, C: Drop> Engine<B, D, C> {
         ensures desk { HasSeenMore desk.old.account desk.new.account }
         ensures given { IfOk result (λ excerpt. IsGiven from (calls desk.new.account.seen) excerpt.first excerpt.entries.items) }
         ensures refused { IfErr result (λ error. (error ≡ Stopped) ⊎ IsNoPlace error) }
+        ensures ended { desk.new.buffers.ended_everywhere.items ≡ [] }
+        ensures moved { desk.new.moved ≡ 0 }
     {
-        self.core
-            .checkpoint_from(rt, self.alloc, &mut desk.account, from)
+        let told = self.core.checkpoint_from(rt, desk, from);
+        desk.begin();
+        told
     }
 
     /// Returns copies of the entries of the journal from a place on, at most `most` of them, without
@@ -70,8 +73,11 @@ impl<B: EngineName<D>, D: Device, C: Drop> Engine<B, D, C> {
         ensures desk { HasSeenMore desk.old.account desk.new.account }
         ensures copies { IfOk result (λ excerpt. excerpt.entries.items ≡ take most (drop excerpt.first (calls desk.new.account.seen))) }
         ensures from { IfOk result (λ excerpt. from ≤ excerpt.first) }
+        ensures ended { desk.new.buffers.ended_everywhere.items ≡ [] }
+        ensures moved { desk.new.moved ≡ 0 }
     {
-        self.core
-            .entries(rt, self.alloc, &mut desk.account, from, most)
+        let told = self.core.entries(rt, desk, from, most);
+        desk.begin();
+        told
     }
 }

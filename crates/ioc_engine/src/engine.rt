@@ -10,7 +10,7 @@ ghost use Rattle.ioc_journal.specs.Line.{longer, Begins};
 ghost use Rattle.ioc_journal.specs.Account.{IsAccount, calls, calls_by};
 ghost use Rattle.ioc_names.specs.NameTable.{number_of};
 ghost use Rattle.ioc_journaled_set.specs.Puts.{HaveEnded};
-ghost use Rattle.ioc_engine_core.specs.Served.{WasServed, WasTold, CallIsRefused, GetIsRefused};
+ghost use Rattle.ioc_engine_core.specs.Served.{target_of, WasServed, WasTold, CallIsRefused, GetIsRefused};
 ghost use Rattle.ioc_engine.specs.Channels.{channel_of};
 ghost use Rattle.ioc_engine.specs.Refusals.{HasField, CanBePut, IsGetError, IsPutError, IsOfEngine};
 
@@ -23,9 +23,9 @@ use crate::type_laws::types_stay;
 use ioc_device::Device;
 use ioc_engine_core::{Clock, EngineCore, FixedClock};
 use ioc_events::{Event, Reply};
+use ioc_journal::Limits;
 use ioc_names::RecordNo;
 use ioc_record::FieldText;
-use ioc_set::EventBuffers;
 use ioc_values::{Finished, Input, IocError};
 use rec_types::Record;
 use std::alloc::Global;
@@ -51,8 +51,7 @@ pub struct Engine<B: EngineName<D>, D: Device, C: Drop> {
     pub(crate) lookup: EngineLookup<B, D>,
     pub(crate) clock: C,
     pub(crate) alloc: Global,
-    // How many events a lock set keeps.
-    pub(crate) history: usize,
+    pub(crate) limits: Limits,
     pub ghost counted: { length lookup.types.items ≡ core },
 }
 
@@ -67,16 +66,7 @@ impl<B: EngineName<D>, D: Device, C: Drop> Engine<B, D, C> {
         ensures new { IfOk result (λ d. (d.account.next ≡ 0) × (calls_by d.account.number (calls d.account.seen) ≡ [])) }
         ensures refused { IfErr result (λ error. (error ≡ Stopped) ⊎ ((error ≡ JournalFull) ⊎ (error ≡ NoMemory))) }
     {
-        let buffers = EventBuffers::new(self.alloc, self.history)?;
-        let account = self.core.open_desk(rt)?;
-        Ok(Desk {
-            account,
-            buffers,
-            alloc: self.alloc,
-            moved: 0,
-            walked: Vec::new(self.alloc),
-            scanned: Vec::new(self.alloc),
-        })
+        self.core.open_desk(rt, self.alloc, self.limits.history)
     }
 
     /// Closes the engine: no call begins from then on, and desks that serve requests
@@ -126,8 +116,11 @@ impl<B: EngineName<D>, D: Device, C: Drop> Engine<B, D, C> {
         ensures told { Begins receipt.old desk.new.account.seen }
         ensures legal { IsAccount record_rules B.base desk.new.account.seen }
         ensures receipt { receipt.new ≡ receipt.old }
+        ensures ended { desk.new.buffers.ended_everywhere.items ≡ [] }
+        ensures moved { desk.new.moved ≡ 0 }
     {
-        self.core.learn(rt, &mut desk.account, receipt);
+        self.core.learn(rt, desk, receipt);
+        desk.begin();
     }
 }
 
@@ -139,36 +132,24 @@ impl<B: EngineName<D>, D: Device, C: Clock + Drop> Engine<B, D, C> {
         &self,
         rt: &R,
         desk: &mut Desk<B, D>,
-        number: RecordNo,
         event: &Event,
         clock: &T,
     ) -> Result<(Reply, Receipt<B>), IocError>
         requires ordinary { is_ordinary event.now ≡ true }
-        requires names { names event.now ≡ number ∷ [] }
-        ensures done { IfOk result (λ x. (moment : ℕ) × T.gives clock.now moment × WasServed D record_rules B.base D.gives number
+        ensures done { IfOk result (λ x. (moment : ℕ) × T.gives clock.now moment × WasServed D record_rules B.base D.gives (target_of event.now)
             desk.old.account moment event.now x.0 desk.new.account (world_of desk.new.buffers.store)) }
         ensures receipt { IfOk result (λ x. x.1 ≡ desk.new.account.seen) }
         ensures ended { OnOk result (HaveEnded record_rules B.base (world_of desk.new.buffers.store).ended desk.new.account.seen
             desk.new.buffers.ended_everywhere.items) }
-        ensures refused { IfErr result (CallIsRefused D record_rules B.base self.now.core number event.now) }
+        ensures refused { IfErr result (CallIsRefused D record_rules B.base self.now.core (target_of event.now) event.now) }
         ensures err { OnErr result (desk.new.account ≡ desk.old.account) }
         ensures none { OnErr result (desk.new.buffers.ended_everywhere.items ≡ []) }
         ensures moved { desk.new.moved ≡ 0 }
     {
         desk.begin();
-        let alloc = desk.alloc;
         let mut own = None;
-        let told = self.core.serve(
-            rt,
-            alloc,
-            &mut desk.account,
-            &mut desk.buffers,
-            &mut desk.walked,
-            number,
-            event,
-            clock,
-            &mut own,
-        );
+        let told = self.core.serve(rt, desk, event, clock, &mut own);
+        desk.moved = 0;
         if told.is_err() {
             desk.buffers.ended_everywhere.clear();
         }
@@ -200,7 +181,7 @@ impl<B: EngineName<D>, D: Device, C: Clock + Drop> Engine<B, D, C> {
         ensures moved { desk.new.moved ≡ 0 }
     {
         let event = Event::Process { record: number };
-        self.serve(rt, desk, number, &event, &self.clock)
+        self.serve(rt, desk, &event, &self.clock)
     }
 
     /// Requests a record to be processed with this time stamp, in nanoseconds since 1970-01-01
@@ -227,7 +208,7 @@ impl<B: EngineName<D>, D: Device, C: Clock + Drop> Engine<B, D, C> {
         ensures moved { desk.new.moved ≡ 0 }
     {
         let event = Event::Process { record: number };
-        self.serve(rt, desk, number, &event, &FixedClock(moment))
+        self.serve(rt, desk, &event, &FixedClock(moment))
     }
 
     /// Puts a value into a field, and processes the record if the field or the record asks for it
@@ -269,7 +250,7 @@ impl<B: EngineName<D>, D: Device, C: Clock + Drop> Engine<B, D, C> {
             field: channel.field,
             value: given,
         };
-        self.serve(rt, desk, number, &event, &self.clock)
+        self.serve(rt, desk, &event, &self.clock)
     }
 
     /// Completes a record with the asynchronous answer of its device. `wait` is the number of the
@@ -303,7 +284,7 @@ impl<B: EngineName<D>, D: Device, C: Clock + Drop> Engine<B, D, C> {
             wait,
             finished,
         };
-        self.serve(rt, desk, number, &event, &self.clock)
+        self.serve(rt, desk, &event, &self.clock)
     }
 
     /// Returns the text of a field (dbGetField).
@@ -328,14 +309,10 @@ impl<B: EngineName<D>, D: Device, C: Clock + Drop> Engine<B, D, C> {
         ensures moved { desk.new.moved ≡ 0 }
     {
         types_stay::<Record>();
+        let told = self
+            .core
+            .get(rt, desk, channel.record(), channel.field, &self.clock);
         desk.begin();
-        self.core.get(
-            rt,
-            desk.alloc,
-            &mut desk.account,
-            channel.record(),
-            channel.field,
-            &self.clock,
-        )
+        told
     }
 }

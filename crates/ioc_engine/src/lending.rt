@@ -1,6 +1,7 @@
 //! Engines that are lent to a program.
-ghost use Rattle.std.specs.Prelude.{◌≡◌, ◌⊎◌, IfOk, IfErr, OnOk};
+ghost use Rattle.std.specs.Prelude.{◌≡◌, ◌⊎◌, [], IfOk, IfErr, OnOk};
 ghost use Rattle.ioc_values.specs.declared.error.IocError.TheVariants.{BadValue, JournalFull, NoMemory, Stopped};
+ghost use Rattle.ioc_journal.specs.Account.{calls, calls_by};
 ghost use Rattle.ioc_journal.specs.Places.{AreAllowed};
 ghost use Rattle.ioc_engine.specs.Named.{IsNamedBy};
 
@@ -20,6 +21,10 @@ use std::sync::Wait;
 /// devices, `C` that of the clock, `R` that of the handle by which calls wait, and `T` that of what
 /// it returns.
 ///
+/// The ghost item `needs` is for contracts: what the work may rely on about the names and types of the
+/// database, and about the limits, which [`with_engine`] requires of the seed and of the limits that
+/// it is given. Work that leaves it out relies on nothing.
+///
 /// ```rust
 /// struct Copying;
 ///
@@ -36,6 +41,13 @@ use std::sync::Wait;
 /// }
 /// ```
 pub trait EngineWork<D: Device, C: Clock + Drop, R: Wait, T> {
+    ghost use Rattle.ioc_engine.specs.declared.lookup.Lookup.{Lookup};
+    ghost use Rattle.ioc_journal.specs.declared.limits.Limits.{Limits};
+
+    /// Relates the work to the names and types of the database, and to the limits of the engine, with
+    /// which it may be done.
+    ghost needs: { Self → Lookup → Limits → Type 0 } = { λ _ _ _. Unit {0} };
+
     /// Relates the work to what it may return.
     ghost gives: { Self → T → Type 0 } = { λ _ _. Unit {0} };
 
@@ -46,6 +58,8 @@ pub trait EngineWork<D: Device, C: Clock + Drop, R: Wait, T> {
         engine: &Engine<B, D, C>,
         desk: &mut Desk<B, D>,
     ) -> T
+        requires needs { needs self engine.now.lookup engine.now.limits }
+        requires new { (desk.old.account.next ≡ 0) × (calls_by desk.old.account.number (calls desk.old.account.seen) ≡ []) }
         ensures { gives self result };
 }
 
@@ -59,6 +73,7 @@ fn lend<
     W: EngineWork<D, C, R, T> + Drop,
 >(rt: &R, alloc: Global, seed: Seed<D>, clock: C, limits: Limits, work: W) -> Result<T, IocError>
     requires named { IsNamedBy B.table B.base B.devices B.places B.tickets B.counts seed }
+    requires needs { W.needs work seed.lookup limits }
     ensures done { IfOk result (W.gives work) }
     ensures limits { OnOk result (AreAllowed limits) }
     ensures refused { IfErr result (λ error. ((error ≡ BadValue) × (AreAllowed limits → ⊥))
@@ -85,6 +100,7 @@ pub fn with_engine<D: Device, C: Clock + Drop, R: Wait, T, W: EngineWork<D, C, R
     limits: Limits,
     work: W,
 ) -> Result<T, IocError>
+    requires needs { W.needs work seed.lookup limits }
     ensures done { IfOk result (W.gives work) }
     ensures limits { OnOk result (AreAllowed limits) }
     ensures refused { IfErr result (λ error. ((error ≡ BadValue) × (AreAllowed limits → ⊥))

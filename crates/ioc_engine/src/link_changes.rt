@@ -74,18 +74,10 @@ impl<B: EngineName<D>, D: Device, C: Clock + Drop> Engine<B, D, C> {
         ensures ended { desk.new.buffers.ended_everywhere.items ≡ [] }
         ensures refused { IfErr result (LinkWasRefused D record_rules B.base self.now.core change.number change.field change.link) }
         ensures err { OnErr result (desk.new.account ≡ desk.old.account) }
-        ensures moved { desk.new.moved ≡ desk.old.moved }
+        ensures moved { desk.new.moved ≡ 0 }
     {
-        let alloc = desk.alloc;
-        let changed = self.core.set_link(
-            rt,
-            alloc,
-            &mut desk.account,
-            &mut desk.buffers,
-            &mut desk.walked,
-            change,
-            &self.clock,
-        );
+        let changed = self.core.set_link(rt, desk, change, &self.clock);
+        desk.moved = 0;
         if changed.is_err() {
             desk.buffers.ended_everywhere.clear();
         }
@@ -139,11 +131,10 @@ impl<B: EngineName<D>, D: Device, C: Clock + Drop> Engine<B, D, C> {
         let lookup = self.lookup.get();
         let link = lookup.link(channel, text)?;
         let lead = lookup.lead(number, &link);
-        let alloc = desk.alloc;
-        let Ok(kept) = LinkBox::new(alloc, LinkField { link, lead }) else {
+        let Ok(kept) = LinkBox::new(desk.alloc, LinkField { link, lead }) else {
             return Err(IocError::NoMemory);
         };
-        let Ok(base_link) = kept.copy(alloc) else {
+        let Ok(base_link) = kept.copy(desk.alloc) else {
             return Err(IocError::NoMemory);
         };
         let change = LinkChange {

@@ -48,22 +48,15 @@ impl<B: EngineName<D>, D: Device, C: Clock + Drop> Engine<B, D, C> {
     {
         types_stay::<Record>();
         desk.begin();
-        let alloc = desk.alloc;
         let put = FieldPut {
             number: channel.record(),
             field: channel.field,
             given,
             moment: 0,
         };
-        self.core.put_notify(
-            rt,
-            alloc,
-            &mut desk.account,
-            &mut desk.buffers,
-            &mut desk.walked,
-            put,
-            &self.clock,
-        )
+        let told = self.core.put_notify(rt, desk, put, &self.clock);
+        desk.moved = 0;
+        told
     }
 
     /// Puts a value into a field with notification (dbPutNotify): the records that are processed
@@ -123,9 +116,9 @@ impl<B: EngineName<D>, D: Device, C: Clock + Drop> Engine<B, D, C> {
         ensures err { OnErr result (desk.new.account ≡ desk.old.account) }
         ensures moved { desk.new.moved ≡ 0 }
     {
+        let told = self.core.live(rt, desk, number, &self.clock);
         desk.begin();
-        self.core
-            .live(rt, desk.alloc, &mut desk.account, number, &self.clock)
+        told
     }
 
     /// Cancels the put with notification with this number (dbNotifyCancel): no record is part of it
@@ -150,15 +143,8 @@ impl<B: EngineName<D>, D: Device, C: Clock + Drop> Engine<B, D, C> {
         ensures moved { desk.new.moved ≡ 0 }
     {
         desk.begin();
-        let alloc = desk.alloc;
-        let told = self.core.cancel(
-            rt,
-            alloc,
-            &mut desk.account,
-            &mut desk.buffers,
-            number,
-            &self.clock,
-        );
+        let told = self.core.cancel(rt, desk, number, &self.clock);
+        desk.moved = 0;
         if told.is_err() {
             desk.buffers.ended_everywhere.clear();
         }

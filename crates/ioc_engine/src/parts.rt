@@ -1,5 +1,5 @@
 //! The lock sets as they are.
-ghost use Rattle.std.specs.Prelude.{◌≡◌, ◌⊎◌, ◌<◌, ℕ, All, Any, Contains, IfOk, IfErr};
+ghost use Rattle.std.specs.Prelude.{◌≡◌, ◌⊎◌, ◌<◌, ℕ, [], All, Any, Contains, IfOk, IfErr};
 ghost use Rattle.ioc_values.specs.declared.error.IocError.TheVariants.{NoMemory, Stopped};
 ghost use Rattle.rec_types.specs.Record.{record_rules};
 ghost use Rattle.ioc_journal.specs.Account.{HasSeenMore};
@@ -33,7 +33,12 @@ impl<B: EngineName<D>, D: Device, C: Drop> Engine<B, D, C> {
         ensures desk { HasSeenMore desk.old.account desk.new.account }
         ensures each { IfOk result (λ all. (q : ℕ) → q < self.now.core → Any (λ v. Contains v.items q) all.items) }
         ensures refused { IfErr result (λ error. (error ≡ Stopped) ⊎ (error ≡ NoMemory)) }
+        ensures ended { desk.new.buffers.ended_everywhere.items ≡ [] }
+        ensures moved { desk.new.moved ≡ 0 }
     {
-        self.core.parts(rt, self.alloc, &mut desk.account)
+        let told = self.core.parts(rt, desk);
+        desk.buffers.ended_everywhere.clear();
+        desk.moved = 0;
+        told
     }
 }

@@ -122,7 +122,7 @@ impl<B: EngineName<D>, D: Device, C: Drop> Engine<B, D, C> {
             lookup: _,
             clock: _,
             alloc,
-            history: _,
+            limits: _,
         } = self;
         Report {
             core: core.stop(rt, alloc),

@@ -1,18 +1,19 @@
 //! Scans, posted events, interrupts of devices, and requests that wait.
-ghost use Rattle.std.specs.Prelude.{◌≡◌, ◌⊎◌, ℕ, [], None, take, IfOk, IfErr, OnErr};
+ghost use Rattle.std.specs.Prelude.{◌≡◌, ◌⊎◌, ℕ, [], false, None, take, IfOk, IfErr, OnErr};
 ghost use Rattle.ioc_values.specs.declared.error.IocError.TheVariants.{BadValue, NoMemory, Stopped};
 ghost use Rattle.rec_types.specs.Record.{record_rules};
 ghost use Rattle.ioc_events.specs.declared.event.Call.TheVariants as call;
 ghost use Rattle.ioc_journal.specs.Account.{HasCalled};
 ghost use Rattle.ioc_journal.specs.Places.{IsNoPlace};
 ghost use Rattle.ioc_scan.specs.Places.{period_of};
+ghost use Rattle.ioc_engine_core.specs.Requested.{HasServed, HasServedSome};
 
 use crate::Receipt;
 use crate::desk::Desk;
 use crate::engine::Engine;
 use crate::engine_name::EngineName;
 use ioc_device::Device;
-use ioc_engine_core::{Clock, Server};
+use ioc_engine_core::Clock;
 use ioc_menus::Scan;
 use ioc_names::RecordNo;
 use ioc_scan::period::period_of;
@@ -75,7 +76,8 @@ impl<B: EngineName<D>, D: Device, C: Clock + Drop> Engine<B, D, C> {
     /// Scans a period once: requests each record with this choice of SCAN, as
     /// [`Engine::process`] does, in the order of [`Engine::scan_list`]. Returns how many were
     /// requested. A record whose request is refused is left out, and
-    /// [`Report::refused`](crate::Report::refused) counts it. A thread that scans calls this once in
+    /// [`Report::refused`](crate::Report::refused) counts it. [`Desk::ended`] returns the puts with
+    /// notification that have ended by any of these requests. A thread that scans calls this once in
     /// each period; the engine has no timer.
     ///
     /// # Errors
@@ -87,35 +89,38 @@ impl<B: EngineName<D>, D: Device, C: Clock + Drop> Engine<B, D, C> {
         desk: &mut Desk<B, D>,
         choice: Scan,
     ) -> Result<usize, IocError>
+        ensures served { IfOk result (λ count. HasServed count desk.old.account desk.new.account) }
+        ensures err { OnErr result (desk.new.account ≡ desk.old.account) }
+        ensures none { OnErr result (desk.new.buffers.ended_everywhere.items ≡ []) }
         ensures refused { IfErr result (λ error. (error ≡ Stopped) ⊎ (((error ≡ BadValue) × (period_of choice ≡ None))
             ⊎ (error ≡ NoMemory))) }
         ensures moved { desk.new.moved ≡ 0 }
     {
         desk.begin();
         let mut walked = mem::replace(&mut desk.scanned, Vec::new(desk.alloc));
-        let walk = self.walk_period(rt, choice, &mut walked);
-        let mut requested = 0;
-        if walk.is_ok() {
-            requested = self.request_each(rt, desk, walked.as_slice());
-        }
+        let told = self.scan_walked(rt, desk, choice, &mut walked);
         desk.scanned = walked;
-        walk?;
-        Ok(requested)
+        desk.moved = 0;
+        told
     }
 
-    // Requests each of these records, and returns how many requests weren't refused.
-    fn request_each<R: Wait>(&self, rt: &R, desk: &mut Desk<B, D>, listed: &[Listed]) -> usize
-        requires moved { desk.old.moved ≡ 0 }
-        ensures moved { desk.new.moved ≡ 0 }
+    // Replaces the contents of `walked` with the records that are scanned with a period, and requests
+    // each of them.
+    fn scan_walked<R: Wait>(
+        &self,
+        rt: &R,
+        desk: &mut Desk<B, D>,
+        choice: Scan,
+        walked: &mut Vec<Listed>,
+    ) -> Result<usize, IocError>
+        ensures served { IfOk result (λ count. HasServed count desk.old.account desk.new.account) }
+        ensures err { OnErr result ((desk.new.account ≡ desk.old.account) × (desk.new.buffers ≡ desk.old.buffers)) }
+        ensures refused { IfErr result (λ error. (error ≡ Stopped) ⊎ (((error ≡ BadValue) × (period_of choice ≡ None))
+            ⊎ (error ≡ NoMemory))) }
     {
-        let mut requested = 0usize;
-        for member in listed {
-            match self.request(rt, desk, member.number) {
-                Ok(()) => requested = requested.saturating_add(1),
-                Err(_) => self.core.count_refused(),
-            }
-        }
-        requested
+        self.walk_period(rt, choice, walked)?;
+        self.core
+            .request_each(rt, desk, walked.as_slice(), &self.clock)
     }
 
     // Requests a record, as `process` does.
@@ -128,18 +133,10 @@ impl<B: EngineName<D>, D: Device, C: Clock + Drop> Engine<B, D, C> {
         ensures moved { desk.new.moved ≡ 0 }
     {
         desk.begin();
-        let alloc = desk.alloc;
         let mut own = None;
-        self.core.request(
-            rt,
-            alloc,
-            &mut desk.account,
-            &mut desk.buffers,
-            &mut desk.walked,
-            number,
-            &self.clock,
-            &mut own,
-        )
+        let told = self.core.request(rt, desk, number, &self.clock, &mut own);
+        desk.moved = 0;
+        told
     }
 
     /// Posts an event (post_event): a request of each record with SCAN Event whose EVNT is this name
@@ -167,16 +164,9 @@ impl<B: EngineName<D>, D: Device, C: Clock + Drop> Engine<B, D, C> {
         ensures refused { IfErr result (λ error. (error ≡ Stopped) ⊎ IsNoPlace error) }
         ensures err { OnErr result (desk.new.account ≡ desk.old.account) }
     {
+        let told = self.core.post_event(rt, desk, Text::cut(name), &self.clock);
         desk.begin();
-        let alloc = desk.alloc;
-        self.core.post_event(
-            rt,
-            alloc,
-            &mut desk.account,
-            &mut desk.walked,
-            Text::cut(name),
-            &self.clock,
-        )
+        told
     }
 
     /// Tells of an interrupt of devices (scanIoRequest): a request of each record with SCAN I/O Intr
@@ -200,16 +190,9 @@ impl<B: EngineName<D>, D: Device, C: Clock + Drop> Engine<B, D, C> {
         ensures refused { IfErr result (λ error. (error ≡ Stopped) ⊎ IsNoPlace error) }
         ensures err { OnErr result (desk.new.account ≡ desk.old.account) }
     {
+        let told = self.core.io_interrupt(rt, desk, word, &self.clock);
         desk.begin();
-        let alloc = desk.alloc;
-        self.core.io_interrupt(
-            rt,
-            alloc,
-            &mut desk.account,
-            &mut desk.walked,
-            word,
-            &self.clock,
-        )
+        told
     }
 
     /// Serves the requests that wait, by a desk: those of the callback queues HIGH, MEDIUM and LOW,
@@ -217,7 +200,8 @@ impl<B: EngineName<D>, D: Device, C: Clock + Drop> Engine<B, D, C> {
     /// has one. Sleeps while none waits, and returns the desk once the engine was closed and no
     /// request waits. A thread of the program calls this with a desk of its own, which makes it a
     /// callback task of an IOC. A request that is refused, because the engine was closed, the
-    /// journal is full or allocation fails, is left out, and its ticket is handed back.
+    /// journal is full or allocation fails, is left out, and its ticket is handed back. The desk makes
+    /// no other call.
     ///
     /// # Errors
     ///
@@ -228,43 +212,12 @@ impl<B: EngineName<D>, D: Device, C: Clock + Drop> Engine<B, D, C> {
     /// let desk = engine.work(rt, desk)?;
     /// ```
     pub fn work<R: Wait>(&self, rt: &R, desk: Desk<B, D>) -> Result<Desk<B, D>, IocError>
+        ensures served { IfOk result (λ d. HasServedSome desk.account d.account) }
         ensures told { IfOk result (λ d. (d.buffers.ended_everywhere.items ≡ []) × (d.moved ≡ 0)) }
         ensures refused { IfErr result (λ error. error ≡ NoMemory) }
     {
-        let Desk {
-            account,
-            buffers,
-            alloc,
-            moved: _,
-            walked,
-            scanned,
-        } = desk;
-        let mut server = Server {
-            core: &self.core,
-            clock: &self.clock,
-            alloc,
-            desk: account,
-            buffers,
-            walked,
-        };
-        if self.core.work(rt, &mut server).is_err() {
+        let Ok(mut desk) = self.core.work(rt, desk, &self.clock) else {
             return Err(IocError::NoMemory);
-        }
-        let Server {
-            core: _,
-            clock: _,
-            alloc: _,
-            desk: account,
-            buffers,
-            walked,
-        } = server;
-        let mut desk = Desk {
-            account,
-            buffers,
-            alloc,
-            moved: 0,
-            walked,
-            scanned,
         };
         desk.begin();
         Ok(desk)
@@ -273,17 +226,13 @@ impl<B: EngineName<D>, D: Device, C: Clock + Drop> Engine<B, D, C> {
     /// Serves the first of the requests that wait, in the order of [`Engine::work`], and returns
     /// false if there is none. So a program with one thread serves its requests itself.
     pub fn serve_one<R: Wait>(&self, rt: &R, desk: &mut Desk<B, D>) -> bool
+        ensures served { HasServedSome desk.old.account desk.new.account }
+        ensures idle { result ≡ false → desk.new.account ≡ desk.old.account }
         ensures moved { desk.new.moved ≡ 0 }
     {
         desk.begin();
-        let alloc = desk.alloc;
-        self.core.serve_one(
-            rt,
-            alloc,
-            &mut desk.account,
-            &mut desk.buffers,
-            &mut desk.walked,
-            &self.clock,
-        )
+        let is_served = self.core.serve_one(rt, desk, &self.clock);
+        desk.moved = 0;
+        is_served
     }
 }

@@ -37,6 +37,7 @@ impl<B: EngineName<D>, D: Device, C: Clock + Drop> Engine<B, D, C> {
         requires named { IsNamedBy B.table B.base B.devices B.places B.tickets B.counts seed }
         ensures records { IfOk result (λ e. e.core ≡ length seed.records.items) }
         ensures names { IfOk result (λ e. e.lookup ≡ seed.lookup) }
+        ensures kept_limits { IfOk result (λ e. e.limits ≡ limits) }
         ensures limits { OnOk result (AreAllowed limits) }
         ensures refused { IfErr result (λ error. ((error ≡ BadValue) × (AreAllowed limits → ⊥))
             ⊎ ((error ≡ NoMemory) ⊎ (error ≡ JournalFull))) }
@@ -67,7 +68,7 @@ impl<B: EngineName<D>, D: Device, C: Clock + Drop> Engine<B, D, C> {
             lookup: EngineLookup::new(lookup),
             clock,
             alloc,
-            history: limits.history,
+            limits,
         };
         match engine.request_starters(rt, starters.as_slice()) {
             Ok(()) => Ok(engine),

@@ -2,6 +2,7 @@ mod Counts
 mod Ending
 mod Marks
 mod Refusals
+mod Requests
 mod SeenMore
 mod Copies
 mod Keys
@@ -12,3 +13,4 @@ mod PartSizes
 mod SameKeys
 mod Numbered
 mod SharedSets
+mod Looks

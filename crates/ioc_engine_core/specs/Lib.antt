@@ -7,3 +7,5 @@ pub mod Cancelled
 pub use Rattle.ioc_journaled_set.specs.Holding
 pub mod Queueing
 pub mod Queued
+pub mod Looked
+pub mod Requested

@@ -10,6 +10,7 @@ use Rattle.ioc_device.specs.declared.Answer.{Answer}
 use Rattle.ioc_record.specs.RecordRules.{RecordRules}
 use Rattle.ioc_store.specs.World.{World}
 use Rattle.ioc_events.specs.declared.event.Event.{Event}
+use Rattle.ioc_events.specs.declared.event.Event.TheVariants.{Process, Put, Complete}
 use Rattle.ioc_events.specs.declared.reply.Reply.{Reply}
 use Rattle.ioc_events.specs.Step.{shown}
 use Rattle.ioc_journal.specs.Account.{DeskView}
@@ -18,6 +19,13 @@ use Rattle.ioc_set.specs.SetState.{now_of}
 use Rattle.ioc_set.specs.NoCalls.{no_call}
 use Rattle.ioc_topology.specs.Change.{IsRefused}
 use Rattle.ioc_journaled_set.specs.Holding.{HeldView, numbers_of, IsSoundlyHeld, Serves, Tells, Begins}
+
+-- The record of a request, a put or a completion.
+abbrev pub target_of : Event → ℕ
+target_of (Process s) = s
+target_of (Put s field given) = s
+target_of (Complete s number finished) = s
+target_of _ = 0
 
 module _ {R : Type 0} (D : Type 0) (k : RecordRules R) (base : World R) where
   -- A sound set has the record, and the record has no such field, or the field can't be put.

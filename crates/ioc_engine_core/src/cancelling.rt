@@ -8,17 +8,16 @@ ghost use Rattle.ioc_journaled_set.specs.Holding.{IsSoundlyHeld};
 ghost use Rattle.ioc_engine_core.specs.Cancelled.{WasCancelled, WasGivenUp, WasNotLive};
 
 use crate::clock::Clock;
+use crate::desk::Desk;
 use crate::engine::{BusySet, EngineCore};
 use ioc_device::Device;
 use ioc_events::Reply;
-use ioc_journal::{DeskAccount, Receipt};
+use ioc_journal::Receipt;
 use ioc_journaled_set::{JournaledSet, SetsName, cancel_on};
 use ioc_notify::NotifyId;
 use ioc_record::RecordKind;
-use ioc_set::EventBuffers;
 use ioc_topology::Locked;
 use ioc_values::IocError;
-use std::alloc::Global;
 use std::sync::Wait;
 
 // States the invariant of each of these sets. Does nothing.
@@ -38,22 +37,27 @@ impl<K: RecordKind + Drop, B: SetsName<K, D>, D: Device> EngineCore<K, B, D> {
     fn refuse_stale<R: Wait>(
         &self,
         rt: &R,
-        alloc: Global,
-        desk: &mut DeskAccount<K, B>,
+        desk: &mut Desk<K, B, D>,
         number: NotifyId,
         moment: u64,
     ) -> Result<Option<Receipt<K, B>>, IocError>
-        ensures stale { IfOk result (λ told. IfSome told (λ _. WasNotLive D K.rules B.base number desk.old moment (Refused Stale) desk.new)) }
-        ensures receipt { IfOk result (λ told. IfSome told (λ receipt. receipt ≡ desk.new.seen)) }
-        ensures live { IfOk result (λ told. IfNone told (desk.new ≡ desk.old)) }
+        ensures stale { IfOk result (λ told. IfSome told (λ _. WasNotLive D K.rules B.base number desk.old.account moment (Refused Stale) desk.new.account)) }
+        ensures receipt { IfOk result (λ told. IfSome told (λ receipt. receipt ≡ desk.new.account.seen)) }
+        ensures live { IfOk result (λ told. IfNone told (desk.new.account ≡ desk.old.account)) }
+        ensures buffers { desk.new.buffers ≡ desk.old.buffers }
         ensures refused { IfErr result IsNoPlace }
-        ensures err { OnErr result (desk.new ≡ desk.old) }
+        ensures err { OnErr result (desk.new.account ≡ desk.old.account) }
     {
         let mut puts = self.puts.lock(rt);
         if puts.is_live(number) {
             return Ok(None);
         }
-        let receipt = puts.refuse_cancel(&self.access(rt, alloc), desk, number, moment)?;
+        let receipt = puts.refuse_cancel(
+            &self.access(rt, desk.alloc),
+            &mut desk.account,
+            number,
+            moment,
+        )?;
         Ok(Some(receipt))
     }
 
@@ -63,28 +67,34 @@ impl<K: RecordKind + Drop, B: SetsName<K, D>, D: Device> EngineCore<K, B, D> {
     fn give_up<R: Wait>(
         &self,
         rt: &R,
-        alloc: Global,
-        desk: &mut DeskAccount<K, B>,
-        buffers: &mut EventBuffers<K, D>,
+        desk: &mut Desk<K, B, D>,
         number: NotifyId,
         moment: u64,
     ) -> Result<(Option<Receipt<K, B>>, Option<BusySet<'_, K, B, D>>), IocError>
-        ensures gave_up { IfOk result (λ x. IfSome x.0 (λ _. WasGivenUp D K.rules B.base number desk.old moment Plain desk.new)) }
-        ensures receipt { IfOk result (λ x. IfSome x.0 (λ receipt. receipt ≡ desk.new.seen)) }
-        ensures ended { IfOk result (λ x. IfSome x.0 (λ _. buffers.new.ended_everywhere.items ≡ [])) }
-        ensures missing { IfOk result (λ x. IfNone x.0 (desk.new ≡ desk.old)) }
+        ensures gave_up { IfOk result (λ x. IfSome x.0 (λ _. WasGivenUp D K.rules B.base number desk.old.account moment Plain desk.new.account)) }
+        ensures receipt { IfOk result (λ x. IfSome x.0 (λ receipt. receipt ≡ desk.new.account.seen)) }
+        ensures ended { IfOk result (λ x. IfSome x.0 (λ _. desk.new.buffers.ended_everywhere.items ≡ [])) }
+        ensures missing { IfOk result (λ x. IfNone x.0 (desk.new.account ≡ desk.old.account)) }
         ensures refused { IfErr result IsNoPlace }
-        ensures err { OnErr result (desk.new ≡ desk.old) }
+        ensures err { OnErr result (desk.new.account ≡ desk.old.account) }
     {
         let mut taken = self.sets.take_where(
             rt,
-            alloc,
+            desk.alloc,
             &|held: &JournaledSet<K, B, D>| { held.has_live(number) },
         )?;
         let sets = taken.sets.as_mut_slice();
         let mut puts = self.puts.lock(rt);
-        let access = self.access(rt, alloc);
-        let given = cancel_on(&access, desk, buffers, &mut puts, sets, number, moment);
+        let access = self.access(rt, desk.alloc);
+        let given = cancel_on(
+            &access,
+            &mut desk.account,
+            &mut desk.buffers,
+            &mut puts,
+            sets,
+            number,
+            moment,
+        );
         drop(puts);
         all_sound(sets);
         let busy = self.sets.put_back(rt, taken);
@@ -106,23 +116,21 @@ impl<K: RecordKind + Drop, B: SetsName<K, D>, D: Device> EngineCore<K, B, D> {
     pub fn cancel<R: Wait, C: Clock>(
         &self,
         rt: &R,
-        alloc: Global,
-        desk: &mut DeskAccount<K, B>,
-        buffers: &mut EventBuffers<K, D>,
+        desk: &mut Desk<K, B, D>,
         number: NotifyId,
         clock: &C,
     ) -> Result<(Reply, Receipt<K, B>), IocError>
-        ensures cancelled { IfOk result (λ x. (moment : ℕ) × C.gives clock.now moment × WasCancelled D K.rules B.base number desk.old
-            moment x.0 desk.new) }
-        ensures receipt { IfOk result (λ x. x.1 ≡ desk.new.seen) }
-        ensures ended { OnOk result (buffers.new.ended_everywhere.items ≡ []) }
+        ensures cancelled { IfOk result (λ x. (moment : ℕ) × C.gives clock.now moment × WasCancelled D K.rules B.base number desk.old.account
+            moment x.0 desk.new.account) }
+        ensures receipt { IfOk result (λ x. x.1 ≡ desk.new.account.seen) }
+        ensures ended { OnOk result (desk.new.buffers.ended_everywhere.items ≡ []) }
         ensures refused { IfErr result (λ error. (error ≡ Stopped) ⊎ IsNoPlace error) }
-        ensures err { OnErr result (desk.new ≡ desk.old) }
+        ensures err { OnErr result (desk.new.account ≡ desk.old.account) }
     {
         for _ in rt.forever() {
-            match self.try_cancel(rt, alloc, desk, buffers, number, clock) {
+            match self.try_cancel(rt, desk, number, clock) {
                 Ok(told) => return Ok(told),
-                Err(refused) if self.is_tried_again(rt, alloc, refused) => {}
+                Err(refused) if self.is_tried_again(rt, desk.alloc, refused) => {}
                 Err(refused) => return Err(refused),
             }
         }
@@ -133,30 +141,28 @@ impl<K: RecordKind + Drop, B: SetsName<K, D>, D: Device> EngineCore<K, B, D> {
     fn try_cancel<R: Wait, C: Clock>(
         &self,
         rt: &R,
-        alloc: Global,
-        desk: &mut DeskAccount<K, B>,
-        buffers: &mut EventBuffers<K, D>,
+        desk: &mut Desk<K, B, D>,
         number: NotifyId,
         clock: &C,
     ) -> Result<(Reply, Receipt<K, B>), IocError>
-        ensures cancelled { IfOk result (λ x. (moment : ℕ) × C.gives clock.now moment × WasCancelled D K.rules B.base number desk.old
-            moment x.0 desk.new) }
-        ensures receipt { IfOk result (λ x. x.1 ≡ desk.new.seen) }
-        ensures ended { OnOk result (buffers.new.ended_everywhere.items ≡ []) }
+        ensures cancelled { IfOk result (λ x. (moment : ℕ) × C.gives clock.now moment × WasCancelled D K.rules B.base number desk.old.account
+            moment x.0 desk.new.account) }
+        ensures receipt { IfOk result (λ x. x.1 ≡ desk.new.account.seen) }
+        ensures ended { OnOk result (desk.new.buffers.ended_everywhere.items ≡ []) }
         ensures refused { IfErr result (λ error. (error ≡ Stopped) ⊎ IsNoPlace error) }
-        ensures err { OnErr result (desk.new ≡ desk.old) }
+        ensures err { OnErr result (desk.new.account ≡ desk.old.account) }
     {
-        if !self.may_begin(rt, alloc) {
+        if !self.may_begin(rt, desk.alloc) {
             return Err(IocError::Stopped);
         }
         for _ in rt.forever() {
-            buffers.ended_everywhere.clear();
+            desk.buffers.ended_everywhere.clear();
             let guard = self.sets.guard_topology(rt);
             let moment = clock.now();
-            if let Some(receipt) = self.refuse_stale(rt, alloc, desk, number, moment)? {
+            if let Some(receipt) = self.refuse_stale(rt, desk, number, moment)? {
                 return Ok((Reply::Refused(IocError::Stale), receipt));
             }
-            let (given, busy) = self.give_up(rt, alloc, desk, buffers, number, moment)?;
+            let (given, busy) = self.give_up(rt, desk, number, moment)?;
             if let Some(receipt) = given {
                 return Ok((Reply::Plain, receipt));
             }

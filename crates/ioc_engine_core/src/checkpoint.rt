@@ -4,9 +4,10 @@ ghost use Rattle.ioc_values.specs.declared.error.IocError.TheVariants.{Stopped};
 ghost use Rattle.ioc_journal.specs.Account.{calls, HasSeenMore, IsGiven};
 ghost use Rattle.ioc_journal.specs.Places.{IsNoPlace};
 
+use crate::desk::Desk;
 use crate::engine::{BusySet, EngineCore};
 use ioc_device::Device;
-use ioc_journal::{DeskAccount, Excerpt};
+use ioc_journal::Excerpt;
 use ioc_journaled_set::{SetsName, checkpoint_giving, checkpoint_on};
 use ioc_record::RecordKind;
 use ioc_values::IocError;
@@ -53,12 +54,11 @@ impl<K: RecordKind + Drop, B: SetsName<K, D>, D: Device> EngineCore<K, B, D> {
     pub fn checkpoint_from<R: Wait>(
         &self,
         rt: &R,
-        alloc: Global,
-        desk: &mut DeskAccount<K, B>,
+        desk: &mut Desk<K, B, D>,
         from: u64,
     ) -> Result<Excerpt, IocError>
-        ensures desk { HasSeenMore desk.old desk.new }
-        ensures given { IfOk result (λ excerpt. IsGiven from (calls desk.new.seen) excerpt.first excerpt.entries.items) }
+        ensures desk { HasSeenMore desk.old.account desk.new.account }
+        ensures given { IfOk result (λ excerpt. IsGiven from (calls desk.new.account.seen) excerpt.first excerpt.entries.items) }
         ensures refused { IfErr result (λ error. (error ≡ Stopped) ⊎ IsNoPlace error) }
     {
         if self.is_closed() {
@@ -66,7 +66,7 @@ impl<K: RecordKind + Drop, B: SetsName<K, D>, D: Device> EngineCore<K, B, D> {
         }
         for _ in rt.forever() {
             let guard = self.sets.guard_topology(rt);
-            let (given, busy) = self.try_checkpoint_from(rt, alloc, desk, from)?;
+            let (given, busy) = self.try_checkpoint_from(rt, desk, from)?;
             drop(guard);
             if let Some(excerpt) = given {
                 return Ok(excerpt);
@@ -82,18 +82,17 @@ impl<K: RecordKind + Drop, B: SetsName<K, D>, D: Device> EngineCore<K, B, D> {
     fn try_checkpoint_from<R: Wait>(
         &self,
         rt: &R,
-        alloc: Global,
-        desk: &mut DeskAccount<K, B>,
+        desk: &mut Desk<K, B, D>,
         from: u64,
     ) -> Result<(Option<Excerpt>, Option<BusySet<'_, K, B, D>>), IocError>
-        ensures desk { HasSeenMore desk.old desk.new }
-        ensures given { IfOk result (λ x. IfSome x.0 (λ excerpt. IsGiven from (calls desk.new.seen) excerpt.first excerpt.entries.items)) }
+        ensures desk { HasSeenMore desk.old.account desk.new.account }
+        ensures given { IfOk result (λ x. IfSome x.0 (λ excerpt. IsGiven from (calls desk.new.account.seen) excerpt.first excerpt.entries.items)) }
         ensures refused { IfErr result IsNoPlace }
     {
-        let mut taken = self.sets.take_all(rt, alloc)?;
+        let mut taken = self.sets.take_all(rt, desk.alloc)?;
         let sets = taken.sets.as_mut_slice();
-        let access = self.access(rt, alloc);
-        let given = checkpoint_giving(&access, desk, sets, self.sets.len(), from);
+        let access = self.access(rt, desk.alloc);
+        let given = checkpoint_giving(&access, &mut desk.account, sets, self.sets.len(), from);
         let busy = self.sets.put_back(rt, taken);
         if let Ok(Some(_)) = &given {
             self.journal.spread_places(rt);
@@ -110,16 +109,16 @@ impl<K: RecordKind + Drop, B: SetsName<K, D>, D: Device> EngineCore<K, B, D> {
     pub fn entries<R: Wait>(
         &self,
         rt: &R,
-        alloc: Global,
-        desk: &mut DeskAccount<K, B>,
+        desk: &mut Desk<K, B, D>,
         from: u64,
         most: usize,
     ) -> Result<Excerpt, AllocError>
-        ensures desk { HasSeenMore desk.old desk.new }
-        ensures copies { IfOk result (λ excerpt. excerpt.entries.items ≡ take most (drop excerpt.first (calls desk.new.seen))) }
+        ensures desk { HasSeenMore desk.old.account desk.new.account }
+        ensures copies { IfOk result (λ excerpt. excerpt.entries.items ≡ take most (drop excerpt.first (calls desk.new.account.seen))) }
         ensures from { IfOk result (λ excerpt. from ≤ excerpt.first) }
     {
-        self.journal.copy_from(rt, alloc, desk, from, most)
+        self.journal
+            .copy_from(rt, desk.alloc, &mut desk.account, from, most)
     }
 
     // Makes a checkpoint unless another call has made one while this one waited for the topology

@@ -1,6 +1,6 @@
 //! Calls on records by their numbers.
 ghost use Rattle.std.specs.Prelude.{◌≡◌, ◌<◌, ℕ, true, [], ◌∷◌, ◌⊎◌, IfOk, IfErr, OnOk, OnErr};
-ghost use Rattle.ioc_values.specs.declared.error.IocError.TheVariants.{JournalFull, Stopped};
+ghost use Rattle.ioc_values.specs.declared.error.IocError.TheVariants.{JournalFull, NoMemory, Stopped};
 ghost use Rattle.ioc_events.specs.Step.{names};
 ghost use Rattle.ioc_journal.specs.Line.{longer, Begins};
 ghost use Rattle.ioc_set.specs.Doing.{is_ordinary};
@@ -10,19 +10,20 @@ ghost use Rattle.ioc_journal.specs.Account.{IsAccount, calls, calls_by};
 ghost use Rattle.ioc_journaled_set.specs.Puts.{HaveEnded};
 ghost use Rattle.std.specs.FinMap.{len};
 ghost use Rattle.ioc_engine_core.specs.Loading.{IsSpare};
-ghost use Rattle.ioc_engine_core.specs.Served.{WasTold, WasServed, CallIsRefused, GetIsRefused};
+ghost use Rattle.ioc_engine_core.specs.Served.{target_of, WasTold, WasServed, CallIsRefused, GetIsRefused};
 
 use crate::clock::Clock;
+use crate::desk::Desk;
 use crate::spare_parts::SpareParts;
 use ioc_device::Device;
 use ioc_events::{Event, Reply};
 use ioc_fields::FieldNo;
-use ioc_journal::{DeskAccount, EngineCounts, Receipt, RequestTickets, SharedJournal};
+use ioc_journal::{EngineCounts, Receipt, RequestTickets, SharedJournal};
 use ioc_journaled_set::{JournalAccess, JournaledSet, Served, SetsName, SharedNotifications};
 use ioc_ledger::{TallyShare, Ticket};
 use ioc_names::RecordNo;
 use ioc_record::{FieldText, RecordKind};
-use ioc_scan::{Listed, ScanLists};
+use ioc_scan::ScanLists;
 use ioc_set::EventBuffers;
 use ioc_shared_queues::{CallbackQueues, RecordRequest};
 use ioc_topology::{Busy, Directory, Locked};
@@ -157,34 +158,57 @@ impl<K: RecordKind + Drop, B: SetsName<K, D>, D: Device> EngineCore<K, B, D> {
         !self.is_closed()
     }
 
-    /// Opens a desk, by which a caller makes its calls. It has made none yet.
+    /// Opens a desk, by which a caller makes its calls, with buffers for sets that keep `history`
+    /// events. It has made none yet.
     ///
     /// # Errors
     ///
     /// [`IocError::Stopped`] if the engine was closed. [`IocError::JournalFull`] if no number is
-    /// left for a desk.
-    pub fn open_desk<R: Wait>(&self, rt: &R) -> Result<DeskAccount<K, B>, IocError>
-        ensures new { IfOk result (λ d. (d.next ≡ 0) × (calls_by d.number (calls d.seen) ≡ [])) }
-        ensures refused { IfErr result (λ error. (error ≡ Stopped) ⊎ (error ≡ JournalFull)) }
+    /// left for a desk. [`IocError::NoMemory`] if allocation fails.
+    pub fn open_desk<R: Wait>(
+        &self,
+        rt: &R,
+        alloc: Global,
+        history: usize,
+    ) -> Result<Desk<K, B, D>, IocError>
+        ensures new { IfOk result (λ d. (d.account.next ≡ 0) × (calls_by d.account.number (calls d.account.seen) ≡ [])) }
+        ensures refused { IfErr result (λ error. (error ≡ Stopped) ⊎ ((error ≡ JournalFull) ⊎ (error ≡ NoMemory))) }
     {
+        let buffers = EventBuffers::new(alloc, history)?;
         if self.is_closed() {
             return Err(IocError::Stopped);
         }
-        self.journal.open_desk(rt)
+        let account = self.journal.open_desk(rt)?;
+        Ok(Desk::new(alloc, account, buffers))
     }
 
     /// Moves a desk on to the list of a receipt, if that is longer than the list that the desk has
     /// seen.
-    pub fn learn<R: Wait>(&self, rt: &R, desk: &mut DeskAccount<K, B>, receipt: &mut Receipt<K, B>)
-        ensures desk { (desk.new.number ≡ desk.old.number) × (desk.new.next ≡ desk.old.next) }
-        ensures learnt { desk.new.seen ≡ longer desk.old.seen receipt.old }
-        ensures own { Begins desk.old.seen desk.new.seen }
-        ensures told { Begins receipt.old desk.new.seen }
-        ensures calls { calls_by desk.new.number (calls desk.new.seen) ≡ calls_by desk.old.number (calls desk.old.seen) }
-        ensures legal { IsAccount K.rules B.base desk.new.seen }
+    pub fn learn<R: Wait>(&self, rt: &R, desk: &mut Desk<K, B, D>, receipt: &mut Receipt<K, B>)
+        ensures desk { (desk.new.account.number ≡ desk.old.account.number) × (desk.new.account.next ≡ desk.old.account.next) }
+        ensures learnt { desk.new.account.seen ≡ longer desk.old.account.seen receipt.old }
+        ensures own { Begins desk.old.account.seen desk.new.account.seen }
+        ensures told { Begins receipt.old desk.new.account.seen }
+        ensures calls { calls_by desk.new.account.number (calls desk.new.account.seen) ≡ calls_by desk.old.account.number (calls desk.old.account.seen) }
+        ensures legal { IsAccount K.rules B.base desk.new.account.seen }
         ensures receipt { receipt.new ≡ receipt.old }
     {
-        desk.learn(rt, self.journal.cell(), receipt);
+        desk.account.learn(rt, self.journal.cell(), receipt);
+    }
+}
+
+// Returns the record of a request, a put or a completion.
+#[inline(always)]
+fn target_of(event: &Event) -> RecordNo
+    requires ordinary { is_ordinary event.now ≡ true }
+    ensures target { result ≡ target_of event.now }
+    ensures names { names event.now ≡ result ∷ [] }
+{
+    match event {
+        Event::Process { record } => *record,
+        Event::Put { record, .. } => *record,
+        Event::Complete { record, .. } => *record,
+        _ => unreachable!(),
     }
 }
 
@@ -208,33 +232,26 @@ impl<K: RecordKind + Drop, B: SetsName<K, D>, D: Device> EngineCore<K, B, D> {
     pub fn serve<R: Wait, C: Clock>(
         &self,
         rt: &R,
-        alloc: Global,
-        desk: &mut DeskAccount<K, B>,
-        buffers: &mut EventBuffers<K, D>,
-        walked: &mut Vec<Listed>,
-        number: RecordNo,
+        desk: &mut Desk<K, B, D>,
         event: &Event,
         clock: &C,
         ticket: &mut Option<Ticket<RequestTickets<K, B>>>,
     ) -> Result<(Reply, Receipt<K, B>), IocError>
         requires ordinary { is_ordinary event.now ≡ true }
-        requires names { names event.now ≡ number ∷ [] }
-        ensures served { IfOk result (λ x. (moment : ℕ) × C.gives clock.now moment × WasServed D K.rules B.base D.gives number desk.old
-            moment event.now x.0 desk.new (world_of buffers.new.store)) }
-        ensures receipt { IfOk result (λ x. x.1 ≡ desk.new.seen) }
-        ensures ended { OnOk result (HaveEnded K.rules B.base (world_of buffers.new.store).ended desk.new.seen
-            buffers.new.ended_everywhere.items) }
-        ensures refused { IfErr result (CallIsRefused D K.rules B.base self.now number event.now) }
-        ensures err { OnErr result (desk.new ≡ desk.old) }
+        ensures served { IfOk result (λ x. (moment : ℕ) × C.gives clock.now moment × WasServed D K.rules B.base D.gives (target_of event.now) desk.old.account
+            moment event.now x.0 desk.new.account (world_of desk.new.buffers.store)) }
+        ensures receipt { IfOk result (λ x. x.1 ≡ desk.new.account.seen) }
+        ensures ended { OnOk result (HaveEnded K.rules B.base (world_of desk.new.buffers.store).ended desk.new.account.seen
+            desk.new.buffers.ended_everywhere.items) }
+        ensures refused { IfErr result (CallIsRefused D K.rules B.base self.now (target_of event.now) event.now) }
+        ensures err { OnErr result (desk.new.account ≡ desk.old.account) }
         ensures ticket { OnErr result (ticket.new ≡ ticket.old) }
         ensures spent { OnOk result (ticket.new ≡ None) }
     {
         for _ in rt.forever() {
-            match self.try_serve(
-                rt, alloc, desk, buffers, walked, number, event, clock, ticket,
-            ) {
+            match self.try_serve(rt, desk, event, clock, ticket) {
                 Ok(told) => return Ok(told),
-                Err(refused) if self.is_tried_again(rt, alloc, refused) => {}
+                Err(refused) if self.is_tried_again(rt, desk.alloc, refused) => {}
                 Err(refused) => return Err(refused),
             }
         }
@@ -246,45 +263,49 @@ impl<K: RecordKind + Drop, B: SetsName<K, D>, D: Device> EngineCore<K, B, D> {
     fn try_serve<R: Wait, C: Clock>(
         &self,
         rt: &R,
-        alloc: Global,
-        desk: &mut DeskAccount<K, B>,
-        buffers: &mut EventBuffers<K, D>,
-        walked: &mut Vec<Listed>,
-        number: RecordNo,
+        desk: &mut Desk<K, B, D>,
         event: &Event,
         clock: &C,
         ticket: &mut Option<Ticket<RequestTickets<K, B>>>,
     ) -> Result<(Reply, Receipt<K, B>), IocError>
         requires ordinary { is_ordinary event.now ≡ true }
-        requires names { names event.now ≡ number ∷ [] }
-        ensures served { IfOk result (λ x. (moment : ℕ) × C.gives clock.now moment × WasServed D K.rules B.base D.gives number desk.old
-            moment event.now x.0 desk.new (world_of buffers.new.store)) }
-        ensures receipt { IfOk result (λ x. x.1 ≡ desk.new.seen) }
-        ensures ended { OnOk result (HaveEnded K.rules B.base (world_of buffers.new.store).ended desk.new.seen
-            buffers.new.ended_everywhere.items) }
-        ensures refused { IfErr result (CallIsRefused D K.rules B.base self.now number event.now) }
-        ensures err { OnErr result (desk.new ≡ desk.old) }
+        ensures served { IfOk result (λ x. (moment : ℕ) × C.gives clock.now moment × WasServed D K.rules B.base D.gives (target_of event.now) desk.old.account
+            moment event.now x.0 desk.new.account (world_of desk.new.buffers.store)) }
+        ensures receipt { IfOk result (λ x. x.1 ≡ desk.new.account.seen) }
+        ensures ended { OnOk result (HaveEnded K.rules B.base (world_of desk.new.buffers.store).ended desk.new.account.seen
+            desk.new.buffers.ended_everywhere.items) }
+        ensures refused { IfErr result (CallIsRefused D K.rules B.base self.now (target_of event.now) event.now) }
+        ensures err { OnErr result (desk.new.account ≡ desk.old.account) }
         ensures ticket { OnErr result (ticket.new ≡ ticket.old) }
         ensures spent { OnOk result (ticket.new ≡ None) }
     {
-        if !self.may_begin(rt, alloc) {
+        if !self.may_begin(rt, desk.alloc) {
             return Err(IocError::Stopped);
         }
+        let number = target_of(event);
         let mut held = self.sets.lock_set(rt, number)?;
         let moment = clock.now();
         let may_end = held.may_be_taken();
-        let access = self.access(rt, alloc);
+        let access = self.access(rt, desk.alloc);
         let Served {
             reply,
             receipt,
             tickets,
-        } = held.serve(&access, &self.puts, desk, buffers, event, moment, ticket)?;
+        } = held.serve(
+            &access,
+            &self.puts,
+            &mut desk.account,
+            &mut desk.buffers,
+            event,
+            moment,
+            ticket,
+        )?;
         held.is_sound();
         if may_end {
             self.sets.settle_flag(number, &held);
         }
         drop(held);
-        self.do_sent(rt, buffers, walked, tickets);
+        self.do_sent(rt, &desk.buffers, &mut desk.walked, tickets);
         Ok((reply, receipt))
     }
 
@@ -299,22 +320,21 @@ impl<K: RecordKind + Drop, B: SetsName<K, D>, D: Device> EngineCore<K, B, D> {
     pub fn get<R: Wait, C: Clock>(
         &self,
         rt: &R,
-        alloc: Global,
-        desk: &mut DeskAccount<K, B>,
+        desk: &mut Desk<K, B, D>,
         number: RecordNo,
         field: FieldNo,
         clock: &C,
     ) -> Result<(FieldText, Receipt<K, B>), IocError>
-        ensures told { IfOk result (λ x. (moment : ℕ) × C.gives clock.now moment × WasTold D K.rules B.base number desk.old moment field
-            x.0 desk.new) }
-        ensures receipt { IfOk result (λ x. x.1 ≡ desk.new.seen) }
+        ensures told { IfOk result (λ x. (moment : ℕ) × C.gives clock.now moment × WasTold D K.rules B.base number desk.old.account moment field
+            x.0 desk.new.account) }
+        ensures receipt { IfOk result (λ x. x.1 ≡ desk.new.account.seen) }
         ensures refused { IfErr result (GetIsRefused D K.rules B.base self.now number field) }
-        ensures err { OnErr result (desk.new ≡ desk.old) }
+        ensures err { OnErr result (desk.new.account ≡ desk.old.account) }
     {
         for _ in rt.forever() {
-            match self.try_get(rt, alloc, desk, number, field, clock) {
+            match self.try_get(rt, desk, number, field, clock) {
                 Ok(told) => return Ok(told),
-                Err(refused) if self.is_tried_again(rt, alloc, refused) => {}
+                Err(refused) if self.is_tried_again(rt, desk.alloc, refused) => {}
                 Err(refused) => return Err(refused),
             }
         }
@@ -325,24 +345,24 @@ impl<K: RecordKind + Drop, B: SetsName<K, D>, D: Device> EngineCore<K, B, D> {
     fn try_get<R: Wait, C: Clock>(
         &self,
         rt: &R,
-        alloc: Global,
-        desk: &mut DeskAccount<K, B>,
+        desk: &mut Desk<K, B, D>,
         number: RecordNo,
         field: FieldNo,
         clock: &C,
     ) -> Result<(FieldText, Receipt<K, B>), IocError>
-        ensures told { IfOk result (λ x. (moment : ℕ) × C.gives clock.now moment × WasTold D K.rules B.base number desk.old moment field
-            x.0 desk.new) }
-        ensures receipt { IfOk result (λ x. x.1 ≡ desk.new.seen) }
+        ensures told { IfOk result (λ x. (moment : ℕ) × C.gives clock.now moment × WasTold D K.rules B.base number desk.old.account moment field
+            x.0 desk.new.account) }
+        ensures receipt { IfOk result (λ x. x.1 ≡ desk.new.account.seen) }
         ensures refused { IfErr result (GetIsRefused D K.rules B.base self.now number field) }
-        ensures err { OnErr result (desk.new ≡ desk.old) }
+        ensures err { OnErr result (desk.new.account ≡ desk.old.account) }
     {
-        if !self.may_begin(rt, alloc) {
+        if !self.may_begin(rt, desk.alloc) {
             return Err(IocError::Stopped);
         }
         let mut held = self.sets.lock_set(rt, number)?;
         let moment = clock.now();
-        let told = held.get(&self.access(rt, alloc), desk, number, field, moment);
+        let access = self.access(rt, desk.alloc);
+        let told = held.get(&access, &mut desk.account, number, field, moment);
         held.is_sound();
         told
     }

@@ -13,11 +13,13 @@
 mod cancelling;
 mod checkpoint;
 pub mod clock;
+pub mod desk;
 pub mod ended_journal;
 pub mod engine;
 pub mod holding;
 mod link_changes;
 pub mod loading;
+mod looking;
 mod notifications;
 pub mod opening;
 mod parts;
@@ -30,11 +32,12 @@ pub mod spare_parts;
 pub mod starting;
 
 pub use clock::{Clock, FixedClock};
+pub use desk::Desk;
 pub use ended_journal::EndedJournal;
 pub use engine::{EngineCore, QueuedRequest};
 pub use ioc_journaled_set::{EndedSet, JournaledSet, SharedNotifications};
 pub use loading::with_copies;
+pub use looking::FieldSeen;
 pub use opening::new_cell;
 pub use report::CoreReport;
-pub use serving::Server;
 pub use starting::{StartError, start};

@@ -6,16 +6,14 @@ ghost use Rattle.ioc_journaled_set.specs.Holding.{numbers_of};
 ghost use Rattle.ioc_engine_core.specs.Linked.{other_of, WasLinked, LinkWasRefused};
 
 use crate::clock::Clock;
+use crate::desk::Desk;
 use crate::engine::EngineCore;
 use ioc_device::Device;
-use ioc_journal::DeskAccount;
 use ioc_journaled_set::{Changed, JournalAccess, JournaledSet, SetsName, change_link};
 use ioc_record::RecordKind;
-use ioc_scan::Listed;
-use ioc_set::{EventBuffers, LinkChange};
+use ioc_set::LinkChange;
 use ioc_topology::{all_sound, are_lent};
 use ioc_values::IocError;
-use std::alloc::Global;
 use std::sync::Wait;
 
 impl<K: RecordKind + Drop, B: SetsName<K, D>, D: Device> EngineCore<K, B, D> {
@@ -23,8 +21,7 @@ impl<K: RecordKind + Drop, B: SetsName<K, D>, D: Device> EngineCore<K, B, D> {
     fn change_lent<R: Wait, C: Clock>(
         &self,
         access: &JournalAccess<'_, K, B, R>,
-        desk: &mut DeskAccount<K, B>,
-        buffers: &mut EventBuffers<K, D>,
+        desk: &mut Desk<K, B, D>,
         first: &mut JournaledSet<K, B, D>,
         second: &mut JournaledSet<K, B, D>,
         spare: &mut JournaledSet<K, B, D>,
@@ -34,16 +31,24 @@ impl<K: RecordKind + Drop, B: SetsName<K, D>, D: Device> EngineCore<K, B, D> {
         requires base_link { change.base_link ≡ change.link }
         requires lent { AreLent numbers_of change.number (other_of change.link) first.old second.old spare.old }
         ensures changed { IfOk result (λ c. (moment : ℕ) × C.gives clock.now moment × WasLinked D K.rules B.base change.number change.field
-            change.link desk.old moment c.reply c.moved desk.new (world_of buffers.new.store)) }
-        ensures receipt { IfOk result (λ c. c.receipt ≡ desk.new.seen) }
-        ensures ended { OnOk result (buffers.new.ended_everywhere.items ≡ []) }
+            change.link desk.old.account moment c.reply c.moved desk.new.account (world_of desk.new.buffers.store)) }
+        ensures receipt { IfOk result (λ c. c.receipt ≡ desk.new.account.seen) }
+        ensures ended { OnOk result (desk.new.buffers.ended_everywhere.items ≡ []) }
         ensures refused { IfErr result (LinkWasRefused D K.rules B.base self.now change.number change.field change.link) }
-        ensures err { OnErr result (desk.new ≡ desk.old) }
+        ensures err { OnErr result (desk.new.account ≡ desk.old.account) }
     {
         all_sound(first, second, spare);
         let moment = clock.now();
         let timed = LinkChange { moment, ..change };
-        let changed = change_link(access, desk, buffers, first, second, spare, timed);
+        let changed = change_link(
+            access,
+            &mut desk.account,
+            &mut desk.buffers,
+            first,
+            second,
+            spare,
+            timed,
+        );
         all_sound(first, second, spare);
         changed
     }
@@ -64,29 +69,26 @@ impl<K: RecordKind + Drop, B: SetsName<K, D>, D: Device> EngineCore<K, B, D> {
     pub fn set_link<R: Wait, C: Clock>(
         &self,
         rt: &R,
-        alloc: Global,
-        desk: &mut DeskAccount<K, B>,
-        buffers: &mut EventBuffers<K, D>,
-        walked: &mut Vec<Listed>,
+        desk: &mut Desk<K, B, D>,
         change: LinkChange,
         clock: &C,
     ) -> Result<Changed<K, B>, IocError>
         requires base_link { change.base_link ≡ change.link }
         ensures changed { IfOk result (λ c. (moment : ℕ) × C.gives clock.now moment × WasLinked D K.rules B.base change.number change.field
-            change.link desk.old moment c.reply c.moved desk.new (world_of buffers.new.store)) }
-        ensures receipt { IfOk result (λ c. c.receipt ≡ desk.new.seen) }
-        ensures ended { OnOk result (buffers.new.ended_everywhere.items ≡ []) }
+            change.link desk.old.account moment c.reply c.moved desk.new.account (world_of desk.new.buffers.store)) }
+        ensures receipt { IfOk result (λ c. c.receipt ≡ desk.new.account.seen) }
+        ensures ended { OnOk result (desk.new.buffers.ended_everywhere.items ≡ []) }
         ensures known { OnOk result (AreKnown self.now change.number (other_of change.link)) }
         ensures refused { IfErr result (LinkWasRefused D K.rules B.base self.now change.number change.field change.link) }
-        ensures err { OnErr result (desk.new ≡ desk.old) }
+        ensures err { OnErr result (desk.new.account ≡ desk.old.account) }
     {
-        if !self.may_begin(rt, alloc) {
+        if !self.may_begin(rt, desk.alloc) {
             return Err(IocError::Stopped);
         }
-        let changed = self.relink(rt, alloc, desk, buffers, change, clock)?;
+        let changed = self.relink(rt, desk, change, clock)?;
         // After a refused change the buffers have what the desk's event before it sent.
         if changed.reply.is_ok() {
-            self.do_changes(rt, buffers, walked);
+            self.do_changes(rt, &desk.buffers, &mut desk.walked);
         }
         Ok(changed)
     }
@@ -96,26 +98,24 @@ impl<K: RecordKind + Drop, B: SetsName<K, D>, D: Device> EngineCore<K, B, D> {
     fn relink<R: Wait, C: Clock>(
         &self,
         rt: &R,
-        alloc: Global,
-        desk: &mut DeskAccount<K, B>,
-        buffers: &mut EventBuffers<K, D>,
+        desk: &mut Desk<K, B, D>,
         change: LinkChange,
         clock: &C,
     ) -> Result<Changed<K, B>, IocError>
         requires base_link { change.base_link ≡ change.link }
         ensures changed { IfOk result (λ c. (moment : ℕ) × C.gives clock.now moment × WasLinked D K.rules B.base change.number change.field
-            change.link desk.old moment c.reply c.moved desk.new (world_of buffers.new.store)) }
-        ensures receipt { IfOk result (λ c. c.receipt ≡ desk.new.seen) }
-        ensures ended { OnOk result (buffers.new.ended_everywhere.items ≡ []) }
+            change.link desk.old.account moment c.reply c.moved desk.new.account (world_of desk.new.buffers.store)) }
+        ensures receipt { IfOk result (λ c. c.receipt ≡ desk.new.account.seen) }
+        ensures ended { OnOk result (desk.new.buffers.ended_everywhere.items ≡ []) }
         ensures known { OnOk result (AreKnown self.now change.number (other_of change.link)) }
         ensures refused { IfErr result (LinkWasRefused D K.rules B.base self.now change.number change.field change.link) }
-        ensures err { OnErr result (desk.new ≡ desk.old) }
+        ensures err { OnErr result (desk.new.account ≡ desk.old.account) }
     {
         let number = change.number;
         let other = change.link.record_named();
         for _ in rt.forever() {
             let guard = self.sets.guard_topology(rt);
-            let new = self.sets.new_cells(rt, alloc)?;
+            let new = self.sets.new_cells(rt, desk.alloc)?;
             let both = match self.sets.link_cells(&new, number, &other) {
                 Ok(Some(both)) => both,
                 Ok(None) => {
@@ -141,10 +141,8 @@ impl<K: RecordKind + Drop, B: SetsName<K, D>, D: Device> EngineCore<K, B, D> {
             let second = &mut *second_guard;
             let spare = &mut *spare_guard;
             if are_lent(first, second, spare, number, &other) {
-                let access = self.access(rt, alloc);
-                let changed = self.change_lent(
-                    &access, desk, buffers, first, second, spare, change, clock,
-                );
+                let access = self.access(rt, desk.alloc);
+                let changed = self.change_lent(&access, desk, first, second, spare, change, clock);
                 self.sets.settle_all(rt, &both, &new, first, second, spare);
                 return changed;
             }

@@ -8,18 +8,16 @@ ghost use Rattle.ioc_set.specs.SetStore.{world_of};
 ghost use Rattle.ioc_engine_core.specs.Served.{WasBegun, CallIsRefused};
 
 use crate::clock::Clock;
+use crate::desk::Desk;
 use crate::engine::EngineCore;
 use ioc_device::Device;
 use ioc_events::Reply;
-use ioc_journal::{DeskAccount, Receipt};
+use ioc_journal::Receipt;
 use ioc_journaled_set::{FieldPut, Served, SetsName};
 use ioc_notify::NotifyId;
 use ioc_record::RecordKind;
-use ioc_scan::Listed;
-use ioc_set::EventBuffers;
 use ioc_topology::Locked;
 use ioc_values::IocError;
-use std::alloc::Global;
 use std::sync::Wait;
 
 impl<K: RecordKind + Drop, B: SetsName<K, D>, D: Device> EngineCore<K, B, D> {
@@ -40,26 +38,23 @@ impl<K: RecordKind + Drop, B: SetsName<K, D>, D: Device> EngineCore<K, B, D> {
     pub fn put_notify<R: Wait, C: Clock>(
         &self,
         rt: &R,
-        alloc: Global,
-        desk: &mut DeskAccount<K, B>,
-        buffers: &mut EventBuffers<K, D>,
-        walked: &mut Vec<Listed>,
+        desk: &mut Desk<K, B, D>,
         put: FieldPut,
         clock: &C,
     ) -> Result<(Reply, Receipt<K, B>), IocError>
-        ensures begun { IfOk result (λ x. (moment : ℕ) × C.gives clock.now moment × WasBegun D K.rules B.base D.gives put.number desk.old
-            moment put.field put.given x.0 desk.new (world_of buffers.new.store)) }
-        ensures ended { OnOk result (HaveEnded K.rules B.base (world_of buffers.new.store).ended desk.new.seen
-            buffers.new.ended_everywhere.items) }
-        ensures receipt { IfOk result (λ x. x.1 ≡ desk.new.seen) }
+        ensures begun { IfOk result (λ x. (moment : ℕ) × C.gives clock.now moment × WasBegun D K.rules B.base D.gives put.number desk.old.account
+            moment put.field put.given x.0 desk.new.account (world_of desk.new.buffers.store)) }
+        ensures ended { OnOk result (HaveEnded K.rules B.base (world_of desk.new.buffers.store).ended desk.new.account.seen
+            desk.new.buffers.ended_everywhere.items) }
+        ensures receipt { IfOk result (λ x. x.1 ≡ desk.new.account.seen) }
         ensures refused { IfErr result (λ error. ((error ≡ QueueFull) × NoneMayBegin K.rules B.base)
             ⊎ CallIsRefused D K.rules B.base self.now put.number (Put put.number put.field put.given) error) }
-        ensures err { OnErr result (desk.new ≡ desk.old) }
+        ensures err { OnErr result (desk.new.account ≡ desk.old.account) }
     {
         for _ in rt.forever() {
-            match self.try_put_notify(rt, alloc, desk, buffers, walked, &put, clock) {
+            match self.try_put_notify(rt, desk, &put, clock) {
                 Ok(told) => return Ok(told),
-                Err(refused) if self.is_tried_again(rt, alloc, refused) => {}
+                Err(refused) if self.is_tried_again(rt, desk.alloc, refused) => {}
                 Err(refused) => return Err(refused),
             }
         }
@@ -70,31 +65,34 @@ impl<K: RecordKind + Drop, B: SetsName<K, D>, D: Device> EngineCore<K, B, D> {
     fn try_put_notify<R: Wait, C: Clock>(
         &self,
         rt: &R,
-        alloc: Global,
-        desk: &mut DeskAccount<K, B>,
-        buffers: &mut EventBuffers<K, D>,
-        walked: &mut Vec<Listed>,
+        desk: &mut Desk<K, B, D>,
         put: &FieldPut,
         clock: &C,
     ) -> Result<(Reply, Receipt<K, B>), IocError>
-        ensures begun { IfOk result (λ x. (moment : ℕ) × C.gives clock.now moment × WasBegun D K.rules B.base D.gives put.now.number desk.old
-            moment put.now.field put.now.given x.0 desk.new (world_of buffers.new.store)) }
-        ensures ended { OnOk result (HaveEnded K.rules B.base (world_of buffers.new.store).ended desk.new.seen
-            buffers.new.ended_everywhere.items) }
-        ensures receipt { IfOk result (λ x. x.1 ≡ desk.new.seen) }
+        ensures begun { IfOk result (λ x. (moment : ℕ) × C.gives clock.now moment × WasBegun D K.rules B.base D.gives put.now.number desk.old.account
+            moment put.now.field put.now.given x.0 desk.new.account (world_of desk.new.buffers.store)) }
+        ensures ended { OnOk result (HaveEnded K.rules B.base (world_of desk.new.buffers.store).ended desk.new.account.seen
+            desk.new.buffers.ended_everywhere.items) }
+        ensures receipt { IfOk result (λ x. x.1 ≡ desk.new.account.seen) }
         ensures refused { IfErr result (λ error. ((error ≡ QueueFull) × NoneMayBegin K.rules B.base)
             ⊎ CallIsRefused D K.rules B.base self.now put.now.number (Put put.now.number put.now.field put.now.given) error) }
-        ensures err { OnErr result (desk.new ≡ desk.old) }
+        ensures err { OnErr result (desk.new.account ≡ desk.old.account) }
     {
-        if !self.may_begin(rt, alloc) {
+        if !self.may_begin(rt, desk.alloc) {
             return Err(IocError::Stopped);
         }
         let number = put.number;
         let mut held = self.sets.lock_set(rt, number)?;
-        let access = self.access(rt, alloc);
+        let access = self.access(rt, desk.alloc);
         let moment = clock.now();
         let put = FieldPut { moment, ..*put };
-        let told = held.put_notify(&access, &self.puts, desk, buffers, put);
+        let told = held.put_notify(
+            &access,
+            &self.puts,
+            &mut desk.account,
+            &mut desk.buffers,
+            put,
+        );
         held.is_sound();
         self.sets.settle_flag(number, &held);
         drop(held);
@@ -103,7 +101,7 @@ impl<K: RecordKind + Drop, B: SetsName<K, D>, D: Device> EngineCore<K, B, D> {
             receipt,
             tickets,
         } = told?;
-        self.do_sent(rt, buffers, walked, tickets);
+        self.do_sent(rt, &desk.buffers, &mut desk.walked, tickets);
         Ok((reply, receipt))
     }
 
@@ -117,21 +115,20 @@ impl<K: RecordKind + Drop, B: SetsName<K, D>, D: Device> EngineCore<K, B, D> {
     pub fn live<R: Wait, C: Clock>(
         &self,
         rt: &R,
-        alloc: Global,
-        desk: &mut DeskAccount<K, B>,
+        desk: &mut Desk<K, B, D>,
         number: NotifyId,
         clock: &C,
     ) -> Result<(bool, Receipt<K, B>), IocError>
         ensures asked { IfOk result (λ x. (moment : ℕ) × C.gives clock.now moment × (puts puts_then : PutsView)
-            × WasAsked K.rules B.base puts desk.old moment number puts_then desk.new x.0) }
-        ensures receipt { IfOk result (λ x. x.1 ≡ desk.new.seen) }
+            × WasAsked K.rules B.base puts desk.old.account moment number puts_then desk.new.account x.0) }
+        ensures receipt { IfOk result (λ x. x.1 ≡ desk.new.account.seen) }
         ensures refused { IfErr result (λ error. (error ≡ Stopped) ⊎ IsNoPlace error) }
-        ensures err { OnErr result (desk.new ≡ desk.old) }
+        ensures err { OnErr result (desk.new.account ≡ desk.old.account) }
     {
         for _ in rt.forever() {
-            match self.try_live(rt, alloc, desk, number, clock) {
+            match self.try_live(rt, desk, number, clock) {
                 Ok(told) => return Ok(told),
-                Err(refused) if self.is_tried_again(rt, alloc, refused) => {}
+                Err(refused) if self.is_tried_again(rt, desk.alloc, refused) => {}
                 Err(refused) => return Err(refused),
             }
         }
@@ -142,22 +139,26 @@ impl<K: RecordKind + Drop, B: SetsName<K, D>, D: Device> EngineCore<K, B, D> {
     fn try_live<R: Wait, C: Clock>(
         &self,
         rt: &R,
-        alloc: Global,
-        desk: &mut DeskAccount<K, B>,
+        desk: &mut Desk<K, B, D>,
         number: NotifyId,
         clock: &C,
     ) -> Result<(bool, Receipt<K, B>), IocError>
         ensures asked { IfOk result (λ x. (moment : ℕ) × C.gives clock.now moment × (puts puts_then : PutsView)
-            × WasAsked K.rules B.base puts desk.old moment number puts_then desk.new x.0) }
-        ensures receipt { IfOk result (λ x. x.1 ≡ desk.new.seen) }
+            × WasAsked K.rules B.base puts desk.old.account moment number puts_then desk.new.account x.0) }
+        ensures receipt { IfOk result (λ x. x.1 ≡ desk.new.account.seen) }
         ensures refused { IfErr result (λ error. (error ≡ Stopped) ⊎ IsNoPlace error) }
-        ensures err { OnErr result (desk.new ≡ desk.old) }
+        ensures err { OnErr result (desk.new.account ≡ desk.old.account) }
     {
-        if !self.may_begin(rt, alloc) {
+        if !self.may_begin(rt, desk.alloc) {
             return Err(IocError::Stopped);
         }
         let mut puts = self.puts.lock(rt);
         let moment = clock.now();
-        puts.ask(&self.access(rt, alloc), desk, number, moment)
+        puts.ask(
+            &self.access(rt, desk.alloc),
+            &mut desk.account,
+            number,
+            moment,
+        )
     }
 }

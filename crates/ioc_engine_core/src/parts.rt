@@ -7,9 +7,9 @@ ghost use Rattle.ioc_topology.specs.Gathered.{IsMarked};
 ghost use Rattle.ioc_values.specs.declared.error.IocError.TheVariants.{NoMemory, Stopped};
 ghost use Rattle.ioc_engine_core.specs.Seen.{IsPartSeen};
 
+use crate::desk::Desk;
 use crate::engine::EngineCore;
 use ioc_device::Device;
-use ioc_journal::DeskAccount;
 use ioc_journaled_set::{JournaledSet, SetsName};
 use ioc_names::RecordNo;
 use ioc_record::RecordKind;
@@ -57,19 +57,18 @@ impl<K: RecordKind + Drop, B: SetsName<K, D>, D: Device> EngineCore<K, B, D> {
     fn part_of<R: Wait>(
         &self,
         rt: &R,
-        alloc: Global,
-        desk: &mut DeskAccount<K, B>,
+        desk: &mut Desk<K, B, D>,
         number: RecordNo,
     ) -> Result<Vec<RecordNo>, IocError>
-        ensures seen { IfOk result (λ v. IsPartSeen D K.rules B.base desk.old.seen desk.new.seen v.items) }
-        ensures desk { HasSeenMore desk.old desk.new }
+        ensures seen { IfOk result (λ v. IsPartSeen D K.rules B.base desk.old.account.seen desk.new.account.seen v.items) }
+        ensures desk { HasSeenMore desk.old.account desk.new.account }
         ensures here { IfOk result (λ v. Contains v.items number) }
         ensures refused { IfErr result (λ error. IsRefused self.now number error ⊎ (error ≡ NoMemory)) }
     {
         let mut held = self.sets.lock_set(rt, number)?;
-        held.learn(rt, &self.journal, desk);
+        held.learn(rt, &self.journal, &mut desk.account);
         held.is_sound();
-        let numbers = numbers_in(alloc, &held)?;
+        let numbers = numbers_in(desk.alloc, &held)?;
         Ok(numbers)
     }
 
@@ -85,24 +84,23 @@ impl<K: RecordKind + Drop, B: SetsName<K, D>, D: Device> EngineCore<K, B, D> {
     pub fn parts<R: Wait>(
         &self,
         rt: &R,
-        alloc: Global,
-        desk: &mut DeskAccount<K, B>,
+        desk: &mut Desk<K, B, D>,
     ) -> Result<Vec<Vec<RecordNo>>, IocError>
-        ensures seen { IfOk result (λ all. All (λ v. IsPartSeen D K.rules B.base desk.old.seen desk.new.seen v.items) all.items) }
-        ensures desk { HasSeenMore desk.old desk.new }
+        ensures seen { IfOk result (λ all. All (λ v. IsPartSeen D K.rules B.base desk.old.account.seen desk.new.account.seen v.items) all.items) }
+        ensures desk { HasSeenMore desk.old.account desk.new.account }
         ensures each { IfOk result (λ all. (q : ℕ) → q < self.now → Any (λ v. Contains v.items q) all.items) }
         ensures refused { IfErr result (λ error. (error ≡ Stopped) ⊎ (error ≡ NoMemory)) }
     {
         if self.is_closed() {
             return Err(IocError::Stopped);
         }
-        let mut marks = vec![in alloc; false; self.sets.len()]?;
-        let mut parts = Vec::new(alloc);
+        let mut marks = vec![in desk.alloc; false; self.sets.len()]?;
+        let mut parts = Vec::new(desk.alloc);
         for number in 0..self.sets.len() {
             if is_marked(&marks, number) {
                 continue;
             }
-            let part = self.part_of(rt, alloc, desk, RecordNo::new(number))?;
+            let part = self.part_of(rt, desk, RecordNo::new(number))?;
             mark_all(part.as_slice(), &mut marks);
             parts.push(part)?;
         }

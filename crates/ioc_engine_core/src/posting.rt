@@ -7,6 +7,7 @@ ghost use Rattle.ioc_journal.specs.Posting.{is_posting, requests_of};
 ghost use Rattle.ioc_journal.specs.Places.{IsNoPlace};
 
 use crate::clock::Clock;
+use crate::desk::Desk;
 use crate::engine::EngineCore;
 use ioc_device::Device;
 use ioc_events::{Call, Entry, KeptAnswers};
@@ -66,28 +67,27 @@ impl<K: RecordKind + Drop, B: SetsName<K, D>, D: Device> EngineCore<K, B, D> {
     fn add_posted<R: Wait>(
         &self,
         rt: &R,
-        alloc: Global,
-        desk: &mut DeskAccount<K, B>,
-        walked: &[Listed],
+        desk: &mut Desk<K, B, D>,
         moment: u64,
         posting: Call,
     ) -> Result<Receipt<K, B>, IocError>
         requires posting { is_posting posting ≡ true }
-        requires count { requests_of posting ≡ length walked.now }
-        ensures called { OnOk result (HasCalled K.rules B.base desk.old (record { moment = moment; call = posting; answers = [] }) desk.new) }
-        ensures receipt { IfOk result (λ receipt. receipt ≡ desk.new.seen) }
+        requires count { requests_of posting ≡ length desk.old.walked.items }
+        ensures called { OnOk result (HasCalled K.rules B.base desk.old.account (record { moment = moment; call = posting; answers = [] }) desk.new.account) }
+        ensures receipt { IfOk result (λ receipt. receipt ≡ desk.new.account.seen) }
         ensures refused { IfErr result IsNoPlace }
-        ensures err { OnErr result (desk.new ≡ desk.old) }
+        ensures err { OnErr result (desk.new.account ≡ desk.old.account) }
     {
-        let place = self.reserve(rt, alloc, desk)?;
+        let place = self.reserve(rt, desk.alloc, &desk.account)?;
         let entry = Entry {
             moment,
             call: posting,
-            answers: KeptAnswers::new(Vec::new(alloc)),
+            answers: KeptAnswers::new(Vec::new(desk.alloc)),
         };
-        let count = walked.len() as u64;
-        let Posted { receipt, tickets } = self.journal.append_posted(rt, place, desk, entry);
-        self.push_called(rt, walked, tickets);
+        let Posted { receipt, tickets } = self
+            .journal
+            .append_posted(rt, place, &mut desk.account, entry);
+        self.push_called(rt, desk.walked.as_slice(), tickets);
         Ok(receipt)
     }
 
@@ -103,25 +103,23 @@ impl<K: RecordKind + Drop, B: SetsName<K, D>, D: Device> EngineCore<K, B, D> {
     pub fn post_event<R: Wait, C: Clock>(
         &self,
         rt: &R,
-        alloc: Global,
-        desk: &mut DeskAccount<K, B>,
-        walked: &mut Vec<Listed>,
+        desk: &mut Desk<K, B, D>,
         name: Text,
         clock: &C,
     ) -> Result<(u64, Receipt<K, B>), IocError>
         ensures posted { IfOk result (λ x. (moment : ℕ) × C.gives clock.now moment
-            × HasCalled K.rules B.base desk.old (record { moment = moment; call = call.Post name x.0; answers = [] }) desk.new) }
-        ensures receipt { IfOk result (λ x. x.1 ≡ desk.new.seen) }
+            × HasCalled K.rules B.base desk.old.account (record { moment = moment; call = call.Post name x.0; answers = [] }) desk.new.account) }
+        ensures receipt { IfOk result (λ x. x.1 ≡ desk.new.account.seen) }
         ensures refused { IfErr result (λ error. (error ≡ Stopped) ⊎ IsNoPlace error) }
-        ensures err { OnErr result (desk.new ≡ desk.old) }
+        ensures err { OnErr result (desk.new.account ≡ desk.old.account) }
     {
-        if !self.may_begin(rt, alloc) {
+        if !self.may_begin(rt, desk.alloc) {
             return Err(IocError::Stopped);
         }
-        self.walk(rt, event_list(name), walked)?;
-        let count = walked.len() as u64;
+        self.walk(rt, event_list(name), &mut desk.walked)?;
+        let count = desk.walked.len() as u64;
         let posting = Call::Post(name, count);
-        let receipt = self.add_posted(rt, alloc, desk, walked, clock.now(), posting)?;
+        let receipt = self.add_posted(rt, desk, clock.now(), posting)?;
         Ok((count, receipt))
     }
 
@@ -136,25 +134,23 @@ impl<K: RecordKind + Drop, B: SetsName<K, D>, D: Device> EngineCore<K, B, D> {
     pub fn io_interrupt<R: Wait, C: Clock>(
         &self,
         rt: &R,
-        alloc: Global,
-        desk: &mut DeskAccount<K, B>,
-        walked: &mut Vec<Listed>,
+        desk: &mut Desk<K, B, D>,
         word: &[u8],
         clock: &C,
     ) -> Result<(u64, Receipt<K, B>), IocError>
         ensures posted { IfOk result (λ x. (moment : ℕ) × C.gives clock.now moment
-            × HasCalled K.rules B.base desk.old (record { moment = moment; call = call.Interrupt (take 119 word.now) x.0; answers = [] }) desk.new) }
-        ensures receipt { IfOk result (λ x. x.1 ≡ desk.new.seen) }
+            × HasCalled K.rules B.base desk.old.account (record { moment = moment; call = call.Interrupt (take 119 word.now) x.0; answers = [] }) desk.new.account) }
+        ensures receipt { IfOk result (λ x. x.1 ≡ desk.new.account.seen) }
         ensures refused { IfErr result (λ error. (error ≡ Stopped) ⊎ IsNoPlace error) }
-        ensures err { OnErr result (desk.new ≡ desk.old) }
+        ensures err { OnErr result (desk.new.account ≡ desk.old.account) }
     {
-        if !self.may_begin(rt, alloc) {
+        if !self.may_begin(rt, desk.alloc) {
             return Err(IocError::Stopped);
         }
-        self.walk(rt, interrupt_list(word), walked)?;
-        let count = walked.len() as u64;
+        self.walk(rt, interrupt_list(word), &mut desk.walked)?;
+        let count = desk.walked.len() as u64;
         let posting = Call::Interrupt(Short::cut(word), count);
-        let receipt = self.add_posted(rt, alloc, desk, walked, clock.now(), posting)?;
+        let receipt = self.add_posted(rt, desk, clock.now(), posting)?;
         Ok((count, receipt))
     }
 }

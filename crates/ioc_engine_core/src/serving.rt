@@ -1,34 +1,37 @@
 //! Requests that wait on the queues, and the desks by which they are served.
-ghost use Rattle.std.specs.Prelude.{◌≡◌, None, OnOk, OnErr};
+ghost use Rattle.std.specs.Prelude.{◌≡◌, ◌≤◌, false, None, IfOk, IfErr, OnOk, OnErr};
+ghost use Rattle.std.specs.Vec.{vec_capacity};
+ghost use Rattle.ioc_values.specs.declared.error.IocError.TheVariants.{NoMemory};
 ghost use Rattle.ioc_set.specs.SetStore.{world_of};
 ghost use Rattle.ioc_engine_core.specs.Queued.{WasQueueServed};
+ghost use Rattle.ioc_engine_core.specs.Requested.{HasServed, HasServedSome};
 
 use crate::clock::Clock;
+use crate::desk::Desk;
 use crate::engine::{EngineCore, QueuedRequest};
 use ioc_device::Device;
 use ioc_events::Event;
-use ioc_journal::{DeskAccount, RequestTickets, SharedJournal};
+use ioc_journal::{RequestTickets, SharedJournal};
 use ioc_journaled_set::SetsName;
 use ioc_ledger::Ticket;
 use ioc_names::RecordNo;
+use ioc_notify::NotifyId;
 use ioc_record::RecordKind;
 use ioc_scan::Listed;
-use ioc_set::EventBuffers;
-use ioc_shared_queues::{CallbackQueues, RecordRequest, Serve, SharedQueues, hand_back_all};
+use ioc_shared_queues::{
+    CallbackQueues, RecordRequest, Serve, SharedQueues, Worker, hand_back_all,
+};
 use ioc_values::IocError;
-use std::alloc::{AllocError, Global};
+use std::alloc::AllocError;
 use std::marker::PhantomData;
 use std::sync::Wait;
 
-/// A desk that serves the requests of an engine's queues, with the memory of its calls.
+// A desk that serves the requests of an engine's queues.
 #[derive(Drop)]
-pub struct Server<'e, K: RecordKind + Drop, B: SetsName<K, D>, D: Device, C> {
-    pub core: &'e EngineCore<K, B, D>,
-    pub clock: &'e C,
-    pub alloc: Global,
-    pub desk: DeskAccount<K, B>,
-    pub buffers: EventBuffers<K, D>,
-    pub walked: Vec<Listed>,
+struct Server<'e, K: RecordKind + Drop, B: SetsName<K, D>, D: Device, C> {
+    core: &'e EngineCore<K, B, D>,
+    clock: &'e C,
+    desk: Desk<K, B, D>,
 }
 
 impl<'e, K: RecordKind + Drop, B: SetsName<K, D>, D: Device, C: Clock> Serve<QueuedRequest<K, B>>
@@ -37,12 +40,12 @@ impl<'e, K: RecordKind + Drop, B: SetsName<K, D>, D: Device, C: Clock> Serve<Que
     ghost use Rattle.std.specs.Prelude.{◌≡◌};
     ghost use Rattle.ioc_set.specs.SetStore.{world_of};
 
-    ghost serves = { λ a r b. WasQueueServed D K.rules B.base D.gives (C.gives a.clock.now) r.«record» a.desk b.desk
-        (world_of b.buffers.store) };
+    ghost serves = { λ a r b. WasQueueServed D K.rules B.base D.gives (C.gives a.clock.now) r.«record» a.desk.account b.desk.account
+        (world_of b.desk.buffers.store) };
 
-    ghost refuses = { λ a r b. b.desk ≡ a.desk };
+    ghost refuses = { λ a r b. b.desk.account ≡ a.desk.account };
 
-    ghost hands_back = { λ a r b. b.desk ≡ a.desk };
+    ghost hands_back = { λ a r b. b.desk.account ≡ a.desk.account };
 
     fn serve<R: Wait>(
         &mut self,
@@ -54,16 +57,9 @@ impl<'e, K: RecordKind + Drop, B: SetsName<K, D>, D: Device, C: Clock> Serve<Que
             ticket,
         } = item;
         let mut own = Some(ticket);
-        let told = self.core.request(
-            rt,
-            self.alloc,
-            &mut self.desk,
-            &mut self.buffers,
-            &mut self.walked,
-            number,
-            self.clock,
-            &mut own,
-        );
+        let told = self
+            .core
+            .request(rt, &mut self.desk, number, self.clock, &mut own);
         if told.is_ok() {
             return Ok(());
         }
@@ -80,6 +76,22 @@ impl<'e, K: RecordKind + Drop, B: SetsName<K, D>, D: Device, C: Clock> Serve<Que
     }
 }
 
+// Serves the requests of these queues by a worker, until they were closed and are found empty.
+fn run_server<
+    K: RecordKind + Drop,
+    B: SetsName<K, D>,
+    D: Device,
+    C: Clock,
+    P,
+    Q: SharedQueues<P, QueuedRequest<K, B>>,
+    R: Wait,
+>(rt: &R, queues: &Q, worker: &mut Worker<P>, server: &mut Server<'_, K, B, D, C>)
+    requires { Q.is_lane queues.now worker.old.lane }
+    ensures { HasServedSome server.old.desk.account server.new.desk.account }
+{
+    worker.run(rt, queues, server);
+}
+
 impl<K: RecordKind + Drop, B: SetsName<K, D>, D: Device> EngineCore<K, B, D> {
     /// Requests a record, as a call of a desk, for a scan or because it has waited on a queue: then
     /// it spends its ticket, which stays where it is if the call is refused. Not inlined, as calls
@@ -92,30 +104,86 @@ impl<K: RecordKind + Drop, B: SetsName<K, D>, D: Device> EngineCore<K, B, D> {
     pub fn request<R: Wait, C: Clock>(
         &self,
         rt: &R,
-        alloc: Global,
-        desk: &mut DeskAccount<K, B>,
-        buffers: &mut EventBuffers<K, D>,
-        walked: &mut Vec<Listed>,
+        desk: &mut Desk<K, B, D>,
         number: RecordNo,
         clock: &C,
         ticket: &mut Option<Ticket<RequestTickets<K, B>>>,
     ) -> Result<(), IocError>
-        ensures served { OnOk result (WasQueueServed D K.rules B.base D.gives (C.gives clock.now) number desk.old desk.new
-            (world_of buffers.new.store)) }
-        ensures err { OnErr result (desk.new ≡ desk.old) }
+        ensures served { OnOk result (WasQueueServed D K.rules B.base D.gives (C.gives clock.now) number desk.old.account desk.new.account
+            (world_of desk.new.buffers.store)) }
+        ensures err { OnErr result (desk.new.account ≡ desk.old.account) }
         ensures ticket { OnErr result (ticket.new ≡ ticket.old) }
         ensures spent { OnOk result (ticket.new ≡ None) }
     {
         let event = Event::Process { record: number };
-        let (_reply, _receipt) = self.serve(
-            rt, alloc, desk, buffers, walked, number, &event, clock, ticket,
-        )?;
+        let (_reply, _receipt) = self.serve(rt, desk, &event, clock, ticket)?;
         Ok(())
+    }
+
+    /// Requests each of these records by a desk, one after another, and returns how many requests
+    /// weren't refused; the others are left out and counted. [`EventBuffers::ended`] returns the puts
+    /// with notification that have ended by any of them, in order.
+    ///
+    /// # Errors
+    ///
+    /// [`IocError::NoMemory`] if allocation fails; nothing was requested then.
+    pub fn request_each<R: Wait, C: Clock>(
+        &self,
+        rt: &R,
+        desk: &mut Desk<K, B, D>,
+        listed: &[Listed],
+        clock: &C,
+    ) -> Result<usize, IocError>
+        ensures served { IfOk result (λ count. HasServed count desk.old.account desk.new.account) }
+        ensures err { OnErr result ((desk.new.account ≡ desk.old.account) × (desk.new.buffers ≡ desk.old.buffers)) }
+        ensures refused { IfErr result (λ error. error ≡ NoMemory) }
+    {
+        let Ok(mut ended) = Vec::with_capacity(desk.alloc, 256) else {
+            return Err(IocError::NoMemory);
+        };
+        let mut requested = 0;
+        for place in 0..listed.len() {
+            let number = listed[place].number;
+            requested += self.request_counted(rt, desk, number, clock, &mut ended);
+        }
+        desk.buffers.ended_everywhere = ended;
+        Ok(requested)
+    }
+
+    // Requests a record and returns 1, or counts the refused request and returns 0. Adds the puts with
+    // notification that have ended by it to `ended`, where room is kept for those of the next one.
+    #[tactic(auto, using(crate::proofs::Requests::served_none, crate::proofs::Requests::served_one))]
+    fn request_counted<R: Wait, C: Clock>(
+        &self,
+        rt: &R,
+        desk: &mut Desk<K, B, D>,
+        number: RecordNo,
+        clock: &C,
+        ended: &mut Vec<NotifyId>,
+    ) -> usize
+        requires room { 256 ≤ vec_capacity ended.old }
+        ensures served { HasServed result desk.old.account desk.new.account }
+        ensures most { result ≤ 1 }
+        ensures room { 256 ≤ vec_capacity ended.new }
+    {
+        if ended.reserve(256).is_err() {
+            self.count_refused();
+            return 0;
+        }
+        let mut own = None;
+        let requested = self.request(rt, desk, number, clock, &mut own);
+        if requested.is_err() {
+            self.count_refused();
+            return 0;
+        }
+        let _kept = ended.append(&mut desk.buffers.ended_everywhere);
+        1
     }
 
     /// Serves the requests that wait on the queues by a desk, each with its ticket, sleeps while
     /// there are none, and returns once the engine was closed and no request waits. A request that
-    /// is refused is left out, and its ticket is handed back. The server gives the desk back.
+    /// is refused is left out, and its ticket is handed back. The desk, which is given back, makes no
+    /// other call.
     ///
     /// # Errors
     ///
@@ -123,39 +191,58 @@ impl<K: RecordKind + Drop, B: SetsName<K, D>, D: Device> EngineCore<K, B, D> {
     pub fn work<R: Wait, C: Clock>(
         &self,
         rt: &R,
-        server: &mut Server<'_, K, B, D, C>,
-    ) -> Result<(), AllocError> {
-        let mut worker = self.queues.worker(rt, server.alloc)?;
-        worker.run(rt, &self.queues, server);
-        Ok(())
+        desk: Desk<K, B, D>,
+        clock: &C,
+    ) -> Result<Desk<K, B, D>, AllocError>
+        ensures served { IfOk result (λ d. HasServedSome desk.account d.account) }
+    {
+        let mut worker = self.queues.worker(rt, desk.alloc)?;
+        let mut server = Server {
+            core: self,
+            clock,
+            desk,
+        };
+        run_server(rt, &self.queues, &mut worker, &mut server);
+        Ok(server.desk)
     }
 
     /// Serves the first of the requests that wait on the queues: HIGH, MEDIUM, LOW, once. Returns
     /// false if all four queues are found empty. A request that is refused is left out, and its
-    /// ticket is handed back.
-    pub fn serve_one<R: Wait, C: Clock>(
-        &self,
-        rt: &R,
-        alloc: Global,
-        desk: &mut DeskAccount<K, B>,
-        buffers: &mut EventBuffers<K, D>,
-        walked: &mut Vec<Listed>,
-        clock: &C,
-    ) -> bool {
+    /// ticket is handed back. The desk makes no other call.
+    #[tactic(auto, using(crate::proofs::Requests::some_none))]
+    pub fn serve_one<R: Wait, C: Clock>(&self, rt: &R, desk: &mut Desk<K, B, D>, clock: &C) -> bool
+        ensures served { HasServedSome desk.old.account desk.new.account }
+        ensures idle { result ≡ false → desk.new.account ≡ desk.old.account }
+    {
         let mut lane = self.queues.lane();
         let Some(request) = self.queues.take_first(rt, &mut lane) else {
             return false;
         };
+        self.serve_taken(rt, desk, request, clock);
+        true
+    }
+
+    // Serves a request that was taken from a queue. If it is refused, its ticket is handed back.
+    fn serve_taken<R: Wait, C: Clock>(
+        &self,
+        rt: &R,
+        desk: &mut Desk<K, B, D>,
+        request: QueuedRequest<K, B>,
+        clock: &C,
+    )
+        ensures { HasServedSome desk.old.account desk.new.account }
+    {
         let RecordRequest {
             record: number,
             ticket,
         } = request;
         let mut own = Some(ticket);
-        let _told = self.request(rt, alloc, desk, buffers, walked, number, clock, &mut own);
-        if let Some(ticket) = own {
-            self.journal.hand_back_one(rt, ticket);
+        let told = self.request(rt, desk, number, clock, &mut own);
+        if told.is_err() {
+            if let Some(ticket) = own {
+                self.journal.hand_back_one(rt, ticket);
+            }
         }
-        true
     }
 }
 

@@ -1,10 +1,12 @@
 //! The changes of a record by entries.
 use crate::played_map::PlayedMap;
+use ioc_commands::add_shown_text;
 use ioc_fields::field_list::fields;
 use ioc_fields::{FieldNo, name_of, row_of};
 use ioc_names::RecordNo;
 use ioc_record::{FieldText, RecordKind, text_of};
 use ioc_store::Store;
+use ioc_values::{Value, exact_double_text};
 use rec_types::Record;
 use std::alloc::{AllocError, Global};
 
@@ -22,12 +24,21 @@ pub struct Trace {
     shown: Vec<Shown>,
 }
 
+// Returns the text of a field, which is that of another value only if it is shown in the same way. A
+// double has all its digits, so that each change of it is seen.
+fn exact_text_of(record: &Record, field: FieldNo) -> FieldText {
+    match &record.get(field) {
+        Some(Value::Double(number)) => FieldText::cut(exact_double_text(*number).as_slice()),
+        _ => text_of(record, field),
+    }
+}
+
 // Returns all fields of a record with their texts.
 fn shown_of(alloc: Global, record: &Record) -> Result<Vec<Shown>, AllocError> {
     let mut shown = Vec::new(alloc);
     for field in fields() {
         if row_of(record.record_type(), *field).is_some() {
-            let text = text_of(record, *field);
+            let text = exact_text_of(record, *field);
             shown.push(Shown {
                 field: *field,
                 text,
@@ -42,9 +53,9 @@ fn add_change(out: &mut Vec<u8>, before: &Shown, text: &FieldText) -> Result<(),
     out.push(b'\t')?;
     out.extend_from_slice(name_of(before.field).as_bytes())?;
     out.push(b' ')?;
-    out.extend_from_slice(before.text.as_slice())?;
+    add_shown_text(out, before.text.as_slice())?;
     out.extend_from_slice(b" -> ")?;
-    out.extend_from_slice(text.as_slice())?;
+    add_shown_text(out, text.as_slice())?;
     out.push(b'\n')?;
     Ok(())
 }
@@ -86,7 +97,7 @@ impl Trace {
         let record = map.record(self.record);
         let mut is_first = true;
         for shown in self.shown.iter_mut() {
-            let text = text_of(record, shown.field);
+            let text = exact_text_of(record, shown.field);
             if text != shown.text {
                 if is_first {
                     out.extend_from_slice(entry)?;

@@ -7,6 +7,7 @@ use crate::auditor::Auditor;
 use crate::changes::Trace;
 use crate::difference::Difference;
 use ioc_journal_file::{LineError, parse};
+use ioc_journal_lines::Seals;
 use std::alloc::{AllocError, Global};
 use std::io::{self, BufRead, Write};
 use thiserror::Error;
@@ -45,6 +46,35 @@ pub enum Audited {
     CutOff(u64),
 }
 
+/// The line that was read last, and the hash of those before it, if the journal has seals.
+#[derive(Drop)]
+pub struct LastLine {
+    pub text: Vec<u8>,
+    pub seals: Option<Seals>,
+}
+
+impl LastLine {
+    /// No line was read yet.
+    pub fn new(alloc: Global) -> Self {
+        LastLine {
+            text: Vec::new(alloc),
+            seals: None,
+        }
+    }
+
+    /// Covers the line that was read last, if the journal has seals.
+    pub(crate) fn cover(&mut self) {
+        cover(&mut self.seals, self.text.as_slice());
+    }
+}
+
+// Covers a line, if the journal has seals.
+fn cover(seals: &mut Option<Seals>, line: &[u8]) {
+    if let Some(seals) = seals {
+        seals.cover(line);
+    }
+}
+
 // What comes of a line of a journal.
 #[derive(Drop)]
 enum Step {
@@ -78,8 +108,8 @@ fn ended(count: u64, text: &[u8]) -> Audited
     }
 }
 
-// Reads the next line of a journal, with its line feed. Returns whether there is one.
-fn next_line<R: BufRead>(journal: &mut R, text: &mut Vec<u8>) -> Result<bool, AuditFault>
+/// Reads the next line of a journal, with its line feed. Returns whether there is one.
+pub(crate) fn next_line<R: BufRead>(journal: &mut R, text: &mut Vec<u8>) -> Result<bool, AuditFault>
     ensures { IfOk result (λ some. IfSome (R.remaining journal.old) (λ rest. ReadsLine rest some text.new.items
         (R.remaining journal.new))) }
 {
@@ -109,8 +139,9 @@ fn trace_line<W: Write>(
     }
 }
 
-/// Checks the entries of a journal until its end, or as many as `most`, or until one differs. What
-/// the entries change of the traced record is written.
+/// Checks the entries of a journal until its end, or as many as `most`, or until one differs or a line
+/// is no entry, which is then the one that was read last. What the entries change of the traced record
+/// is written.
 ///
 /// # Errors
 ///
@@ -120,6 +151,7 @@ pub fn audit<R: BufRead, W: Write>(
     alloc: Global,
     auditor: &mut Auditor,
     journal: &mut R,
+    last: &mut LastLine,
     most: u64,
     trace: &mut Option<Trace>,
     out: &mut W,
@@ -127,10 +159,10 @@ pub fn audit<R: BufRead, W: Write>(
     ensures { IfOk result (λ found. IfSome (R.remaining journal.old) (λ text.
         Finds auditor.old text most auditor.new found)) }
 {
-    let mut text = Vec::new(alloc);
+    let LastLine { text, seals } = last;
     let mut count = 0;
     while count < most {
-        if !next_line(journal, &mut text)? {
+        if !next_line(journal, text)? {
             return Ok(Audited::Agree(count));
         }
         match check_line(alloc, auditor, text.as_slice())? {
@@ -139,6 +171,7 @@ pub fn audit<R: BufRead, W: Write>(
             Step::NoEntry => return Ok(ended(count, text.as_slice())),
         }
         trace_line(alloc, auditor, trace, text.as_slice(), out)?;
+        cover(seals, text.as_slice());
         count += 1;
     }
     Ok(Audited::Agree(count))

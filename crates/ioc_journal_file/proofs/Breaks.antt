@@ -7,7 +7,7 @@ use Rattle.std.specs.Fmt.{signed_decimal}
 use Rattle.std.proofs.lemmas.Int.{ints}
 use Rattle.ioc_values.specs.declared.error.IocError.{IocError}
 use Rattle.ioc_values.specs.declared.value.Value.{Value}
-use Rattle.ioc_values.specs.declared.value.Value.TheVariants.{Long, ULong, Short, UShort, UChar, Enum, Int64, Text}
+use Rattle.ioc_values.specs.declared.value.Value.TheVariants.{Long, ULong, Short, UShort, UChar, Enum, Int64, Double, Text}
 use Rattle.ioc_values.specs.declared.value.Finished.{Finished}
 use Rattle.ioc_values.specs.declared.value.Finished.TheVariants as finished
 use Rattle.ioc_values.specs.declared.input.Input.{Input}
@@ -17,7 +17,7 @@ use Rattle.ioc_device.specs.declared.Answer.{Answer}
 use Rattle.ioc_device.specs.declared.Answer.TheVariants as answer
 use Rattle.ioc_fields.specs.Names.{name_of}
 use Rattle.ioc_links.specs.declared.link.Link.{Link}
-use Rattle.ioc_links.specs.declared.link.Link.TheVariants.{Empty, Constant, Device, Database}
+use Rattle.ioc_links.specs.declared.link.Link.TheVariants.{Empty, Constant, Real, Device, Database}
 use Rattle.ioc_dbcommon.specs.declared.link_field.Lead.{Lead}
 use Rattle.ioc_dbcommon.specs.declared.link_field.Lead.TheVariants.{Nowhere, Field, OwnDevice}
 use Rattle.ioc_events.specs.declared.event.Event.{Event}
@@ -29,6 +29,7 @@ use Rattle.ioc_events.specs.declared.reply.Reply.TheVariants as reply
 use Rattle.ioc_journal_file.specs.declared.line.Mark.{Mark}
 use Rattle.ioc_journal_file.specs.Words.{ends_word}
 use Rattle.ioc_journal_file.specs.Texts.{quoted}
+use Rattle.ioc_journal_file.specs.Bits.{bits_text}
 use Rattle.ioc_journal_file.specs.Lists.{outcome_word, mode_word}
 use Rattle.ioc_journal_file.specs.Form.{value_text, input_text, finished_text, answer_text, answers_text, reply_text, shown_text, changed_text, live_word, process_word, link_text, lead_text, event_text, call_text, mark_text, line_of}
 use Rattle.ioc_journal_file.specs.Fits.{IsNumber, IsValue, IsInput, IsFinished, IsAnswer, IsReply, IsShown, IsLink, IsLead, IsEvent, IsCall, IsMark, IsEntry}
@@ -36,6 +37,7 @@ use Rattle.ioc_journal_file.specs.Breaks.{no_break, EndsOnce}
 use Rattle.ioc_journal_file.proofs.Splitting.{is_whole, both, and_true, negated}
 use Rattle.ioc_journal_file.proofs.NumbersAgain.{decimal_whole, signed_whole}
 use Rattle.ioc_journal_file.proofs.TextsAgain.{quoted_whole}
+use Rattle.ioc_journal_file.proofs.BitsAgain.{bits_whole}
 use Rattle.ioc_journal_file.proofs.RepliesAgain.{error_word, outcome_is}
 use Rattle.ioc_journal_file.proofs.LinksAgain.{name_whole, mode_read, process_read}
 
@@ -89,6 +91,7 @@ value (UShort n) h = next (codes "ushort") (decimal n) refl (number n (omega (ar
 value (UChar n) h = next (codes "uchar") (decimal n) refl (number n (omega (arith, h)))
 value (Enum n) h = next (codes "enum") (decimal n) refl (number n (omega (arith, h)))
 value (Int64 z) h = next (codes "int64") (signed_decimal z) refl (integer z h)
+value (Double x) h = next (codes "double") (bits_text x) refl (whole (bits_text x) (bits_whole x))
 value (Text t) h = next (codes "text") (quoted t) refl (text t)
 
 given : (v : Input) → IsInput v → Unbroken (input_text v)
@@ -147,6 +150,7 @@ link : (l : Link) → IsLink l → Unbroken (link_text l)
 unfolding link_text
 link Empty h = refl
 link (Constant z) h = next (codes "constant") (signed_decimal z) refl (integer z h)
+link (Real t) h = next (codes "real") (quoted t) refl (text t)
 link (Device t) h = next (codes "device") (quoted t) refl (text t)
 link (Database target flags) h =
     next (codes "database" ++ 9 ∷ quoted target.record_name ++ 9 ∷ quoted target.field ++ 9 ∷ process_word flags.process_passive) (mode_word flags.mode)

@@ -1,6 +1,7 @@
 mod Splitting
 mod NumbersAgain
 mod TextsAgain
+mod BitsAgain
 mod ValuesAgain
 mod RepliesAgain
 mod LinksAgain

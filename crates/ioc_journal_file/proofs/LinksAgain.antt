@@ -8,7 +8,7 @@ use Rattle.ioc_fields.specs.declared.field_no.OwnField.TheVariants.{StateValue, 
 use Rattle.ioc_fields.specs.declared.field_no.FieldSlot.TheVariants.{N0}
 use Rattle.ioc_fields.specs.Names.{common_name, own_name, link_name, state_value_name, state_text_name, state_severity_name, name_of, all_fields}
 use Rattle.ioc_links.specs.declared.link.Link.{Link}
-use Rattle.ioc_links.specs.declared.link.Link.TheVariants.{Empty, Constant, Device, Database}
+use Rattle.ioc_links.specs.declared.link.Link.TheVariants.{Empty, Constant, Real, Device, Database}
 use Rattle.ioc_links.specs.declared.link.Mode.{Mode}
 use Rattle.ioc_links.specs.declared.link.Mode.TheVariants.{Nms, Ms, Msi, Mss}
 use Rattle.ioc_dbcommon.specs.declared.link_field.LinkField.{LinkField}
@@ -84,6 +84,7 @@ pub link_again : (l : Link) (c : ℕ) (rest : List ℕ) → IsLink l → ends_wo
 unfolding link_text link_at constant_at
 link_again Empty c rest h e = empty_link (codes "empty") c rest refl refl e
 link_again (Constant z) c rest h e = rw (integer_again z c rest h e) refl
+link_again (Real text) c rest h e = ap (λ (p : List ℕ × List ℕ). Some (Real p.0, p.1)) (text_again 39 text c rest h e)
 link_again (Device text) c rest h e = ap (λ (p : List ℕ × List ℕ). Some (Device p.0, p.1)) (text_again 119 text c rest h e)
 link_again (Database target flags) c rest h e =
     ap database_at (four (quoted target.record_name) (quoted target.field) (process_word flags.process_passive) (mode_word flags.mode) (c ∷ rest))

@@ -26,7 +26,7 @@ digit_high n =
       | inr other ↦ rw other (omega arith)
     ]
 
-digit_back : (n : ℕ) → n < 16 → hex_value (hex_digit n) ≡ n
+pub digit_back : (n : ℕ) → n < 16 → hex_value (hex_digit n) ≡ n
 digit_back n h =
     elim (cases_lt n 10) [
       | inl small ↦ rw (lt-ltb n 10 small, lt-ltb (48 + n) 97 (omega arith)) (omega arith)

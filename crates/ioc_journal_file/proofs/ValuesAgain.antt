@@ -1,6 +1,7 @@
 -- Printed values and answers are read.
 use Rattle.std.proofs.Common.{◌≡◌, ℕ, ◌≤◌, ◌<◌, ◌^◌, Bool, true, false, cond, List, [], ◌∷◌, ◌++◌, length, Some, ℤ, pos, negsuc, refl, ap, ◌∙◌, append_assoc, arith}
-use Rattle.std.specs.Prelude.{FitsSigned, codes, decimal}
+use Rattle.std.specs.Prelude.{FitsSigned, T, codes, decimal}
+use Rattle.std.specs.Float.Ieee.{Float, binary64, fits}
 use Rattle.std.specs.Int.{w16, w32, w64}
 use Rattle.std.specs.List.{flat_map, AllByRecursion}
 use Rattle.std.specs.Fmt.{signed_decimal}
@@ -10,7 +11,7 @@ use Rattle.ioc_values.specs.Conversion.{value_in}
 use Rattle.ioc_values.specs.declared.kind.Range.{Range}
 use Rattle.ioc_values.specs.declared.kind.Range.TheVariants as range
 use Rattle.ioc_values.specs.declared.value.Value.{Value}
-use Rattle.ioc_values.specs.declared.value.Value.TheVariants.{Long, ULong, Short, UShort, UChar, Enum, Int64, Text}
+use Rattle.ioc_values.specs.declared.value.Value.TheVariants.{Long, ULong, Short, UShort, UChar, Enum, Int64, Double, Text}
 use Rattle.ioc_values.specs.declared.value.Finished.{Finished}
 use Rattle.ioc_values.specs.declared.value.Finished.TheVariants as finished
 use Rattle.ioc_values.specs.declared.input.Input.{Input}
@@ -20,14 +21,16 @@ use Rattle.ioc_device.specs.declared.Answer.TheVariants as answer
 use Rattle.ioc_journal_file.specs.declared.kinds.ValueKind.TheVariants as kind
 use Rattle.ioc_journal_file.specs.Words.{ends_word, word_of, is_word}
 use Rattle.ioc_journal_file.specs.Texts.{quoted}
+use Rattle.ioc_journal_file.specs.Bits.{bits_text}
 use Rattle.ioc_journal_file.specs.Lists.{kind_word}
 use Rattle.ioc_journal_file.specs.Form.{value_text, input_text, finished_text, answer_text, answers_text}
 use Rattle.ioc_journal_file.specs.Reading.{◌>>=◌}
-use Rattle.ioc_journal_file.specs.Parts.{number_in, value_by, value_at, value_input_at, input_at, done_at, finished_at, value_answer_at, answer_at, answers_of, number_at}
+use Rattle.ioc_journal_file.specs.Parts.{number_in, double_at, value_by, value_at, value_input_at, input_at, done_at, finished_at, value_answer_at, answer_at, answers_of, number_at}
 use Rattle.ioc_journal_file.specs.Fits.{IsValue, IsInput, IsFinished, IsAnswer, IsNumber}
 use Rattle.ioc_journal_file.proofs.Splitting.{is_whole, word_cut, after_cut}
 use Rattle.ioc_journal_file.proofs.NumbersAgain.{integer_again, number_again}
 use Rattle.ioc_journal_file.proofs.TextsAgain.{text_again}
+use Rattle.ioc_journal_file.proofs.BitsAgain.{bits_whole, bits_again}
 
 in_signed31 : (z : ℤ) → FitsSigned w32 z → (value_in range.Long z ≡ Some (Long z)) × FitsSigned w64 z
 unfolding value_in
@@ -56,6 +59,10 @@ text_value : (text : List ℕ) (c : ℕ) (rest : List ℕ) → length text ≤ 3
 unfolding value_by
 text_value text c rest h e = ap (λ (p : List ℕ × List ℕ). Some (Text p.0, p.1)) (text_again 39 text c rest h e)
 
+double_value : (x : Float) (c : ℕ) (rest : List ℕ) → T (fits binary64 x) → ends_word c ≡ true → value_by kind.Double (bits_text x ++ c ∷ rest) ≡ Some (Double x, rest)
+unfolding value_by double_at
+double_value x c rest h e = rw (word_cut (bits_text x) c rest (bits_whole x) e, after_cut (bits_text x) c rest (bits_whole x) e, bits_again x h) refl
+
 pub value_again : (v : Value) (c : ℕ) (rest : List ℕ) → IsValue v → ends_word c ≡ true → value_at (value_text v ++ c ∷ rest) ≡ Some (v, rest)
 unfolding value_text value_at value_by value_in kind_word
 value_again (Long z) c rest h e = let i = in_signed31 z h in number_in_again range.Long z (Long z) c rest i.0 i.1 e
@@ -65,6 +72,7 @@ value_again (UShort n) c rest h e = number_in_again range.UShort (pos n) (UShort
 value_again (UChar n) c rest h e = number_in_again range.UChar (pos n) (UChar n) c rest (rw (lt-ltb n (2 ^ 8) h) refl) (wide n (omega (arith, h))) e
 value_again (Enum n) c rest h e = number_in_again range.Enum (pos n) (Enum n) c rest (rw (lt-ltb n (2 ^ 16) h) refl) (wide n (omega (arith, h))) e
 value_again (Int64 z) c rest h e = number_in_again range.Int64 z (Int64 z) c rest (in_signed63 z h) h e
+value_again (Double x) c rest h e = double_value x c rest h e
 value_again (Text text) c rest h e = text_value text c rest h e
 
 -- The first word of a value is none of the words that stand in place of a value.
@@ -82,6 +90,7 @@ no_other (UShort n) rest = record { longtext = refl; fault = refl; later = refl 
 no_other (UChar n) rest = record { longtext = refl; fault = refl; later = refl }
 no_other (Enum n) rest = record { longtext = refl; fault = refl; later = refl }
 no_other (Int64 z) rest = record { longtext = refl; fault = refl; later = refl }
+no_other (Double x) rest = record { longtext = refl; fault = refl; later = refl }
 no_other (Text text) rest = record { longtext = refl; fault = refl; later = refl }
 
 pub otherwise : {X : Type 0} (b : Bool) (x y z : X) → b ≡ false → y ≡ z → cond b x y ≡ z

@@ -1,11 +1,12 @@
 -- The values of the types of an entry: numbers are in range, and texts are no longer than they can
 -- be.
-use Rattle.std.specs.Prelude.{ℕ, ◌<◌, ◌≤◌, ◌^◌, List, length, FitsSigned, Result, Ok, Err}
+use Rattle.std.specs.Prelude.{ℕ, ◌<◌, ◌≤◌, ◌^◌, List, length, FitsSigned, T, Result, Ok, Err}
 use Rattle.std.specs.List.{AllByRecursion}
 use Rattle.std.specs.Int.{w16, w32, w64}
+use Rattle.std.specs.Float.Ieee.{binary64, fits}
 use Rattle.ioc_values.specs.declared.error.IocError.{IocError}
 use Rattle.ioc_values.specs.declared.value.Value.{Value}
-use Rattle.ioc_values.specs.declared.value.Value.TheVariants.{Long, ULong, Short, UShort, UChar, Enum, Int64, Text}
+use Rattle.ioc_values.specs.declared.value.Value.TheVariants.{Long, ULong, Short, UShort, UChar, Enum, Int64, Double, Text}
 use Rattle.ioc_values.specs.declared.value.Finished.{Finished}
 use Rattle.ioc_values.specs.declared.value.Finished.TheVariants as finished
 use Rattle.ioc_values.specs.declared.input.Input.{Input}
@@ -13,7 +14,7 @@ use Rattle.ioc_values.specs.declared.input.Input.TheVariants as input
 use Rattle.ioc_device.specs.declared.Answer.{Answer}
 use Rattle.ioc_device.specs.declared.Answer.TheVariants as answer
 use Rattle.ioc_links.specs.declared.link.Link.{Link}
-use Rattle.ioc_links.specs.declared.link.Link.TheVariants.{Empty, Constant, Device, Database}
+use Rattle.ioc_links.specs.declared.link.Link.TheVariants.{Empty, Constant, Real, Device, Database}
 use Rattle.ioc_dbcommon.specs.declared.link_field.Lead.{Lead}
 use Rattle.ioc_dbcommon.specs.declared.link_field.Lead.TheVariants.{Field}
 use Rattle.ioc_events.specs.declared.event.Event.{Event}
@@ -35,6 +36,7 @@ IsValue (UShort n) = n < 2 ^ 16
 IsValue (UChar n) = n < 2 ^ 8
 IsValue (Enum n) = n < 2 ^ 16
 IsValue (Int64 z) = FitsSigned w64 z
+IsValue (Double x) = T (fits binary64 x)
 IsValue (Text text) = length text ≤ 39
 
 abbrev pub IsInput : Input → Type 0
@@ -61,6 +63,7 @@ IsShown (Err _) = Unit {0}
 abbrev pub IsLink : Link → Type 0
 IsLink Empty = Unit {0}
 IsLink (Constant z) = FitsSigned w64 z
+IsLink (Real text) = length text ≤ 39
 IsLink (Device text) = length text ≤ 119
 IsLink (Database target flags) = (length target.record_name ≤ 60) × (length target.field ≤ 8)
 

@@ -7,7 +7,7 @@ use Rattle.std.specs.List.{flat_map}
 use Rattle.std.specs.Fmt.{signed_decimal}
 use Rattle.ioc_values.specs.declared.error.IocError.{IocError}
 use Rattle.ioc_values.specs.declared.value.Value.{Value}
-use Rattle.ioc_values.specs.declared.value.Value.TheVariants.{Long, ULong, Short, UShort, UChar, Enum, Int64, Text}
+use Rattle.ioc_values.specs.declared.value.Value.TheVariants.{Long, ULong, Short, UShort, UChar, Enum, Int64, Double, Text}
 use Rattle.ioc_values.specs.declared.value.Finished.{Finished}
 use Rattle.ioc_values.specs.declared.value.Finished.TheVariants as finished
 use Rattle.ioc_values.specs.declared.input.Input.{Input}
@@ -17,7 +17,7 @@ use Rattle.ioc_device.specs.declared.Answer.{Answer}
 use Rattle.ioc_device.specs.declared.Answer.TheVariants as answer
 use Rattle.ioc_fields.specs.Names.{name_of}
 use Rattle.ioc_links.specs.declared.link.Link.{Link}
-use Rattle.ioc_links.specs.declared.link.Link.TheVariants.{Empty, Constant, Device, Database}
+use Rattle.ioc_links.specs.declared.link.Link.TheVariants.{Empty, Constant, Real, Device, Database}
 use Rattle.ioc_dbcommon.specs.declared.link_field.LinkField.{LinkField}
 use Rattle.ioc_dbcommon.specs.declared.link_field.Lead.{Lead}
 use Rattle.ioc_dbcommon.specs.declared.link_field.Lead.TheVariants.{Nowhere, Field, OwnDevice}
@@ -29,9 +29,10 @@ use Rattle.ioc_events.specs.declared.reply.Reply.{Reply}
 use Rattle.ioc_events.specs.declared.reply.Reply.TheVariants as reply
 use Rattle.ioc_journal_file.specs.declared.line.Mark.{Mark}
 use Rattle.ioc_journal_file.specs.Texts.{quoted}
+use Rattle.ioc_journal_file.specs.Bits.{bits_text}
 use Rattle.ioc_journal_file.specs.Lists.{outcome_word, mode_word}
 
--- A value: its kind, and its number or its text.
+-- A value: its kind, and its number, its bits or its text.
 unfoldable pub value_text : Value → List ℕ
 value_text (Long z) = codes "long" ++ 9 ∷ signed_decimal z
 value_text (ULong n) = codes "ulong" ++ 9 ∷ signed_decimal (pos n)
@@ -40,6 +41,7 @@ value_text (UShort n) = codes "ushort" ++ 9 ∷ signed_decimal (pos n)
 value_text (UChar n) = codes "uchar" ++ 9 ∷ signed_decimal (pos n)
 value_text (Enum n) = codes "enum" ++ 9 ∷ signed_decimal (pos n)
 value_text (Int64 z) = codes "int64" ++ 9 ∷ signed_decimal z
+value_text (Double x) = codes "double" ++ 9 ∷ bits_text x
 value_text (Text text) = codes "text" ++ 9 ∷ quoted text
 
 -- The value of a put. `longtext` is the beginning of a text of more than 39 bytes.
@@ -91,6 +93,7 @@ process_word false = codes "NPP"
 unfoldable pub link_text : Link → List ℕ
 link_text Empty = codes "empty"
 link_text (Constant z) = codes "constant" ++ 9 ∷ signed_decimal z
+link_text (Real text) = codes "real" ++ 9 ∷ quoted text
 link_text (Device text) = codes "device" ++ 9 ∷ quoted text
 link_text (Database target flags) =
     codes "database" ++ 9 ∷ quoted target.record_name ++ 9 ∷ quoted target.field ++ 9 ∷ process_word flags.process_passive ++ 9 ∷ mode_word flags.mode

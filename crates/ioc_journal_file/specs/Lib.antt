@@ -1,5 +1,6 @@
 pub mod Words
 pub mod Texts
+pub mod Bits
 pub mod Reading
 pub mod Lists
 pub mod Form

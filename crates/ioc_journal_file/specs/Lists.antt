@@ -63,10 +63,11 @@ kind_word kind.UShort = codes "ushort"
 kind_word kind.UChar = codes "uchar"
 kind_word kind.Enum = codes "enum"
 kind_word kind.Int64 = codes "int64"
+kind_word kind.Double = codes "double"
 kind_word kind.Text = codes "text"
 
 abbrev pub all_kinds : List ValueKind
-all_kinds = kind.Long ∷ kind.ULong ∷ kind.Short ∷ kind.UShort ∷ kind.UChar ∷ kind.Enum ∷ kind.Int64 ∷ kind.Text ∷ []
+all_kinds = kind.Long ∷ kind.ULong ∷ kind.Short ∷ kind.UShort ∷ kind.UChar ∷ kind.Enum ∷ kind.Int64 ∷ kind.Double ∷ kind.Text ∷ []
 
 abbrev pub kind_of : List ℕ → Option ValueKind
 kind_of word = with_word kind_word all_kinds word

@@ -6,7 +6,7 @@ use Rattle.ioc_values.specs.declared.error.IocError.{IocError}
 use Rattle.ioc_values.specs.declared.kind.Range.{Range}
 use Rattle.ioc_values.specs.declared.kind.Range.TheVariants as range
 use Rattle.ioc_values.specs.declared.value.Value.{Value}
-use Rattle.ioc_values.specs.declared.value.Value.TheVariants.{Text}
+use Rattle.ioc_values.specs.declared.value.Value.TheVariants.{Double, Text}
 use Rattle.ioc_values.specs.declared.value.Finished.{Finished}
 use Rattle.ioc_values.specs.declared.value.Finished.TheVariants as finished
 use Rattle.ioc_values.specs.declared.input.Input.{Input}
@@ -16,7 +16,7 @@ use Rattle.ioc_device.specs.declared.Answer.TheVariants as answer
 use Rattle.ioc_fields.specs.declared.field_no.FieldNo.{FieldNo}
 use Rattle.ioc_ledger.specs.declared.outcome.Outcome.{Outcome}
 use Rattle.ioc_links.specs.declared.link.Link.{Link}
-use Rattle.ioc_links.specs.declared.link.Link.TheVariants.{Empty, Constant, Device, Database}
+use Rattle.ioc_links.specs.declared.link.Link.TheVariants.{Empty, Constant, Real, Device, Database}
 use Rattle.ioc_dbcommon.specs.declared.link_field.LinkField.{LinkField}
 use Rattle.ioc_dbcommon.specs.declared.link_field.Lead.{Lead}
 use Rattle.ioc_dbcommon.specs.declared.link_field.Lead.TheVariants.{Nowhere, Field, OwnDevice}
@@ -27,6 +27,7 @@ use Rattle.ioc_journal_file.specs.declared.kinds.ValueKind.{ValueKind}
 use Rattle.ioc_journal_file.specs.declared.kinds.ValueKind.TheVariants as kind
 use Rattle.ioc_journal_file.specs.Words.{word_of, after_word, is_word}
 use Rattle.ioc_journal_file.specs.Texts.{unescaped}
+use Rattle.ioc_journal_file.specs.Bits.{bits_double}
 use Rattle.ioc_journal_file.specs.Lists.{field_of, error_of, outcome_of, mode_of, kind_of}
 use Rattle.ioc_journal_file.specs.Reading.{◌>>=◌}
 
@@ -58,6 +59,12 @@ number_in range bytes = do
   value ← value_in range z.0
   Some (value, z.1)
 
+-- A double, by its bits.
+unfoldable pub double_at : List ℕ → Option (Value × List ℕ)
+double_at bytes = do
+  x ← bits_double (word_of bytes)
+  Some (Double x, after_word bytes)
+
 -- A value of the kind.
 unfoldable pub value_by : ValueKind → List ℕ → Option (Value × List ℕ)
 value_by kind.Long bytes = number_in range.Long bytes
@@ -67,6 +74,7 @@ value_by kind.UShort bytes = number_in range.UShort bytes
 value_by kind.UChar bytes = number_in range.UChar bytes
 value_by kind.Enum bytes = number_in range.Enum bytes
 value_by kind.Int64 bytes = number_in range.Int64 bytes
+value_by kind.Double bytes = double_at bytes
 value_by kind.Text bytes = Some (Text (text_at 39 bytes).0, (text_at 39 bytes).1)
 
 unfoldable pub value_at : List ℕ → Option (Value × List ℕ)
@@ -165,8 +173,9 @@ unfoldable pub link_at : List ℕ → Option (Link × List ℕ)
 link_at bytes =
     if is_word (word_of bytes) (codes "empty") then Some (Empty, after_word bytes)
     else (if is_word (word_of bytes) (codes "constant") then constant_at (after_word bytes)
+    else (if is_word (word_of bytes) (codes "real") then Some (Real (text_at 39 (after_word bytes)).0, (text_at 39 (after_word bytes)).1)
     else (if is_word (word_of bytes) (codes "device") then Some (Device (text_at 119 (after_word bytes)).0, (text_at 119 (after_word bytes)).1)
-    else database_at (after_word bytes)))
+    else database_at (after_word bytes))))
 
 unfoldable pub address_at : List ℕ → Option (Lead × List ℕ)
 address_at bytes = do

@@ -10,6 +10,7 @@ pub(crate) enum ValueKind {
     UChar,
     Enum,
     Int64,
+    Double,
     Text,
 }
 

@@ -2,6 +2,7 @@
 //! entry. docs/JOURNAL.md describes the lines.
 #![tactic(auto)]
 
+mod bits;
 mod calls;
 mod entries;
 mod kinds;

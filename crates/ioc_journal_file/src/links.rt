@@ -49,6 +49,10 @@ fn add_link(out: &mut Vec<u8>, link: &Link) -> Result<(), AllocError>
             out.extend_from_slice(b"constant\t")?;
             add_integer(out, *number)
         }
+        Link::Real(text) => {
+            out.extend_from_slice(b"real\t")?;
+            add_text(out, text.as_slice())
+        }
         Link::Device(text) => {
             out.extend_from_slice(b"device\t")?;
             add_text(out, text.as_slice())
@@ -132,6 +136,10 @@ fn link_at(bytes: &[u8]) -> Option<(Link, &[u8])>
     }
     if is_word(word, b"constant") {
         return constant_at(rest);
+    }
+    if is_word(word, b"real") {
+        let (text, rest) = text_at(rest);
+        return Some((Link::Real(text), rest));
     }
     if is_word(word, b"device") {
         let (text, rest) = text_at(rest);

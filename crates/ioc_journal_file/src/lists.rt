@@ -34,7 +34,7 @@ static OUTCOMES: [Outcome; 4] = [
 
 static MODES: [Mode; 4] = [Mode::Nms, Mode::Ms, Mode::Msi, Mode::Mss];
 
-static VALUE_KINDS: [ValueKind; 8] = [
+static VALUE_KINDS: [ValueKind; 9] = [
     ValueKind::Long,
     ValueKind::ULong,
     ValueKind::Short,
@@ -42,6 +42,7 @@ static VALUE_KINDS: [ValueKind; 8] = [
     ValueKind::UChar,
     ValueKind::Enum,
     ValueKind::Int64,
+    ValueKind::Double,
     ValueKind::Text,
 ];
 
@@ -137,6 +138,7 @@ pub(crate) fn kind_word(kind: ValueKind) -> &'static str
         ValueKind::UChar => "uchar",
         ValueKind::Enum => "enum",
         ValueKind::Int64 => "int64",
+        ValueKind::Double => "double",
         ValueKind::Text => "text",
     }
 }

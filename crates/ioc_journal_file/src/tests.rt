@@ -7,7 +7,7 @@ use ioc_ledger::Outcome;
 use ioc_links::{Flags, Link, Mode, Target};
 use ioc_names::RecordNo;
 use ioc_notify::NotifyId;
-use ioc_values::{Finished, Input, IocError, Short, Value};
+use ioc_values::{Double, Finished, Input, IocError, Short, Value};
 use std::alloc::Global;
 use std::test::*;
 
@@ -125,6 +125,55 @@ fn other_calls(rt: HostRuntime) -> Result<(), LineError> {
 }
 
 #[test]
+fn doubles(rt: HostRuntime) -> Result<(), LineError> {
+    let doubles = [
+        (0x4004_0000_0000_0000, "4004000000000000"),
+        (0x8000_0000_0000_0000, "8000000000000000"),
+        (0xfff0_0000_0000_0000, "fff0000000000000"),
+        (0x0000_0000_0000_0001, "0000000000000001"),
+        (0xfff8_0000_0000_00ab, "7ff8000000000000"),
+        (0x3fb9_9999_9999_999a, "3fb999999999999a"),
+    ];
+    for (bits, digits) in doubles {
+        let complete = Event::Complete {
+            record: RecordNo::new(1),
+            wait: 4,
+            finished: Finished::Done(Value::Double(Double::from_bits(bits))),
+        };
+        let mut wanted = Vec::new(rt.alloc());
+        wanted.extend_from_slice(b"7\t2\t3\t1700000000000000000\tcomplete\t1\t4\tdouble\t")?;
+        wanted.extend_from_slice(digits.as_bytes())?;
+        wanted.extend_from_slice(b"\tdone\t0\n")?;
+        assert!(rt;
+            has_line(
+                rt.alloc(),
+                &Call::Event(complete, Reply::Plain),
+                &[],
+                wanted.as_slice(),
+            )?
+        );
+    }
+    Ok(())
+}
+
+#[test]
+fn real_constants(rt: HostRuntime) -> Result<(), LineError> {
+    let link = LinkField {
+        link: Link::Real(Short::cut(b"-.5E-3")),
+        lead: Lead::Nowhere,
+    };
+    assert!(rt;
+        has_line(
+            rt.alloc(),
+            &Call::Link(RecordNo::new(1), FieldNo::Own(OwnField::Inp), link, Ok(())),
+            &[],
+            b"7\t2\t3\t1700000000000000000\tlink\t1\tINP\treal\t\"-.5E-3\"\tnowhere\tdone\t0\n",
+        )?
+    );
+    Ok(())
+}
+
+#[test]
 fn calls_without_records(rt: HostRuntime) -> Result<(), LineError> {
     assert!(rt;
         has_line(
@@ -156,6 +205,9 @@ fn no_lines(rt: HostRuntime) {
         b"7\t2\t3\t17\tlive\t1\tmaybe\t0\n",
         b"7\t2\t3\t17\tlive\t1\tyes\t1\n",
         b"7\t2\t3\t17\tget\t1\tVAL\t\"12\t0\n",
+        b"7\t2\t3\t17\tcomplete\t1\t4\tdouble\t7FF8000000000000\tdone\t0\n",
+        b"7\t2\t3\t17\tcomplete\t1\t4\tdouble\t7ff8000000000001\tdone\t0\n",
+        b"7\t2\t3\t17\tcomplete\t1\t4\tdouble\t400400000000000\tdone\t0\n",
     ] {
         assert!(rt; matches!(parse(line, rt.alloc()), Err(LineError::NotALine)));
     }

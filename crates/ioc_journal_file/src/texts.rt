@@ -24,7 +24,7 @@ fn is_special(byte: u8) -> bool
 }
 
 /// Returns the digit for a number below 16.
-fn hex_digit(number: u8) -> u8
+pub(crate) fn hex_digit(number: u8) -> u8
     requires { number < 16 }
     ensures { result ≡ hex_digit number }
 {
@@ -36,7 +36,7 @@ fn hex_digit(number: u8) -> u8
 }
 
 /// Returns the number that the digit stands for.
-fn hex_value(digit: u8) -> u8
+pub(crate) fn hex_value(digit: u8) -> u8
     ensures value { result ≡ hex_value digit }
     ensures below { result < 16 }
 {

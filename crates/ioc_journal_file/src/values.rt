@@ -4,8 +4,9 @@ ghost use Rattle.std.specs.Fmt.{signed_decimal};
 ghost use Rattle.ioc_journal_file.specs.Lists.{kind_word};
 ghost use Rattle.ioc_journal_file.specs.Form.{value_text, input_text, finished_text, answer_text};
 ghost use Rattle.ioc_journal_file.specs.Reading.{Gives};
-ghost use Rattle.ioc_journal_file.specs.Parts.{number_in, value_by, value_at, value_input_at, input_at, done_at, finished_at, value_answer_at, answer_at};
+ghost use Rattle.ioc_journal_file.specs.Parts.{number_in, double_at, value_by, value_at, value_input_at, input_at, done_at, finished_at, value_answer_at, answer_at};
 
+use crate::bits::{add_double, double_of_bits};
 use crate::kinds::ValueKind;
 use crate::lists::{kind_of, kind_word};
 use crate::numbers::{add_integer, integer_at};
@@ -37,6 +38,10 @@ pub(crate) fn add_value(out: &mut Vec<u8>, value: &Value) -> Result<(), AllocErr
         Value::UChar(number) => add_numeric(out, ValueKind::UChar, i64::from(*number)),
         Value::Enum(number) => add_numeric(out, ValueKind::Enum, i64::from(*number)),
         Value::Int64(number) => add_numeric(out, ValueKind::Int64, *number),
+        Value::Double(number) => {
+            out.extend_from_slice(b"double\t")?;
+            add_double(out, *number)
+        }
         Value::Text(text) => {
             out.extend_from_slice(b"text\t")?;
             add_text(out, text.as_slice())
@@ -93,6 +98,16 @@ fn number_in(range: Range, bytes: &[u8]) -> Option<(Value, &[u8])>
     Some((value, rest))
 }
 
+/// Reads a double.
+#[tactic(auto, unfolding(crate::specs::Parts::double_at))]
+fn double_at(bytes: &[u8]) -> Option<(Value, &[u8])>
+    ensures { Gives (λ x. (x.0, x.1.now)) result (double_at bytes.now) }
+{
+    let (word, rest) = split(bytes);
+    let number = double_of_bits(word)?;
+    Some((Value::Double(number), rest))
+}
+
 /// Reads a value of the kind.
 #[tactic(auto, unfolding(crate::specs::Parts::value_by))]
 fn value_by(kind: ValueKind, bytes: &[u8]) -> Option<(Value, &[u8])>
@@ -106,6 +121,7 @@ fn value_by(kind: ValueKind, bytes: &[u8]) -> Option<(Value, &[u8])>
         ValueKind::UChar => number_in(Range::UChar, bytes),
         ValueKind::Enum => number_in(Range::Enum, bytes),
         ValueKind::Int64 => number_in(Range::Int64, bytes),
+        ValueKind::Double => double_at(bytes),
         ValueKind::Text => {
             let (text, rest) = text_at(bytes);
             Some((Value::Text(text), rest))

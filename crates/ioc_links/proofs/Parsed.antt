@@ -12,14 +12,14 @@ use Rattle.ioc_values.specs.Number.{magnitude, signed, fits_i64}
 use Rattle.ioc_values.proofs.Printed.{decimal_solid, decimal_signed}
 use Rattle.ioc_links.specs.declared.class.Class.TheVariants.{Point, Mark, NameByte, Blank}
 use Rattle.ioc_links.specs.declared.link.Link.{Link}
-use Rattle.ioc_links.specs.declared.link.Link.TheVariants.{Empty, Constant, Device, Database}
+use Rattle.ioc_links.specs.declared.link.Link.TheVariants.{Empty, Constant, Real, Device, Database}
 use Rattle.ioc_links.specs.declared.link.LinkKind.{LinkKind}
 use Rattle.ioc_links.specs.declared.link.LinkKind.TheVariants.{WithDevice, NoDevice}
 use Rattle.ioc_links.specs.declared.link.Target.{Target}
 use Rattle.ioc_links.specs.declared.link.Flags.{Flags}
 use Rattle.ioc_links.specs.Classes.{in_class, front_of, back_of}
 use Rattle.ioc_links.specs.Words.{words}
-use Rattle.ioc_links.specs.Grammar.{is_some_of, mantissa_at, is_mantissa, float_at, is_float, is_record_name, is_field_name, target_at, named_at, named, flags_of, database_at, database_of, device_of, by_first, constant_of, solid_link, link_of, printed, LinksAgain}
+use Rattle.ioc_links.specs.Grammar.{is_some_of, mantissa_at, is_mantissa, float_at, is_float, is_record_name, is_field_name, target_at, named_at, named, flags_of, database_at, database_of, device_of, by_first, constant_of, real_of, solid_link, link_of, printed, LinksAgain}
 use Rattle.ioc_links.proofs.WordLemmas.{words_first}
 use Rattle.ioc_links.proofs.Reprint.{begins_plain, database_links_again}
 use Rattle.ioc_links.proofs.Ends.{last_of, begins_solid, skipped_solid, skipped_short, trimmed_short, skip_last, trimmed_solid, solid_kept}
@@ -34,9 +34,9 @@ where_true : (b : Bool) (o : Option Link) (link : Link) → cond b o None ≡ So
 where_true true o link h = (refl, h)
 where_true false o link h = absurd cc
 
-where_false : (b : Bool) (o : Option Link) (link : Link) → cond b None o ≡ Some link → o ≡ Some link
-where_false true o link h = absurd cc
-where_false false o link h = h
+either_of : (b : Bool) (r o : Option Link) (link : Link) → cond b r o ≡ Some link → ((b ≡ true) × (r ≡ Some link)) ⊎ ((b ≡ false) × (o ≡ Some link))
+either_of true r o link h = inl (refl, h)
+either_of false r o link h = inr (refl, h)
 
 solid_again : (kind : LinkKind) (text : List ℕ) (link : Link) → length text ≤ 120 → trimmed (is_blank true) text ≡ text → solid_link kind text ≡ Some link → link_of kind text ≡ Some link
 solid_again kind text link short e h = rw (le-leb (length text) 120 short) (ap (solid_link kind) e ∙ h)
@@ -58,6 +58,25 @@ number_link kind text z s f = rw (s, f) refl
 constant_again : (kind : LinkKind) (z : ℤ) → fits_i64 z ≡ true → Again kind (Constant z)
 constant_again kind z f =
     solid_again kind (signed_decimal z) (Constant z) (decimal_short z f) (decimal_solid true z (fits z f)) (number_link kind (signed_decimal z) z (decimal_signed z (fits z f)) f)
+
+-- ---- Constants with a point or an exponent
+
+real_link : (kind : LinkKind) (t : List ℕ) → signed t ≡ None → is_float t ≡ true → length t ≤ 39 → solid_link kind t ≡ Some (Real t)
+unfolding solid_link
+real_link kind t s f short = rw (s, f, le-leb (length t) 39 short) refl
+
+no_float : is_float [] ≡ false
+unfolding is_float is_mantissa
+no_float = refl
+
+real_again : (kind : LinkKind) (text t : List ℕ) (link : Link) → trimmed (is_blank true) text ≡ t → signed t ≡ None → is_float t ≡ true → real_of t ≡ Some link → Again kind link
+real_again kind text [] link e s f h = absurd (true≢false (sym f ∙ no_float))
+real_again kind text (c ∷ cs) link e s f h =
+    let ends = trimmed_solid (is_blank true) text c cs e in
+    let k = where_true (leb (length (c ∷ cs)) 39) (Some (Real (c ∷ cs))) link h in
+    let short : length (c ∷ cs) ≤ 39 = leb-true (length (c ∷ cs)) 39 k.0 in
+    same_link kind (Real (c ∷ cs)) link k.1
+    (solid_again kind (c ∷ cs) (Real (c ∷ cs)) (omega (arith, short)) (solid_kept (is_blank true) c cs ends.0 ends.1) (real_link kind (c ∷ cs) s f short))
 
 -- ---- Device links
 
@@ -168,8 +187,8 @@ from_first kind text (c ∷ cs) link e short h =
       | inr other ↦ from_words_or kind c cs link ends.0 other (rw other at h)
     ]
 
-either_link : (o : Option ℤ) (d : Option Link) (link : Link) → option_map_or constant_of o d ≡ Some link → ((z : ℤ) × (constant_of z ≡ Some link)) ⊎ (d ≡ Some link)
-either_link None d link h = inr h
+either_link : (o : Option ℤ) (d : Option Link) (link : Link) → option_map_or constant_of o d ≡ Some link → ((z : ℤ) × (constant_of z ≡ Some link)) ⊎ ((o ≡ None) × (d ≡ Some link))
+either_link None d link h = inr (refl, h)
 either_link (Some z) d link h = inl (z, h)
 
 from_solid : (kind : LinkKind) (text : List ℕ) (link : Link) → length text ≤ 120 → solid_link kind (trimmed (is_blank true) text) ≡ Some link → Again kind link
@@ -178,7 +197,10 @@ from_solid kind text link short h =
     let t = trimmed (is_blank true) text in
     elim (either_link (signed t) _ link h) [
       | inl found ↦ let k = where_true (fits_i64 found.0) (Some (Constant found.0)) link found.1 in same_link kind (Constant found.0) link k.1 (constant_again kind found.0 k.0)
-      | inr k ↦ from_first kind text t link refl short (where_false (is_float t) (by_first kind t) link k)
+      | inr other ↦ elim (either_of (is_float t) (real_of t) (by_first kind t) link other.1) [
+        | inl real ↦ real_again kind text t link refl other.0 real.0 real.1
+        | inr k ↦ from_first kind text t link refl short k.1
+      ]
     ]
 
 pub links_again : LinksAgain

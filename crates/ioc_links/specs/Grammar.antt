@@ -12,7 +12,7 @@ use Rattle.ioc_links.specs.Classes.{all_of, front_of, back_of}
 use Rattle.ioc_links.specs.declared.class.Class.{Class}
 use Rattle.ioc_links.specs.declared.class.Class.TheVariants.{Digit, Point, Mark, NameByte, FieldByte}
 use Rattle.ioc_links.specs.declared.link.Link.{Link}
-use Rattle.ioc_links.specs.declared.link.Link.TheVariants.{Empty, Constant, Device, Database}
+use Rattle.ioc_links.specs.declared.link.Link.TheVariants.{Empty, Constant, Real, Device, Database}
 use Rattle.ioc_links.specs.declared.link.LinkKind.{LinkKind}
 use Rattle.ioc_links.specs.declared.link.LinkKind.TheVariants.{WithDevice, NoDevice}
 use Rattle.ioc_links.specs.declared.link.Mode.{Mode}
@@ -120,9 +120,13 @@ by_first kind (c ∷ cs) =
 abbrev pub constant_of : ℤ → Option Link
 constant_of z = if fits_i64 z then Some (Constant z) else None
 
+-- The constant of a decimal number with a point or an exponent, which keeps its text of at most 39 bytes.
+abbrev pub real_of : List ℕ → Option Link
+real_of text = if nat_le (length text) 39 then Some (Real text) else None
+
 -- The link of a text without blanks at its ends.
 unfoldable pub solid_link : LinkKind → List ℕ → Option Link
-solid_link kind text = option_map_or constant_of (signed text) (if is_float text then None else by_first kind text)
+solid_link kind text = option_map_or constant_of (signed text) (if is_float text then real_of text else by_first kind text)
 
 -- The link that a text spells, if it spells one.
 abbrev pub link_of : LinkKind → List ℕ → Option Link
@@ -145,6 +149,7 @@ printed_database target flags = target.record_name ++ 46 ∷ target.field ++ (if
 abbrev pub printed : Link → List ℕ
 printed Empty = []
 printed (Constant z) = signed_decimal z
+printed (Real text) = text
 printed (Device text) = 64 ∷ text
 printed (Database target flags) = printed_database target flags
 

@@ -1,5 +1,5 @@
 //! Links as they are written in a text.
-use ioc_values::{FieldName, Name, Short};
+use ioc_values::{FieldName, Name, Short, Text};
 
 /// The maximum length of a link text in bytes.
 pub const MAX_LINK_BYTES: usize = 120;
@@ -40,6 +40,8 @@ pub struct Flags {
 pub enum Link {
     Empty,
     Constant(i64),
+    /// A decimal number with a point or an exponent, as it was written.
+    Real(Text),
     /// The text after the `@`.
     Device(Short<MAX_DEVICE_BYTES>),
     Database(Target, Flags),

@@ -2,7 +2,7 @@
 
 ghost use Rattle.std.specs.Prelude.{◌≡◌, ◌≤◌, length, ok_or};
 ghost use Rattle.ioc_links.specs.Words.{words};
-ghost use Rattle.ioc_links.specs.Grammar.{device_of, database_of, by_first, solid_link, link_of};
+ghost use Rattle.ioc_links.specs.Grammar.{device_of, database_of, by_first, real_of, solid_link, link_of};
 
 use crate::grammar::{is_float, named};
 use crate::link::{Link, LinkKind, MAX_LINK_BYTES};
@@ -47,6 +47,14 @@ fn by_first(kind: LinkKind, text: &[u8]) -> Option<Link>
     }
 }
 
+/// Returns the constant of a decimal number with a point or an exponent, if it isn't too long for a
+/// value.
+fn real_of(text: &[u8]) -> Option<Link>
+    ensures { result ≡ real_of text.now }
+{
+    Short::from_slice(text).map(Link::Real)
+}
+
 /// Returns the link of a text without blanks at its ends.
 #[tactic(auto, unfolding(crate::specs::Grammar::solid_link))]
 fn solid_link(kind: LinkKind, text: &[u8]) -> Option<Link>
@@ -57,7 +65,7 @@ fn solid_link(kind: LinkKind, text: &[u8]) -> Option<Link>
         return signed(text).map(Link::Constant);
     }
     if is_float(text) {
-        return None;
+        return real_of(text);
     }
     by_first(kind, text)
 }
@@ -66,10 +74,10 @@ fn solid_link(kind: LinkKind, text: &[u8]) -> Option<Link>
 ///
 /// # Errors
 ///
-/// [`IocError::BadLink`] if the text spells no link: it has more than 120 bytes, is a number that
-/// doesn't fit 64 bits or has a fraction or an exponent, is a device link with no text or in a
-/// field that can't hold one, is a JSON link (it begins with `{`), or has an invalid name or an
-/// unknown word after the name (CA, CP and CPP are unknown).
+/// [`IocError::BadLink`] if the text spells no link: it has more than 120 bytes, is a whole number
+/// that doesn't fit 64 bits, or a number of more than 39 bytes with a point or an exponent, is a
+/// device link with no text or in a field that can't hold one, is a JSON link (it begins with `{`),
+/// or has an invalid name or an unknown word after the name (CA, CP and CPP are unknown).
 pub fn parse(kind: LinkKind, text: &[u8]) -> Result<Link, IocError>
     ensures { result ≡ ok_or (link_of kind text.now) IocError.BadLink }
 {

@@ -37,8 +37,8 @@ fn print_database(target: &Target, flags: Flags) -> Short<MAX_LINK_BYTES>
     text
 }
 
-/// Returns the canonical spelling of the link: nothing, a constant in decimal, `@` and the text, or
-/// `NAME.FIELD` with both words.
+/// Returns the canonical spelling of the link: nothing, a whole constant in decimal, a real one as it
+/// was written, `@` and the text, or `NAME.FIELD` with both words.
 pub fn print(link: &Link) -> Short<MAX_LINK_BYTES>
     ensures { result ≡ printed link.now }
 {
@@ -49,6 +49,7 @@ pub fn print(link: &Link) -> Short<MAX_LINK_BYTES>
             let mut buffer = Buffer::new();
             text.extend(buffer.format(*n).as_bytes());
         }
+        Link::Real(number) => text.extend(number.as_slice()),
         Link::Device(device) => {
             text.push(b'@');
             text.extend(device.as_slice());

@@ -9,9 +9,9 @@ use Rattle.ioc_main.proofs.Cutting.{behind-lines, none-behind, onto-nil, onto-on
 cut_push : (p ys : List ℕ) → cut (cut p ++ ys) ≡ cut (p ++ ys)
 unfolding cut
 cut_push p ys =
-    elim (cases_lt 1025 (length p)) [
-      | inl long ↦ take-append-le 1025 (take 1025 p) ys (omega (arith, length-take 1025 p)) ∙ take-take 1025 1025 p (omega arith) ∙ sym (take-append-le 1025 p ys (omega arith))
-      | inr short ↦ rw (take_all 1025 p short) refl
+    elim (cases_lt 4097 (length p)) [
+      | inl long ↦ take-append-le 4097 (take 4097 p) ys (omega (arith, length-take 4097 p)) ∙ take-take 4097 4097 p (omega arith) ∙ sym (take-append-le 4097 p ys (omega arith))
+      | inr short ↦ rw (take_all 4097 p short) refl
     ]
 
 pub cut-cut : (p : List ℕ) → cut (cut p) ≡ cut p
@@ -23,7 +23,7 @@ cut_none = refl
 
 cut_some : (c : ℕ) (cs : List ℕ) → (ds : List ℕ) × (cut (c ∷ cs) ≡ c ∷ ds)
 unfolding cut
-cut_some c cs = (take 1024 cs, refl)
+cut_some c cs = (take 4096 cs, refl)
 
 module _ (t : List (List ℕ) → List ℕ) where
   pub starts : (bytes : List ℕ) → to_come t [] bytes ≡ t (lines_of bytes)

@@ -26,7 +26,7 @@ module _ (t : List (List ℕ) → List ℕ) (w v : Option (List ℕ)) (line piec
   line_fails fault p rest = subst (λ (l : List ℕ). StopsLine fault w l v) (sym (ends rest)) (p (lines_of (after ++ rest)))
 
 -- No line ends in the piece.
-pub kept_on : (t : List (List ℕ) → List ℕ) → CutsLines t → (w : Option (List ℕ)) (line piece kept last : List ℕ) → behind 10 piece ≡ None → last ≡ piece → kept ≡ take 1025 (line ++ last)
+pub kept_on : (t : List (List ℕ) → List ℕ) → CutsLines t → (w : Option (List ℕ)) (line piece kept last : List ℕ) → behind 10 piece ≡ None → last ≡ piece → kept ≡ take 4097 (line ++ last)
     → (rest : List ℕ) → Writes w (to_come t line (piece ++ rest)) w (to_come t kept rest)
 unfolding cut
 kept_on t cuts w line piece kept last is same e rest =
@@ -45,7 +45,7 @@ pub came_whole : (t u : List (List ℕ) → List ℕ) (w v : Option (List ℕ)) 
 came_whole t u w v line last e p = (e, λ lines. subst (λ (l : List ℕ). Writes w (t ((l ++ last) ∷ lines)) v (u lines)) (sym e) (p lines))
 
 -- A line of several pieces, of which the bytes past the 1,025th have no effect.
-pub came_in_pieces : (t : List (List ℕ) → List ℕ) → CutsLines t → (line last kept slice : List ℕ) → kept ≡ take 1025 (line ++ last) → slice ≡ kept → (lines : List (List ℕ))
+pub came_in_pieces : (t : List (List ℕ) → List ℕ) → CutsLines t → (line last kept slice : List ℕ) → kept ≡ take 4097 (line ++ last) → slice ≡ kept → (lines : List (List ℕ))
     → t (slice ∷ lines) ≡ t ((line ++ last) ∷ lines)
 unfolding cut
 came_in_pieces t cuts line last kept slice e f lines =

@@ -19,12 +19,12 @@ no-lines s = refl
 cut-command : (line : List ℕ) → command_of (cut line) ≡ command_of line
 unfolding command_of cut
 cut-command line =
-    elim (cases_lt 1025 (length line)) [
+    elim (cases_lt 4097 (length line)) [
       | inl long ↦ rw (
-        lt-ltb 1024 (length (take 1025 line)) (omega (arith, length-take 1025 line)),
+        lt-ltb 1024 (length (take 4097 line)) (omega (arith, length-take 4097 line)),
         lt-ltb 1024 (length line) (omega arith),
       ) refl
-      | inr short ↦ rw (take_all 1025 line short) refl
+      | inr short ↦ rw (take_all 4097 line short) refl
     ]
 
 -- What is printed for this command, and then for these lines.

@@ -15,7 +15,7 @@ use std::alloc::Global;
 use std::io::{Read, Write};
 
 /// The beginning of a line, long enough to recognize that the line is too long.
-pub type LineBuffer = ByteBuffer<1025>;
+pub type LineBuffer = ByteBuffer<4097>;
 
 // Writes the pending replies. Not inlined, because after most lines nothing is written.
 #[inline(never)]

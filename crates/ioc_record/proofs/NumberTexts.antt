@@ -20,6 +20,7 @@ plain_number (value.UShort n) z is = decimal_of z _ is
 plain_number (value.UChar n) z is = decimal_of z _ is
 plain_number (value.Enum n) z is = cc
 plain_number (value.Int64 m) z is = decimal_of z m is
+plain_number (value.Double x) z is = cc
 plain_number (value.Text text) z is = cc
 
 pub shown_elsewhere : (sort : FieldSort) (v : Option Value) (z : ℤ) → Some z ≡ number_shown v → signed_decimal z ≡ text_with sort None v

@@ -6,7 +6,7 @@ use Rattle.ioc_values.specs.declared.error.IocError.TheVariants.{BadValue}
 use Rattle.ioc_values.specs.declared.input.Input.{Input}
 use Rattle.ioc_values.specs.declared.input.Input.TheVariants.{Value as InputValue, LongText}
 use Rattle.ioc_values.specs.declared.value.Value.{Value}
-use Rattle.ioc_values.specs.declared.value.Value.TheVariants.{Long, ULong, Short, UShort, UChar, Enum, Int64, Text}
+use Rattle.ioc_values.specs.declared.value.Value.TheVariants.{Long, ULong, Short, UShort, UChar, Enum, Int64, Double, Text}
 use Rattle.ioc_values.specs.Conversion.{FieldSort, is_text, converted, converted_input, converted_text, input_of}
 use Rattle.ioc_fields.specs.declared.field_no.FieldNo.{FieldNo}
 use Rattle.ioc_fields.specs.declared.field_kind.FieldKind.{FieldKind}
@@ -26,6 +26,7 @@ bad_value (UShort x) sort e is = bad_or _ e is
 bad_value (UChar x) sort e is = bad_or _ e is
 bad_value (Enum x) sort e is = bad_or _ e is
 bad_value (Int64 x) sort e is = bad_or _ e is
+bad_value (Double x) sort e is = bad_or _ e is
 bad_value (Text x) sort e is = bad_or _ e is
 
 bad_if : (b : Bool) (text : List ℕ) (sort : FieldSort) (e : IocError) → cond b (converted (Text text) sort) (Err BadValue) ≡ Err e → e ≡ BadValue

@@ -26,12 +26,12 @@ unexpecting (line ∷ lines) = unexpecting_from (expected_in line) line (unexpec
 cut-expected : (line : List ℕ) → expected_in (cut line) ≡ expected_in line
 unfolding expected_in cut
 cut-expected line =
-    elim (cases_lt 1025 (length line)) [
+    elim (cases_lt 4097 (length line)) [
       | inl long ↦ rw (
-        lt-ltb 1024 (length (take 1025 line)) (omega (arith, length-take 1025 line)),
+        lt-ltb 1024 (length (take 4097 line)) (omega (arith, length-take 4097 line)),
         lt-ltb 1024 (length line) (omega arith),
       ) refl
-      | inr short ↦ rw (take_all 1025 line short) refl
+      | inr short ↦ rw (take_all 4097 line short) refl
     ]
 
 same_from : (transcript : List (List ℕ) → List ℕ) → CutsLines transcript → (expected : Option (List ℕ)) (a b : List ℕ) (lines : List (List ℕ))

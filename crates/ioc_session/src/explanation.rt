@@ -224,7 +224,7 @@ impl<'a> Explanation<'a> {
         let Some(refused) = refusal_in(reply) else {
             return Ok(None);
         };
-        match LayoutFault::of(line) {
+        match LayoutFault::of(dialect, line) {
             Some(fault) => Ok(Some(Explanation::Layout(fault))),
             None => by_command(directory, refused, &Command::from_line(line)),
         }

@@ -20,6 +20,7 @@ fn range_words(range: Range) -> &'static str {
         Range::Int64 => "Int64, -9223372036854775808 to 9223372036854775807",
         Range::Zero => "only 0",
         Range::Bits => "0 to 32",
+        Range::Digits => "0 to 15",
     }
 }
 

@@ -49,6 +49,6 @@ pub fn lead_among(
             None => Lead::Nowhere,
         },
         Link::Device(text) => owners.lead(number, text),
-        Link::Empty | Link::Constant(_) => Lead::Nowhere,
+        Link::Empty | Link::Constant(_) | Link::Real(_) => Lead::Nowhere,
     }
 }

@@ -10,7 +10,7 @@ use ioc_site::Word;
 use ioc_spelling::nearest;
 use ioc_values::number::is_number;
 use ioc_values::trim::trim;
-use ioc_values::{Kind, MAX_FIELD_NAME_BYTES, Range, of_number};
+use ioc_values::{Kind, MAX_FIELD_NAME_BYTES, MAX_TEXT_BYTES, Range, of_number};
 use std::alloc::{AllocError, Global};
 use std::fmt;
 
@@ -22,8 +22,10 @@ pub enum LinkFault<'a> {
     Json,
     /// It is the address of a card, which begins with `#`.
     Address,
-    /// It is a number with a fraction or an exponent.
-    Fraction,
+    /// It is a number with a point or an exponent, of this many bytes.
+    LongNumber(usize),
+    /// It looks like a number with a point or an exponent, and is none.
+    NoNumber,
     /// It is a number of more than 64 bits.
     LargeNumber,
     /// It is `@` and nothing behind it.
@@ -50,7 +52,11 @@ impl fmt::Display for LinkFault<'_> {
             LinkFault::Address => f.write_str(
                 "is a hardware address, which is left out here; write @ and a text",
             ),
-            LinkFault::Fraction => f.write_str("is no whole number; scale it"),
+            LinkFault::LongNumber(count) => write!(
+                f,
+                "has {count} bytes, and a number with a point or an exponent at most {MAX_TEXT_BYTES}"
+            ),
+            LinkFault::NoNumber => f.write_str("is no number"),
             LinkFault::LargeNumber => f.write_str("is a number of more than 64 bits"),
             LinkFault::NoDevice => f.write_str("names no device; write a text behind the @"),
             LinkFault::Device => f.write_str("names a device, and only INP and OUT can"),
@@ -99,7 +105,7 @@ fn split_target(word: &[u8]) -> (&[u8], Option<&[u8]>) {
     (word, None)
 }
 
-// Returns whether the text looks like a number with a fraction or an exponent.
+// Returns whether the text looks like a number with a point or an exponent.
 fn is_fraction(text: &[u8]) -> bool {
     let has_digit = text.iter().any(|b| b.is_ascii_digit());
     let begins = matches!(text, [b'0'..=b'9' | b'+' | b'-' | b'.', ..]);
@@ -154,7 +160,13 @@ pub fn link_fault(kind: LinkKind, text: &[u8]) -> Option<LinkFault<'_>> {
         return Some(LinkFault::LargeNumber);
     }
     if is_fraction(text) {
-        return Some(LinkFault::Fraction);
+        let is_long = text.len() > MAX_TEXT_BYTES;
+        let fault = if is_long {
+            LinkFault::LongNumber(text.len())
+        } else {
+            LinkFault::NoNumber
+        };
+        return Some(fault);
     }
     match text {
         [b'{' | b'[', ..] => Some(LinkFault::Json),
@@ -174,12 +186,15 @@ fn meant_by(alloc: Global, fault: &LinkFault<'_>) -> Result<Option<&'static str>
     }
 }
 
-/// Returns the range of a constant in the link field, or `None` if any constant is allowed.
+/// Returns the range of a constant in the link field, or `None` if any constant is allowed, also one
+/// with a point or an exponent.
 pub fn constant_range(record_type: RecordType, field: FieldNo) -> Option<Range> {
     match (record_type, field) {
         (_, FieldNo::Common(CommonField::Sdis)) => Some(Range::Short),
         (RecordType::Longin, FieldNo::Own(OwnField::Inp))
         | (RecordType::Longout, FieldNo::Own(OwnField::Dol)) => Some(Range::Long),
+        (RecordType::Int64in, FieldNo::Own(OwnField::Inp))
+        | (RecordType::Int64out, FieldNo::Own(OwnField::Dol)) => Some(Range::Int64),
         (RecordType::Bi | RecordType::Mbbi, FieldNo::Own(OwnField::Inp)) => Some(Range::ULong),
         (RecordType::Bo | RecordType::Mbbo, FieldNo::Own(OwnField::Dol))
         | (RecordType::Fanout, FieldNo::Own(OwnField::Sell)) => Some(Range::UShort),
@@ -187,13 +202,23 @@ pub fn constant_range(record_type: RecordType, field: FieldNo) -> Option<Range> 
     }
 }
 
-// Returns whether a constant link is in the range. Every other link is.
-fn is_within(range: Option<Range>, link: &Link) -> bool {
-    match (range, link) {
-        (Some(range), Link::Constant(constant)) => {
-            of_number(Kind::Number(range), *constant).is_some()
-        }
-        _ => true,
+/// Why a link isn't allowed in a field whose constants have a range.
+#[derive(Clone, Copy, Debug, PartialEq, Eq)]
+enum ConstantFault {
+    /// It is a constant with a point or an exponent.
+    NotWhole,
+    OutOfRange(Range),
+}
+
+// Returns the fault of a constant in a field with this range. No other link has one.
+fn constant_fault(range: Option<Range>, link: &Link) -> Option<ConstantFault> {
+    match (range?, link) {
+        (_, Link::Real(_)) => Some(ConstantFault::NotWhole),
+        (range, Link::Constant(constant)) => match of_number(Kind::Number(range), *constant) {
+            Some(_) => None,
+            None => Some(ConstantFault::OutOfRange(range)),
+        },
+        _ => None,
     }
 }
 
@@ -213,15 +238,18 @@ pub fn accepts_link(
     let value = word.text.as_slice();
     let shown = Shown(trim(value, true));
     let text = match parse(role.link_kind(), value) {
-        Ok(link) => {
-            let Some(range) = range.filter(|_| !is_within(range, &link)) else {
-                return Ok(true);
-            };
-            let limits = Limits(range);
-            format!(in report.alloc;
-                "{owner} takes a constant {limits}, and {shown} is out of range"
-            )?
-        }
+        Ok(link) => match constant_fault(range, &link) {
+            None => return Ok(true),
+            Some(ConstantFault::NotWhole) => {
+                format!(in report.alloc; "{owner}: '{shown}' is no whole number; scale it")?
+            }
+            Some(ConstantFault::OutOfRange(range)) => {
+                let limits = Limits(range);
+                format!(in report.alloc;
+                    "{owner} takes a constant {limits}, and {shown} is out of range"
+                )?
+            }
+        },
         Err(_) => match link_fault(role.link_kind(), value) {
             Some(fault) => {
                 let meant = Meant(meant_by(report.alloc, &fault)?);

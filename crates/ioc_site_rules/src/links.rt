@@ -228,7 +228,7 @@ impl<'s, 'a> Follower<'s, 'a> {
         match &found {
             Link::Database(target, flags) => self.add_database(&link, target, *flags, report),
             Link::Device(device) => self.add_device(&link, device, report),
-            Link::Empty | Link::Constant(_) => Ok(()),
+            Link::Empty | Link::Constant(_) | Link::Real(_) => Ok(()),
         }
     }
 

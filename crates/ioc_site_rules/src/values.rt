@@ -29,6 +29,7 @@ impl fmt::Display for Limits {
             Range::Int64 => write!(f, "{} to {}", i64::MIN, i64::MAX),
             Range::Zero => f.write_str("0 alone"),
             Range::Bits => f.write_str("0 to 32"),
+            Range::Digits => f.write_str("0 to 15"),
         }
     }
 }

@@ -4,7 +4,7 @@ use ioc_dbcommon::Got;
 use ioc_device::{Answer, Ask};
 use ioc_ledger::Outcome;
 use ioc_menus::{Menu, Severity, Status, text};
-use ioc_values::{ByteBuffer, Finished, Name, Value};
+use ioc_values::{ByteBuffer, Finished, Name, Value, exact_double_text};
 use itoa::Buffer;
 
 /// A line of a trace, without its line feed. A longer one is cut.
@@ -29,10 +29,11 @@ fn add_number(line: &mut Line, number: i64) {
     line.extend_cut(Buffer::new().format(number).as_bytes());
 }
 
-/// Appends a value: a number, or a text as it is.
+/// Appends a value: a number, a double with all its digits, or a text as it is.
 pub fn add_value(line: &mut Line, value: &Value) {
     match value {
         Value::Text(text) => line.extend_cut(text.as_slice()),
+        Value::Double(number) => line.extend_cut(exact_double_text(*number).as_slice()),
         _ => add_number(line, value.number().unwrap_or(0)),
     }
 }

@@ -7,7 +7,7 @@ use Rattle.ioc_values.specs.declared.error.IocError.TheVariants.{BadValue}
 use Rattle.ioc_values.specs.declared.value.Value.TheVariants.{Text}
 use Rattle.ioc_values.specs.declared.kind.Range.{Range}
 use Rattle.ioc_values.specs.Number.{number_of, within_i64}
-use Rattle.ioc_values.specs.Conversion.{FieldSort, Numbers, Texts, Choices, States, is_text, of_text, value_in, input_of, converted_input, converted_text}
+use Rattle.ioc_values.specs.Conversion.{FieldSort, Numbers, Doubles, Texts, Choices, States, is_text, of_text, value_in, input_of, converted_input, converted_text}
 use Rattle.ioc_values.proofs.Wide.{value_of_wide}
 
 -- A text of at most 39 bytes converts as a text value.
@@ -19,6 +19,7 @@ short_spelled text sort h = rw (le-leb (length text) 39 h, take_all 39 text h) r
 pub long_spelled : (text : List ℕ) (sort : FieldSort) → 39 < length text → is_text sort ≡ true → Ok (Text (take 39 text)) ≡ converted_text text sort
 unfolding converted_text converted_input input_of of_text
 long_spelled text (Numbers range) h is = absurd cc
+long_spelled text Doubles h is = absurd cc
 long_spelled text Texts h is = rw (lt-leb (length text) 39 h) refl
 long_spelled text (Choices texts) h is = absurd cc
 long_spelled text (States texts) h is = absurd cc

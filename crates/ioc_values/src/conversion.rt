@@ -3,18 +3,22 @@
 //! Application Developer's Guide, "Database Definition" (the types of fields) and "Database Access"
 //! (conversion).
 
-ghost use Rattle.std.specs.Prelude.{◌≡◌, ◌≤◌, length, map, nat_eq, position};
+ghost use Rattle.std.specs.Prelude.{◌≡◌, ◌≤◌, length, map, nat_eq, option_map, position, Some};
 ghost use Rattle.std.specs.Cmp.Lexicographic.{pointwise};
 ghost use Rattle.std.specs.Option.{ok_or, option_and_then};
 ghost use Rattle.std.specs.Fmt.{signed_decimal};
 ghost use Rattle.ioc_values.specs.Number.{number_of};
-ghost use Rattle.ioc_values.specs.Conversion.{sort_of, same_text, state_of, found_or_numbered, value_in, numbered, of_number, of_text, converted};
+ghost use Rattle.ioc_values.specs.Conversion.{sort_of, same_text, state_of, found_or_numbered, value_in, numbered, of_number, double_text, of_double, of_text, converted};
+ghost use Rattle.ioc_values.specs.declared.value.Value.TheVariants.{Double as DoubleValue};
+ghost use Rattle.ioc_double.specs.Whole.{whole_of};
+ghost use Rattle.ioc_double.specs.Spelled.{double_of_text};
 
 use crate::error::IocError;
 use crate::kind::{Kind, Range};
 use crate::number::number;
 use crate::short::Text;
 use crate::value::Value;
+use ioc_double::{Digits, Double, double_of_text, exact_text, text_of_double};
 use itoa::Buffer;
 
 /// Returns the number as a value of the range, or `None` if it is out of range.
@@ -34,6 +38,10 @@ fn value_in(range: Range, number: i64) -> Option<Value>
         Range::Bits => u16::try_from(number)
             .ok()
             .filter(|count| *count <= 32)
+            .map(Value::UShort),
+        Range::Digits => u16::try_from(number)
+            .ok()
+            .filter(|count| *count <= 15)
             .map(Value::UShort),
     }
 }
@@ -113,6 +121,7 @@ pub fn of_number(kind: Kind<'_>, number: i64) -> Option<Value>
 {
     match kind {
         Kind::Number(range) => value_in(range, number),
+        Kind::Double => Some(Value::Double(Double::from(number))),
         Kind::Text => Some(Value::Text(decimal(number))),
         Kind::Menu(choices) => numbered(choices.len(), number),
         Kind::State(_) => value_in(Range::Enum, number),
@@ -126,6 +135,68 @@ fn decimal(number: i64) -> Text
     Text::cut(Buffer::new().format(number).as_bytes())
 }
 
+/// Returns the text of a double where no PREC says how many digits it has, as when a link puts it
+/// into a text field: six digits behind the point.
+#[tactic(auto, unfolding(crate::specs::Conversion::double_text))]
+pub fn double_text(number: Double) -> Text
+    ensures { result ≡ double_text number }
+{
+    match Digits::new(6) {
+        Some(digits) => Text::cut(text_of_double(number, digits).as_slice()),
+        None => Text::new(),
+    }
+}
+
+/// Returns a text from which the same double is read again, so that two have the same text only if
+/// they are the same value.
+pub fn exact_double_text(number: Double) -> Text
+    ensures { double_of_text result ≡ Some number }
+{
+    Text::cut(exact_text(number).as_slice())
+}
+
+/// Returns the double without its fraction as a value of the range. Returns `None` if it is out of
+/// range, for NaN, and for an infinity.
+#[tactic(auto, using(crate::proofs::Wide::value_of_cut))]
+fn cut_in(range: Range, number: Double) -> Option<Value>
+    ensures { result ≡ option_and_then (value_in range) (whole_of number) }
+{
+    value_in(range, number.whole()?)
+}
+
+/// Returns the choice whose number is the double without its fraction, or `None` if there is none.
+/// There are `count` of them.
+#[tactic(auto, using(crate::proofs::Wide::numbered_of_cut))]
+fn cut_numbered(count: usize, number: Double) -> Option<Value>
+    ensures { result ≡ option_and_then (numbered count) (whole_of number) }
+{
+    numbered(count, number.whole()?)
+}
+
+/// Converts a double to what a field of the kind holds. For a number, a choice or a state its
+/// fraction is dropped, so that -0.5 is 0. Returns `None` if it is out of range, and for NaN or an
+/// infinity.
+#[inline(never)]
+#[tactic(auto, unfolding(crate::specs::Conversion::of_double, crate::specs::Conversion::sort_of))]
+pub fn of_double(kind: Kind<'_>, number: Double) -> Option<Value>
+    ensures { result ≡ of_double (sort_of kind.entry) number }
+{
+    match kind {
+        Kind::Double => Some(Value::Double(number)),
+        Kind::Text => Some(Value::Text(double_text(number))),
+        Kind::Number(range) => cut_in(range, number),
+        Kind::Menu(choices) => cut_numbered(choices.len(), number),
+        Kind::State(_) => cut_in(Range::Enum, number),
+    }
+}
+
+/// Returns the double that the text spells as a value.
+fn double_in(text: &[u8]) -> Option<Value>
+    ensures { result ≡ option_map DoubleValue (double_of_text text.now) }
+{
+    double_of_text(text).map(Value::Double)
+}
+
 /// Converts a text of at most 39 bytes to what a field of the kind holds. Returns `None` if it
 /// doesn't convert.
 #[tactic(auto, unfolding(crate::specs::Conversion::of_text, crate::specs::Conversion::sort_of))]
@@ -135,6 +206,7 @@ pub fn of_text(kind: Kind<'_>, bytes: &[u8]) -> Option<Value>
 {
     match kind {
         Kind::Number(range) => text_in(range, bytes),
+        Kind::Double => double_in(bytes),
         Kind::Text => Some(Value::Text(Text::cut(bytes))),
         Kind::Menu(choices) => found_or_numbered(choices.len(), choice_of(choices, bytes), bytes),
         Kind::State(states) => found_or_numbered(states.len(), state_of(states, bytes), bytes),
@@ -159,6 +231,7 @@ pub fn convert(value: Value, kind: Kind<'_>) -> Result<Value, IocError>
         Value::UChar(number) => of_number(kind, i64::from(number)),
         Value::Enum(number) => of_number(kind, i64::from(number)),
         Value::Int64(number) => of_number(kind, number),
+        Value::Double(number) => of_double(kind, number),
         Value::Text(text) => of_text(kind, text.as_slice()),
     };
     made.ok_or(IocError::BadValue)

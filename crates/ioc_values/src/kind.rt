@@ -25,12 +25,16 @@ pub enum Range {
     Zero,
     /// A number of bits, 0 to 32.
     Bits,
+    /// A number of digits behind the point, 0 to 15.
+    Digits,
 }
 
 /// What a field can hold. The texts of its choices are passed by reference.
 #[derive(Clone, Copy)]
 pub enum Kind<'a> {
     Number(Range),
+    /// An IEEE 754 double.
+    Double,
     Text,
     /// The texts of a menu's choices, in the order of their numbers.
     Menu(&'a [&'static str]),
@@ -46,7 +50,7 @@ impl Kind<'_> {
     {
         match self {
             Kind::Text => true,
-            Kind::Number(_) | Kind::Menu(_) | Kind::State(_) => false,
+            Kind::Number(_) | Kind::Double | Kind::Menu(_) | Kind::State(_) => false,
         }
     }
 }

@@ -3,6 +3,7 @@ ghost use Rattle.std.specs.Prelude.{◌≡◌};
 ghost use Rattle.ioc_values.specs.Conversion.{number_of_value};
 
 use crate::short::Text;
+use ioc_double::Double;
 
 /// The value of a field, or a value to be put into it.
 #[derive(Clone, Copy, PartialEq, Eq)]
@@ -21,12 +22,15 @@ pub enum Value {
     Enum(u16),
     /// -9223372036854775808 to 9223372036854775807.
     Int64(i64),
+    /// An IEEE 754 double.
+    Double(Double),
     /// 0 to 39 bytes.
     Text(Text),
 }
 
 impl Value {
-    /// Returns the number of the value. A text has none, even if it spells one.
+    /// Returns the whole number of the value. A double has none, even if it is one, and a text has
+    /// none, even if it spells one.
     pub fn number(self) -> Option<i64>
         ensures { result ≡ number_of_value self }
     {
@@ -38,7 +42,7 @@ impl Value {
             Value::UChar(number) => Some(i64::from(number)),
             Value::Enum(number) => Some(i64::from(number)),
             Value::Int64(number) => Some(number),
-            Value::Text(_) => None,
+            Value::Double(_) | Value::Text(_) => None,
         }
     }
 }

@@ -2,9 +2,7 @@
 use Rattle.std.specs.Prelude.{[], if◌then◌else◌, Option, Some, None, unwrap_or}
 use Rattle.ioc_values.specs.declared.value.Value.{Value}
 use Rattle.ioc_values.specs.declared.value.Value.TheVariants as value
-use Rattle.ioc_values.specs.Conversion.{Texts, of_number}
 use Rattle.ioc_links.specs.declared.link.Link.{Link}
-use Rattle.ioc_links.specs.declared.link.Link.TheVariants.{Constant}
 use Rattle.ioc_fields.specs.declared.field_no.OwnField.{OwnField}
 use Rattle.ioc_fields.specs.declared.field_no.OwnField.TheVariants.{Val, Ivov}
 use Rattle.ioc_fields.specs.declared.record_type.RecordType.TheVariants as type
@@ -18,6 +16,7 @@ use Rattle.ioc_dbcommon.specs.Parts.{text_in}
 use Rattle.ioc_dbcommon.specs.Drive.{new_drive, drive_link, drive_with_link, drive_get, drive_stored, drive_begin, sets, drives, written}
 use Rattle.ioc_record.specs.BodyRules.{BodyRules, BodyState, dol_constant_kind}
 use Rattle.rec_text.specs.declared.stringout.Stringout.{Stringout}
+use Rattle.rec_text.specs.TextInput.{constant_text}
 
 -- ---- Fields
 
@@ -68,10 +67,9 @@ abbrev pub value_if : BodyState Stringout → Option Value → BodyState Stringo
 value_if h None = h
 value_if h (Some v) = value_set h v
 
--- The fields with a constant DOL put into VAL as its decimal text.
+-- The fields with a constant DOL put into VAL as its text.
 abbrev pub constant_put : BodyState Stringout → Link → BodyState Stringout
-constant_put h (Constant z) = value_if h (of_number Texts z)
-constant_put h _ = h
+constant_put h link = value_if h (constant_text link)
 
 unfoldable pub stringout_loaded : BodyState Stringout → BodyState Stringout
 stringout_loaded h = constant_put h h.body.drive.desired.link

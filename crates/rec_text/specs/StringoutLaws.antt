@@ -4,9 +4,7 @@ use Rattle.std.specs.Prelude.{is_some}
 use Rattle.ioc_values.specs.declared.value.Value.{Value}
 use Rattle.ioc_values.specs.declared.value.Value.TheVariants as value
 use Rattle.ioc_values.specs.Shapes.{IsValueOf}
-use Rattle.ioc_values.specs.Conversion.{Texts, of_number}
 use Rattle.ioc_links.specs.declared.link.Link.{Link}
-use Rattle.ioc_links.specs.declared.link.Link.TheVariants.{Constant}
 use Rattle.ioc_fields.specs.declared.field_no.FieldNo.TheVariants.{Own}
 use Rattle.ioc_fields.specs.declared.field_no.OwnField.{OwnField}
 use Rattle.ioc_fields.specs.declared.field_no.OwnField.TheVariants.{Val, Out, Dol, Omsl, Ivoa, Ivov}
@@ -27,6 +25,7 @@ use Rattle.ioc_dbcommon.specs.Drive.{new_drive, drive_link, drive_with_link, dri
 use Rattle.ioc_record.specs.BodyRules.{BodyState}
 use Rattle.ioc_record.specs.BodyLaws.{IsLawfulBody, IsNewBody}
 use Rattle.rec_text.specs.declared.stringout.Stringout.{Stringout}
+use Rattle.rec_text.specs.TextInput.{constant_text}
 use Rattle.rec_text.specs.Stringout.{stringout, new_stringout, stringout_get, stringout_stored, came, worked, settled, stringout_taken, stringout_output, value_if, constant_put, stringout_loaded}
 
 -- ---- Links
@@ -68,8 +67,7 @@ value_if-drive h None = refl
 value_if-drive h (Some v) = refl
 
 put-drive : (h : BodyState Stringout) (l : Link) → (constant_put h l).body.drive ≡ h.body.drive
-put-drive h (Constant z) = value_if-drive h (of_number Texts z)
-put-drive h _ = refl
+put-drive h l = value_if-drive h (constant_text l)
 
 loaded-drive : (h : BodyState Stringout) → (stringout_loaded h).body.drive ≡ h.body.drive
 unfolding stringout_loaded

@@ -6,7 +6,7 @@ use Rattle.ioc_values.specs.declared.value.Value.{Value}
 use Rattle.ioc_values.specs.declared.value.Value.TheVariants as value
 use Rattle.ioc_values.specs.Conversion.{Texts, of_number}
 use Rattle.ioc_links.specs.declared.link.Link.{Link}
-use Rattle.ioc_links.specs.declared.link.Link.TheVariants.{Constant}
+use Rattle.ioc_links.specs.declared.link.Link.TheVariants.{Constant, Real}
 use Rattle.ioc_fields.specs.declared.field_no.OwnField.{OwnField}
 use Rattle.ioc_fields.specs.declared.field_no.OwnField.TheVariants.{Val}
 use Rattle.ioc_dbcommon.specs.declared.body.Got.{Got}
@@ -41,10 +41,15 @@ abbrev pub stored_if : BodyState TextInput → Option Value → BodyState TextIn
 stored_if h None = h
 stored_if h (Some v) = text_input_stored h Val v
 
--- The fields with a constant INP put into VAL as its decimal text.
+-- The text of a constant link: a whole number in decimal, and a real one as it was written.
+abbrev pub constant_text : Link → Option Value
+constant_text (Constant z) = of_number Texts z
+constant_text (Real text) = Some (value.Text text)
+constant_text _ = None
+
+-- The fields with a constant INP put into VAL as its text.
 abbrev pub constant_put : BodyState TextInput → Link → BodyState TextInput
-constant_put h (Constant z) = stored_if h (of_number Texts z)
-constant_put h _ = h
+constant_put h link = stored_if h (constant_text link)
 
 -- ---- Laws: INP stays
 
@@ -62,5 +67,4 @@ stored_if-source h None = refl
 stored_if-source h (Some v) = stored-source h Val v
 
 pub put-source : (h : BodyState TextInput) (l : Link) → (constant_put h l).body.source ≡ h.body.source
-put-source h (Constant z) = stored_if-source h (of_number Texts z)
-put-source h _ = refl
+put-source h l = stored_if-source h (constant_text l)

@@ -4,13 +4,13 @@ ghost use Rattle.ioc_record.specs.BodyRules.{BodyState};
 ghost use Rattle.ioc_record.specs.BodyLaws.{IsNewBody};
 ghost use Rattle.rec_text.specs.Stringout.{stringout, new_stringout, worked};
 
+use crate::text_input::constant_text;
 use ioc_dbcommon::{
     Condition, Drive, Fresh, Got, InputKind, LinkBox, LinkUse, Need, Output, text_in,
 };
 use ioc_fields::{OwnField, RecordType};
-use ioc_links::Link;
 use ioc_record::RecordBody;
-use ioc_values::{Kind, Text, Value, of_number};
+use ioc_values::{Text, Value};
 use std::alloc::{AllocError, Global};
 
 /// The type-specific fields of a stringout. Record Reference Manual, "String Output Record".
@@ -135,12 +135,10 @@ impl RecordBody for Stringout {
         }
     }
 
-    #[tactic(auto, unfolding(crate::specs::Stringout::stringout_loaded, crate::specs::Stringout::stringout_stored, ioc_values::specs::Conversion::sort_of))]
+    #[tactic(auto, unfolding(crate::specs::Stringout::stringout_loaded, crate::specs::Stringout::stringout_stored))]
     fn load(&mut self, condition: &mut Condition) {
-        if let Link::Constant(constant) = self.drive.desired.get().link {
-            if let Some(value) = of_number(Kind::Text, constant) {
-                self.store(condition, OwnField::Val, value);
-            }
+        if let Some(value) = constant_text(&self.drive.desired.get().link) {
+            self.store(condition, OwnField::Val, value);
         }
     }
 

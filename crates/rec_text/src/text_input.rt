@@ -1,13 +1,25 @@
 //! The fields of the types that read a text.
 ghost use Rattle.std.specs.Prelude.{◌≡◌, IfOk};
 ghost use Rattle.ioc_record.specs.BodyRules.{BodyState};
-ghost use Rattle.rec_text.specs.TextInput.{new_text_input, text_input_get, text_input_stored, came, constant_put};
+ghost use Rattle.rec_text.specs.TextInput.{new_text_input, text_input_get, text_input_stored, came, constant_text, constant_put};
 
 use ioc_dbcommon::{Condition, Got, Source, text_in};
 use ioc_fields::OwnField;
 use ioc_links::Link;
 use ioc_values::{Kind, Text, Value, of_number};
 use std::alloc::{AllocError, Global};
+
+/// Returns the text of a constant link: a whole number in decimal, and a real one as it was written.
+#[tactic(auto, unfolding(ioc_values::specs::Conversion::sort_of))]
+pub fn constant_text(link: &Link) -> Option<Value>
+    ensures { result ≡ constant_text link.now }
+{
+    match link {
+        Link::Constant(number) => of_number(Kind::Text, *number),
+        Link::Real(text) => Some(Value::Text(*text)),
+        Link::Empty | Link::Device(_) | Link::Database(_, _) => None,
+    }
+}
 
 /// VAL, a text, and INP. Record Reference Manual, "String Input Record" and "Event Record".
 #[derive(Drop)]
@@ -62,16 +74,13 @@ impl TextInput {
         }
     }
 
-    /// Puts a constant INP into VAL as its decimal text.
-    #[tactic(auto, unfolding(ioc_values::specs::Conversion::sort_of))]
+    /// Puts a constant INP into VAL as its text.
     pub fn put_constant(&mut self, condition: &mut Condition)
         ensures { record { body = self.new; condition = condition.new }
             ≡ constant_put (record { body = self.old; condition = condition.old }) self.old.source.input.link }
     {
-        if let Link::Constant(constant) = self.source.input.get().link {
-            if let Some(value) = of_number(Kind::Text, constant) {
-                self.store(condition, OwnField::Val, value);
-            }
+        if let Some(value) = constant_text(&self.source.input.get().link) {
+            self.store(condition, OwnField::Val, value);
         }
     }
 

@@ -1,6 +1,7 @@
 //! A run of the program `ioc`.
-use ioc_app::{Outputs, Plant, RunFault, Ticks, counting_devices, ioc_run};
+use ioc_app::{Header, JournalFile, Outputs, Plant, RunFault, Ticks, counting_devices, ioc_run};
 use ioc_engine::{CountingClock, LoadError, Macros, load};
+use ioc_values::Short;
 use std::alloc::Global;
 use std::sync::Wait;
 use std::test::Fail;
@@ -49,7 +50,15 @@ fn run<R: Threads + Wait + Sync>(
     };
     let outputs = Outputs {
         lines,
-        journal: Some(journal),
+        journal: Some(JournalFile {
+            file: journal,
+            header: Header {
+                program: Short::cut(b"0.1.0"),
+                database: [0; 32],
+                is_sealed: true,
+                first: 0,
+            },
+        }),
     };
     match ioc_run(rt, alloc, plant, &mut Ticks(100), outputs) {
         Ok(()) => Ok(()),
@@ -74,7 +83,8 @@ fn hundred_ticks_by_four_workers(rt: HostRuntime) -> Result<(), Fail> {
     // A line for each record, and that of the counts. The level was read at each tick.
     assert_eq!(rt; lines_in(&lines), 7);
     assert!(rt; lines.starts_with(b"level 100 HIHI MAJOR 1970-01-01T00:00:00.00000"));
-    // The first entry is the request of the record with PINI.
-    assert!(rt; journal.starts_with(b"0\t0\t0\t1\tprocess\t5\tprocessed\t0\n"));
+    assert!(rt; journal.starts_with(b"journal\t1\t0.1.0\t00"));
+    // The header, an entry for each scan, the end, and its seal.
+    assert!(rt; lines_in(&journal) > 103);
     Ok(())
 }

@@ -7,7 +7,7 @@ use ioc_engine::{
     StoppedRecord, load,
 };
 use ioc_fields::{CommonField, FieldNo, OwnField};
-use ioc_journal_audit::{Audited, Auditor, audit};
+use ioc_journal_audit::{Audited, Auditor, LastLine, audit};
 use ioc_record::text_of;
 use std::alloc::Global;
 use std::sync::Wait;
@@ -200,6 +200,7 @@ pub fn again(alloc: Global, text: &[u8], lines: &Lines) -> Result<Option<Auditor
         alloc,
         &mut auditor,
         &mut journal,
+        &mut LastLine::new(alloc),
         u64::MAX,
         &mut None,
         &mut out,

@@ -201,6 +201,15 @@ static REFUSED: [Refused; 13] = [
             (1, b"record(bo,a){field(DOL,65536)}"),
             (1, b"record(bo,a){field(VAL,2)}"),
             (1, b"record(fanout,a){field(SELL,-1)}"),
+            (1, b"record(longin,l){field(INP,\"2.5\")}"),
+            (1, b"record(longin,l){field(SDIS,\"1.\")}"),
+            (1, b"record(longout,l){field(DOL,\"2.0\")}"),
+            (1, b"record(int64in,l){field(INP,\"1e2\")}"),
+            (1, b"record(int64out,l){field(DOL,\".5\")}"),
+            (1, b"record(bi,l){field(INP,\"1.\")}"),
+            (1, b"record(mbbi,l){field(INP,\"1.\")}"),
+            (1, b"record(mbbo,l){field(DOL,\"1.\")}"),
+            (1, b"record(fanout,l){field(SELL,\"1.\")}"),
             (2, b"record(longin,a){field(VAL,\nbad\n"),
         ],
     ),
@@ -209,6 +218,10 @@ static REFUSED: [Refused; 13] = [
         &[
             (1, b"record(longin,a){field(INP,\"b CPP\")}"),
             (1, b"record(longin,a){field(FLNK,\"@card\")}"),
+            (
+                1,
+                b"record(stringin,a){field(INP,\"0.12345678901234567890123456789012345678\")}",
+            ),
         ],
     ),
     (

@@ -1,7 +1,7 @@
 //! Scripts with link changes, puts with notification and `sets`.
 use crate::tests::programs::Program;
 
-pub static PROGRAMS: [Program; 10] = [
+pub static PROGRAMS: [Program; 15] = [
     (
         "a link that is cut parts two records",
         b"record(longin,\"a\"){field(INP,\"@d\") field(FLNK,\"b\")} record(longin,\"b\"){}",
@@ -41,7 +41,7 @@ pub static PROGRAMS: [Program; 10] = [
     (
         "refusals in their order",
         b"record(longin,\"a\"){}",
-        b"link z.INP a\nlink a.XYZ a\nlink a.VAL a\nput a.DISP 1\nlink a.VAL a\nlink a.INP a CP\nput a.DISP 0\nlink a.INP a CP\nlink a.INP 1.5\nlink a.FLNK @d\nget a.INP\n",
+        b"link z.INP a\nlink a.XYZ a\nlink a.VAL a\nput a.DISP 1\nlink a.VAL a\nlink a.INP a CP\nput a.DISP 0\nlink a.INP a CP\nlink a.INP 1.5.2\nlink a.FLNK @d\nget a.INP\n",
         b"E1 NoRecord\nE2 NoField\nE2 NoField\nok\nE2 NoField\nE4 PutDisabled\nok\nE6 BadLink\nE6 BadLink\nE6 BadLink\n= \n",
     ),
     (
@@ -61,5 +61,35 @@ pub static PROGRAMS: [Program; 10] = [
         b"record(longin,\"a\"){}",
         b"link\nlink \nlink a\nlink a INP\nlink a.INP\nlink a.INP \nlink a.INP   a  PP\nget a.INP\nlink .INP a\nlink a. a\n",
         b"bad\nbad\nbad\nbad\nok\nok\nok\n= a.VAL PP NMS\nE1 NoRecord\nE2 NoField\n",
+    ),
+    (
+        "a real constant stays as it was written, and puts nothing in a link change",
+        b"record(longin,\"a\"){field(VAL,7)}",
+        b"link a.INP 1.\nget a.INP\nlink a.INP -.5E-3\nget a.INP\nprocess a\nget a.VAL\nget a.STAT\nlink a.INP 1e\nget a.INP\nlink a.INP inf\nprocess a\nget a.STAT\n",
+        b"ok\n= 1.\nok\n= -.5E-3\nok processed\n= 7\n= NO_ALARM\nok\n= 1e.VAL NPP NMS\nok\nok processed\n= LINK\n",
+    ),
+    (
+        "a real constant goes into a text as it was written",
+        b"record(stringin,\"s\"){field(INP,\" 2.50 \")} record(stringout,\"o\"){field(DOL,\"+1e3\")} record(event,\"e\"){field(INP,\".5\")}",
+        b"get s.VAL\nget s.UDF\nget s.INP\nprocess s\nget s.VAL\nget o.VAL\nget o.UDF\nget e.VAL\n",
+        b"= 2.50\n= 0\n= 2.50\nok processed\n= 2.50\n= +1e3\n= 0\n= .5\n",
+    ),
+    (
+        "a real constant puts nothing in OUT, FLNK and the links of a fanout",
+        b"record(longout,\"o\"){field(OUT,\"1.5\") field(FLNK,\"2.5\")} record(fanout,\"f\"){field(LNK0,\"1e2\") field(LNKF,\"3.\")}",
+        b"put o.VAL 4\nget o.STAT\nget o.OUT\nget o.FLNK\nprocess f\nget f.STAT\nget f.LNK0\nget f.LNKF\n",
+        b"ok processed\n= NO_ALARM\n= 1.5\n= 2.5\nok processed\n= NO_ALARM\n= 1e2\n= 3.\n",
+    ),
+    (
+        "a real constant is no name, and longer ones are no link",
+        b"record(longin,\"1e5\"){field(VAL,3)} record(longin,\"a\"){}",
+        b"link a.INP 1e5\nprocess a\nget a.VAL\nlink a.INP 1e5 NPP\nprocess a\nget a.VAL\nlink a.INP 0.1234567890123456789012345678901234567\nlink a.INP 0.12345678901234567890123456789012345678\n",
+        b"ok\nok processed\n= 0\nok\nok processed\n= 3\nok\nE6 BadLink\n",
+    ),
+    (
+        "the text of a real constant is kept over a copy of its record",
+        b"record(stringin,\"s\"){field(INP,\"2.5\")} record(stringin,\"s\"){field(DESC,\"again\")}",
+        b"get s.INP\nget s.VAL\nsets\n",
+        b"= 2.5\n= 2.5\nsets {s}\n",
     ),
 ];

@@ -3,6 +3,11 @@ use ioc_links::{LinkKind, is_record_name, parse, print};
 
 const REFUSED: &[u8] = b"?";
 
+// Numbers of 39 and of 40 bytes.
+const LONGEST_REAL: &[u8] = b"0.1234567890123456789012345678901234567";
+
+const LONG_REAL: &[u8] = b"0.12345678901234567890123456789012345678";
+
 // Returns whether the link of the text is printed as expected. A text that isn't a link is refused.
 fn is_printed(text: &[u8], wanted: &[u8]) -> bool {
     match parse(LinkKind::WithDevice, text) {
@@ -16,14 +21,14 @@ fn is_spelled(text: &[u8], wanted: &[u8]) -> bool {
     is_printed(text, wanted) && (wanted == REFUSED || is_printed(wanted, wanted))
 }
 
-static LINKS: [(&[u8], &[u8]); 24] = [
+static LINKS: [(&[u8], &[u8]); 33] = [
     (b"a PP MSS NPP", b"a.VAL NPP MSS"),
     (b"a PP MSS MS MSI", b"a.VAL PP MSI"),
     (b"a MSS MS", b"a.VAL NPP MSS"),
     (b"a MSS NMS MS", b"a.VAL NPP NMS"),
     (b"-0x10", b"-16"),
     (b"123 PP", b"123.VAL PP NMS"),
-    (b"1.", b"?"),
+    (b"1.", b"1."),
     (b"@", b"?"),
     (b"a.val", b"?"),
     (b"{}", b"?"),
@@ -33,9 +38,18 @@ static LINKS: [(&[u8], &[u8]); 24] = [
     (b"0xFFFFFFFFFFFFFFFFFF", b"?"),
     (b" \t ", b""),
     (b"@ card 3 ", b"@card 3"),
-    (b"1e5", b"?"),
+    (b"1e5", b"1e5"),
     (b"1e5 MS", b"1e5.VAL NPP MS"),
-    (b".5", b"?"),
+    (b".5", b".5"),
+    (b" \t-.5E-3 ", b"-.5E-3"),
+    (b"+1.50", b"+1.50"),
+    (b"1e", b"1e.VAL NPP NMS"),
+    (b"1.5 MS", b"1.5 NPP MS"),
+    (b"nan", b"nan.VAL NPP NMS"),
+    (b"1.e5", b"1.e5"),
+    (b"1.5e+", b"?"),
+    (LONGEST_REAL, LONGEST_REAL),
+    (LONG_REAL, b"?"),
     (b"inf", b"inf.VAL NPP NMS"),
     (b"a.", b"?"),
     (b"\tq.LNKA\tMS MSI", b"q.LNKA NPP MSI"),

@@ -2,7 +2,8 @@
 use ioc_values::number::{is_number, number, signed};
 use ioc_values::trim::trim;
 use ioc_values::{
-    BadDbKind, DbFault, IocError, Kind, LoadError, Range, Short, Text, Value, convert, convert_text,
+    BadDbKind, DbFault, Double, IocError, Kind, LoadError, Range, Short, Text, Value, convert,
+    convert_text, double_of_text, exact_double_text,
 };
 use std::alloc::Global;
 use std::process::Abort;
@@ -25,6 +26,8 @@ enum Given {
     UChar(u8),
     Enum(u16),
     Int64(i64),
+    /// The double that the text spells.
+    Double(&'static str),
     Text(&'static str),
 }
 
@@ -37,6 +40,9 @@ fn value(given: Given) -> Value {
         Given::UChar(number) => Value::UChar(number),
         Given::Enum(number) => Value::Enum(number),
         Given::Int64(number) => Value::Int64(number),
+        Given::Double(spelled) => {
+            Value::Double(double_of_text(spelled.as_bytes()).unwrap_or(Double::from(0i32)))
+        }
         Given::Text(bytes) => text(bytes.as_bytes()),
     }
 }
@@ -53,6 +59,7 @@ fn made(wanted: Option<Given>) -> Result<Value, IocError> {
 #[derive(Clone, Copy)]
 enum Field {
     Number(Range),
+    Double,
     Text,
     Menu,
     State,
@@ -61,6 +68,7 @@ enum Field {
 fn kind(field: Field, states: &[Text]) -> Kind<'_> {
     match field {
         Field::Number(range) => Kind::Number(range),
+        Field::Double => Kind::Double,
         Field::Text => Kind::Text,
         Field::Menu => Kind::Menu(&STOP_GO),
         Field::State => Kind::State(states),
@@ -185,6 +193,139 @@ static TEXTS: [Converted; 9] = [
     (Given::Text("1"), Field::State, Some(Given::Enum(1))),
     (Given::Text("2"), Field::State, None),
 ];
+
+const LONG: Field = Field::Number(Range::Long);
+
+const INT64: Field = Field::Number(Range::Int64);
+
+const DIGITS: Field = Field::Number(Range::Digits);
+
+static DOUBLES: [Converted; 26] = [
+    (Given::Double("2.9"), LONG, Some(Given::Long(2))),
+    (Given::Double("-2.9"), LONG, Some(Given::Long(-2))),
+    (
+        Given::Double("2147483647.9"),
+        LONG,
+        Some(Given::Long(2147483647)),
+    ),
+    (Given::Double("3e9"), LONG, None),
+    (Given::Double("nan"), LONG, None),
+    (Given::Double("inf"), INT64, None),
+    (Given::Double("-inf"), INT64, None),
+    (Given::Double("9223372036854775807"), INT64, None),
+    (
+        Given::Double("-9223372036854775808"),
+        INT64,
+        Some(Given::Int64(-9223372036854775808)),
+    ),
+    (
+        Given::Double("-0.5"),
+        Field::Number(Range::ULong),
+        Some(Given::ULong(0)),
+    ),
+    (
+        Given::Double("65535.9"),
+        Field::Number(Range::UShort),
+        Some(Given::UShort(65535)),
+    ),
+    (Given::Double("65536"), Field::Number(Range::UShort), None),
+    (
+        Given::Double("-0.9"),
+        Field::Number(Range::Zero),
+        Some(Given::Short(0)),
+    ),
+    (Given::Double("15.9"), DIGITS, Some(Given::UShort(15))),
+    (Given::Double("16"), DIGITS, None),
+    (Given::Double("1.9"), Field::Menu, Some(Given::Enum(1))),
+    (Given::Double("-0.5"), Field::Menu, Some(Given::Enum(0))),
+    (Given::Double("2"), Field::Menu, None),
+    (Given::Double("nan"), Field::Menu, None),
+    (
+        Given::Double("65535.5"),
+        Field::State,
+        Some(Given::Enum(65535)),
+    ),
+    (Given::Double("-1"), Field::State, None),
+    (
+        Given::Double("2.25"),
+        Field::Text,
+        Some(Given::Text("2.250000")),
+    ),
+    (
+        Given::Double("-0.0001"),
+        Field::Text,
+        Some(Given::Text("-0.000100")),
+    ),
+    (
+        Given::Double("inf"),
+        Field::Text,
+        Some(Given::Text("          inf")),
+    ),
+    (Given::Double("nan"), Field::Text, Some(Given::Text("nan"))),
+    (
+        Given::Double("-0"),
+        Field::Double,
+        Some(Given::Double("-0")),
+    ),
+];
+
+static INTO_DOUBLES: [Converted; 17] = [
+    (
+        Given::Int64(9007199254740993),
+        Field::Double,
+        Some(Given::Double("9007199254740992")),
+    ),
+    (Given::Long(-7), Field::Double, Some(Given::Double("-7"))),
+    (
+        Given::ULong(4294967295),
+        Field::Double,
+        Some(Given::Double("4294967295")),
+    ),
+    (Given::Enum(3), Field::Double, Some(Given::Double("3"))),
+    (
+        Given::Text(" -2.5e1 "),
+        Field::Double,
+        Some(Given::Double("-25")),
+    ),
+    (
+        Given::Text("0x1F"),
+        Field::Double,
+        Some(Given::Double("31")),
+    ),
+    (
+        Given::Text("-Infinity"),
+        Field::Double,
+        Some(Given::Double("-inf")),
+    ),
+    (
+        Given::Text("+1e-400"),
+        Field::Double,
+        Some(Given::Double("0")),
+    ),
+    (Given::Text("5."), Field::Double, Some(Given::Double("5"))),
+    (Given::Text("1.5 mm"), Field::Double, None),
+    (Given::Text("1e400"), Field::Double, None),
+    (Given::Text("0x1.8"), Field::Double, None),
+    (Given::Text("1e"), Field::Double, None),
+    (Given::Text("."), Field::Double, None),
+    (Given::Text(""), Field::Double, None),
+    (Given::Long(15), DIGITS, Some(Given::UShort(15))),
+    (Given::Text("16"), DIGITS, None),
+];
+
+#[test]
+fn doubles(rt: HostRuntime) {
+    are_converted(&rt, &[Text::cut(b"off"), Text::new()], &DOUBLES);
+    are_converted(&rt, &[Text::cut(b"off"), Text::new()], &INTO_DOUBLES);
+    let zero = value(Given::Double("0"));
+    let held = [
+        value(Given::Double("-0")) != zero,
+        value(Given::Double("nan")) == value(Given::Double("-nan")),
+        value(Given::Double("7")).number().is_none(),
+        exact_double_text(Double::from(7i32)) == Text::cut(b"7.0"),
+    ];
+    assert!(rt; held == [true; 4]);
+}
 
 static UNNAMED: [Converted; 3] = [
     (Given::Text(""), Field::State, None),

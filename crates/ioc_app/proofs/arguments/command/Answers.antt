@@ -12,5 +12,7 @@ returns c =
     let four = more _ _ _ _ _ (c.in_ok-arg-4.ensures.shape c.workers_option.ensures.local) three c.workers_option.ensures.rule in
     let five = more _ _ _ _ _ (c.in_ok-arg-5.ensures.shape c.file_option.ensures.local) four c.file_option.ensures.rule in
     let six = more _ _ _ _ _ (c.in_ok-arg-6.ensures.shape c.flag-2.ensures.local) five c.flag-2.ensures.rule in
-    let seven = more _ _ _ _ _ (c.in_ok-arg-7.ensures.shape c.definitions_argument.ensures.local) six c.definitions_argument.ensures.rule in
-    IfOk-weaker c.arg-8.result _ _ (λ _ adds. more _ _ _ _ _ (adds.shape c.macros_option.ensures.local) seven c.macros_option.ensures.rule) c.arg-8.ensures
+    let seven = more _ _ _ _ _ (c.in_ok-arg-7.ensures.shape c.flag-3.ensures.local) six c.flag-3.ensures.rule in
+    let eight = more _ _ _ _ _ (c.in_ok-arg-8.ensures.shape c.flag-4.ensures.local) seven c.flag-4.ensures.rule in
+    let nine = more _ _ _ _ _ (c.in_ok-arg-9.ensures.shape c.definitions_argument.ensures.local) eight c.definitions_argument.ensures.rule in
+    IfOk-weaker c.arg-10.result _ _ (λ _ adds. more _ _ _ _ _ (adds.shape c.macros_option.ensures.local) nine c.macros_option.ensures.rule) c.arg-10.ensures

@@ -9,5 +9,7 @@ returns c = record {
   workers = c.in_ok-workers.ensures;
   journal = first_is c.args.matches.now (codes "journal") c.get_str-2.result c.get_str-2.ensures;
   overwrites = c.is_given.ensures;
+  seals = c.is_given-2.ensures;
+  syncs = c.is_given-3.ensures;
   macros = c.in_ok-macros.ensures.ok;
 }

@@ -25,9 +25,9 @@ returns-clause-seen g c =
       sound = subst (λ (s : HeldView g.row.K.Denot g.row.D.Denot). IsSoundlyHeld k base s) (c.deref.ensures ∙ sym is) c.is_sound.ensures;
       all = c.in_ok-numbers.ensures;
       legal = subst (λ (l : List Note). IsAccount k base l) seen learnt.account;
-      no_older = subst (λ (l : List Note). Begins c.args.desk.now.seen l) seen learnt.desk.begins;
+      no_older = subst (λ (l : List Note). Begins c.args.desk.now.account.seen l) seen learnt.desk.begins;
       known = subst (λ (l : List Note). Begins l c.learn.new.desk.seen) seen (no_more c.learn.new.desk).begins;
     }
 
 pub returns-in_err-held-clause-desk : goal.returns-in_err-held-clause-desk
-returns-in_err-held-clause-desk g c = no_more c.args.desk.now
+returns-in_err-held-clause-desk g c = no_more c.args.desk.now.account

@@ -9,8 +9,8 @@ use Rattle.ioc_engine_core.proofs.engine.EngineCore.parts.Given as goal
 -- seen more of the list.
 abbrev pub invariant-loop-number : goal.invariant-loop-number
 invariant-loop-number g l = record {
-  seen : All (λ v. IsPartSeen g.row.D.Denot g.K.RecordKind.rules g.B.JournalName.base l.fn.desk.seen l.desk.seen v.items) l.parts.items;
+  seen : All (λ v. IsPartSeen g.row.D.Denot g.K.RecordKind.rules g.B.JournalName.base l.fn.desk.account.seen l.desk.account.seen v.items) l.parts.items;
   marked : (q : ℕ) → IsMarked l.marks.items q → Any (λ v. Contains v.items q) l.parts.items;
   each : (q : ℕ) → q < l.number → Any (λ v. Contains v.items q) l.parts.items;
-  desk : HasSeenMore l.fn.desk l.desk;
+  desk : HasSeenMore l.fn.desk.account l.desk.account;
 }

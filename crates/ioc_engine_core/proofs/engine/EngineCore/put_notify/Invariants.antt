@@ -3,4 +3,4 @@ use Rattle.ioc_engine_core.proofs.engine.EngineCore.put_notify.Given as goal
 
 -- A refused call has left the desk as it was.
 abbrev pub invariant-loop : goal.invariant-loop
-invariant-loop g l = l.desk ≡ l.fn.desk
+invariant-loop g l = l.desk.account ≡ l.fn.desk.account

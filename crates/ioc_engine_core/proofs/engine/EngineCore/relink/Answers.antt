@@ -22,10 +22,10 @@ change_lent-changed-requires-clause-lent g c =
 pub returns-then-are_lent-clause-changed : goal.returns-then-are_lent-clause-changed
 returns-then-are_lent-clause-changed g c =
     let then = c.change_lent-changed.new in
-    let world = world_of then.buffers.store in
+    let world = world_of then.desk.buffers.store in
     let change = c.args.change in
-    subst (λ (x : LinkChange). IfOk c.change_lent-changed.result (λ r. (moment : ℕ) × g.C.Clock.gives c.args.clock.now moment × WasLinked g.row.D.Denot g.K.RecordKind.rules g.B.JournalName.base x.number x.field x.link c.args.desk.now moment r.reply r.moved then.desk world)) c.loop.invariant.1
-    (subst (λ (d : DeskView). IfOk c.change_lent-changed.result (λ r. (moment : ℕ) × g.C.Clock.gives c.args.clock.now moment × WasLinked g.row.D.Denot g.K.RecordKind.rules g.B.JournalName.base change.number change.field change.link d moment r.reply r.moved then.desk world)) c.loop.invariant.0
+    subst (λ (x : LinkChange). IfOk c.change_lent-changed.result (λ r. (moment : ℕ) × g.C.Clock.gives c.args.clock.now moment × WasLinked g.row.D.Denot g.K.RecordKind.rules g.B.JournalName.base x.number x.field x.link c.args.desk.now.account moment r.reply r.moved then.desk.account world)) c.loop.invariant.1
+    (subst (λ (d : DeskView). IfOk c.change_lent-changed.result (λ r. (moment : ℕ) × g.C.Clock.gives c.args.clock.now moment × WasLinked g.row.D.Denot g.K.RecordKind.rules g.B.JournalName.base change.number change.field change.link d moment r.reply r.moved then.desk.account world)) c.loop.invariant.0
     c.change_lent-changed.ensures.changed)
 
 pub returns-then-are_lent-clause-refused : goal.returns-then-are_lent-clause-refused

@@ -2,4 +2,4 @@ use Rattle.std.proofs.Common.{◌≡◌}
 use Rattle.ioc_engine_core.proofs.engine.EngineCore.relink.Given as goal
 
 abbrev pub invariant-loop : goal.invariant-loop
-invariant-loop g l = (l.desk ≡ l.fn.desk) × (l.change ≡ l.fn.change)
+invariant-loop g l = (l.desk.account ≡ l.fn.desk.account) × (l.change ≡ l.fn.change)

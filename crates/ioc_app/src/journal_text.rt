@@ -1,0 +1,134 @@
+//! The lines of a journal that aren't written yet.
+ghost use Rattle.std.specs.Prelude.{◌≡◌, ◌<◌, ◌+◌, ◌^◌, ◌++◌, length, IfOk, OnOk, OnErr};
+ghost use Rattle.ioc_journal_file.specs.Entries.{entry_lines};
+ghost use Rattle.ioc_journal_lines.specs.Lines.{header_line};
+
+use crate::fault::RunFault;
+use ioc_command_line::Reason;
+use ioc_engine::JournalEntry;
+use ioc_journal_file::add_entries;
+use ioc_journal_lines::{Header, Seals, add_end, add_header, add_seal};
+use std::alloc::{AllocError, Global};
+
+// How many entries have a seal behind them at the latest, and those that are written with them.
+const ENTRIES_OF_A_SEAL: u64 = 4_096;
+
+/// The lines of a journal that aren't written yet, and what follows them.
+#[derive(Drop)]
+pub struct JournalText {
+    lines: Vec<u8>,
+    // The place of the next entry.
+    place: u64,
+    // The hash of the lines before, if the journal has seals.
+    seals: Option<Seals>,
+    // The number of entries behind the last seal.
+    unsealed: u64,
+}
+
+impl JournalText {
+    /// Returns the lines of a journal that begins.
+    ///
+    /// # Errors
+    ///
+    /// [`AllocError`] if allocation fails.
+    pub fn begin(alloc: Global, header: &Header) -> Result<Self, AllocError>
+        ensures lines { IfOk result (λ text. text.lines.items ≡ header_line header.now) }
+        ensures place { IfOk result (λ text. text.place ≡ header.now.first) }
+    {
+        let mut lines = Vec::new(alloc);
+        add_header(&mut lines, header)?;
+        let seals = if header.is_sealed {
+            Some(Seals::new())
+        } else {
+            None
+        };
+        Ok(JournalText {
+            lines,
+            place: header.first,
+            seals,
+            unsealed: 0,
+        })
+    }
+
+    /// Returns the place of the next entry.
+    pub fn place(&self) -> u64
+        ensures { result ≡ self.now.place }
+    {
+        self.place
+    }
+
+    /// Returns the lines.
+    pub fn lines(&self) -> &[u8]
+        ensures { result.now ≡ self.now.lines.items }
+    {
+        &self.lines
+    }
+
+    /// Adds the lines of these entries, the first of which has this place, or none of them.
+    ///
+    /// # Errors
+    ///
+    /// [`RunFault::Journal`] if entries are missing before them. [`RunFault::Memory`] if allocation
+    /// fails.
+    pub fn add(&mut self, first: u64, entries: &[JournalEntry]) -> Result<(), RunFault>
+        ensures first { OnOk result (first ≡ self.old.place) }
+        ensures lines { first + length entries.now < 2 ^ 64
+            → OnOk result (self.new.lines.items ≡ self.old.lines.items ++ entry_lines self.old.place entries.now) }
+        ensures place { first + length entries.now < 2 ^ 64 → OnOk result (self.new.place ≡ self.old.place + length entries.now) }
+        ensures same { OnErr result (self.new.place ≡ self.old.place) }
+    {
+        if first != self.place {
+            return Err(RunFault::Journal(Reason::Gap));
+        }
+        let before = self.lines.len();
+        let place = match add_entries(&mut self.lines, first, entries) {
+            Ok(place) => place,
+            Err(error) => {
+                self.lines.truncate(before);
+                return Err(RunFault::from(error));
+            }
+        };
+        self.place = place;
+        self.unsealed = self.unsealed.saturating_add(entries.len() as u64);
+        Ok(())
+    }
+
+    /// Adds the line of the end.
+    ///
+    /// # Errors
+    ///
+    /// [`AllocError`] if allocation fails.
+    pub fn end(&mut self) -> Result<(), AllocError> {
+        add_end(&mut self.lines, self.place)
+    }
+
+    /// Adds a seal behind the lines, if the journal has seals, and it is the last one or there are many
+    /// entries behind the one before.
+    ///
+    /// # Errors
+    ///
+    /// [`AllocError`] if allocation fails.
+    pub fn seal(&mut self, is_last: bool) -> Result<(), AllocError> {
+        let Some(seals) = &mut self.seals else {
+            return Ok(());
+        };
+        seals.cover(&self.lines);
+        if self.unsealed < ENTRIES_OF_A_SEAL && !is_last {
+            return Ok(());
+        }
+        let before = self.lines.len();
+        add_seal(&mut self.lines, &seals.hash()?)?;
+        if let Some(line) = self.lines.get(before..) {
+            seals.cover(line);
+        }
+        self.unsealed = 0;
+        Ok(())
+    }
+
+    /// Forgets the lines, which are written, or can't be.
+    pub fn clear(&mut self)
+        ensures { self.new.place ≡ self.old.place }
+    {
+        self.lines.clear();
+    }
+}

@@ -1,0 +1,16 @@
+//! The lines of a journal's file that are no entries: the header, with which it begins, its seals, and its
+//! end. docs/JOURNAL.md describes them.
+#![tactic(auto)]
+
+mod digest;
+mod ending;
+mod header;
+mod seal;
+mod words;
+
+pub use ending::{add_end, end_of};
+pub use header::{Header, add_header, header_of};
+pub use seal::{Seals, add_seal, database_hash, seal_of};
+
+#[cfg(test)]
+mod tests;
