@@ -2,8 +2,8 @@
 """A stand-in for `ioc DB --console`, which runs bin/ioc behind it: puts with notification to records `late*` end only when that is asked for.
 
 `put late:release N` ends N of them, the oldest first; `late:live` and `late:cancelled` show how many are live and were cancelled,
-`late:gets` how many fields were read, and `late:checkpoints` how many checkpoints were made. The record `torn` is processed again and again
-while its fields are read, and `off` is disabled and enabled.
+`late:reads` how many lines have read fields, and `late:checkpoints` how many checkpoints were made. The record `torn` is processed again and again
+between readings, and `off` is disabled and enabled.
 """
 import pathlib
 import random
@@ -21,7 +21,7 @@ class Stand:
     def __init__(self, words: List[str]) -> None:
         self.ioc = subprocess.Popen([IOC, *words], stdin=subprocess.PIPE, stdout=subprocess.PIPE, stderr=subprocess.DEVNULL)
         self.live: List[int] = []
-        self.number = self.cancelled = self.gets = self.checkpoints = 0
+        self.number = self.cancelled = self.reads = self.checkpoints = 0
         self.is_high, self.chance = False, random.Random(7)
 
     def ask(self, line: bytes) -> List[bytes]:
@@ -30,7 +30,7 @@ class Stand:
         self.ioc.stdin.write(line + b"\n")
         self.ioc.stdin.flush()
         replies = [self.ioc.stdout.readline().rstrip(b"\n")]
-        while line.startswith(b"db") and not replies[-1].startswith((b"ok ", b"E", b"bad")):
+        while replies[-1].startswith(b"- "):
             replies.append(self.ioc.stdout.readline().rstrip(b"\n"))
         return replies
 
@@ -38,19 +38,36 @@ class Stand:
         if len(self.live) >= MOST_LIVE:
             return [b"E9 QueueFull"]
         self.number += 1
-        reply = b"ok notify %d" % self.number
         if words.startswith(b"late"):
             self.live.append(self.number)
+            return [b"ok notify %d place 0" % self.number]
+        reply = self.ask(b"put# " + words)[0]
+        if not reply.startswith(b"ok"):
             return [reply]
-        refused = self.ask(b"put " + words)[0]
-        return [reply, b"ended %d" % self.number] if refused.startswith(b"ok") else [refused]
+        place = reply.rpartition(b" ")[2]
+        return [b"ok notify %d place %b" % (self.number, place), b"ended %d" % self.number]
+
+    def read(self, words: bytes) -> List[bytes]:
+        """The reply to a reading: records that show counts take them first."""
+        self.reads += 1
+        name = words.partition(b" ")[0]
+        counts = {b"late:live": len(self.live), b"late:cancelled": self.cancelled, b"late:reads": self.reads, b"late:checkpoints": self.checkpoints}
+        if name in counts:
+            self.ask(b"put %b.VAL %d" % (name, counts[name]))
+        if name in (b"torn", b"off") and self.chance.random() < 1 / 6:
+            self.is_high = not self.is_high
+            self.ask(b"put torn.VAL %d" % (500 if self.is_high else 5))
+            self.ask(b"put off.DISA %d" % self.is_high)
+            self.ask(b"process off")
+        return self.ask(b"read " + words)
 
     def answer(self, line: bytes) -> List[bytes]:
         """The replies to a line."""
         verb, _, words = line.partition(b" ")
-        self.gets += verb == b"get"
         self.checkpoints += verb == b"checkpoint"
-        if verb == b"notify":
+        if verb == b"read":
+            return self.read(words)
+        if verb == b"notify#":
             return self.notify(words)
         if verb == b"cancel":
             if int(words) not in self.live:
@@ -58,23 +75,10 @@ class Stand:
             self.live.remove(int(words))
             self.cancelled += 1
             return [b"ok"]
-        if verb == b"put" and words.startswith(b"late:release.VAL "):
+        if verb == b"put#" and words.startswith(b"late:release.VAL "):
             count = int(words.split(b" ")[1])
             ended, self.live = self.live[:count], self.live[count:]
-            return [b"ok processed", *(b"ended %d" % number for number in ended)]
-        if line.startswith((b"get torn.", b"get off.")) and self.chance.random() < 1 / 30:
-            self.is_high = not self.is_high
-            self.ask(b"put torn.VAL %d" % (500 if self.is_high else 5))
-            self.ask(b"put off.DISA %d" % self.is_high)
-            self.ask(b"process off")
-        if line == b"get late:live.VAL":
-            return [b"= %d" % len(self.live)]
-        if line == b"get late:cancelled.VAL":
-            return [b"= %d" % self.cancelled]
-        if line == b"get late:gets.VAL":
-            return [b"= %d" % self.gets]
-        if line == b"get late:checkpoints.VAL":
-            return [b"= %d" % self.checkpoints]
+            return [b"ok processed place 0", *(b"ended %d" % number for number in ended)]
         return self.ask(line)
 
     def run(self) -> int:

@@ -14,7 +14,7 @@ from .support import DATABASE, Front, until
 FIELD = Field("VAL", Kind.LONG, True)
 RECORD = Record(b"rec", "longout", {"VAL": FIELD})
 LATE_IOC = str(pathlib.Path(__file__).with_name("late_ioc.py"))
-LATE = DATABASE + "".join(f'record(longout, "late:{name}") {{}}\n' for name in ("release", "live", "cancelled", "gets", "checkpoints", "a", "b"))
+LATE = DATABASE + "".join(f'record(longout, "late:{name}") {{}}\n' for name in ("release", "live", "cancelled", "reads", "checkpoints", "a", "b"))
 LATE += """record(longout, "torn") { field(HIGH, 100) field(HSV, MAJOR) }
 record(longout, "off") { field(VAL, 5) field(DISS, MAJOR) }
 """
@@ -156,15 +156,15 @@ class LateFront(unittest.TestCase):
         number, _, _ = client.channel("torn")
         client.send(pack(Command.EVENT_ADD, struct.pack(">12xH2x", 1), Base.LONG, 1, number, 1))
         client.reply(Command.EVENT_ADD)
-        counts = [int(other.read("late:gets")[0])]
+        counts = [int(other.read("late:reads")[0])]
         for _ in range(2):
-            time.sleep(0.5)
-            counts.append(int(other.read("late:gets")[0]))
+            time.sleep(0.8)
+            counts.append(int(other.read("late:reads")[0]))
             client.connection.close()
-        time.sleep(0.5)
-        counts.append(int(other.read("late:gets")[0]))
-        self.assertGreater(counts[1] - counts[0], 20)
-        self.assertLess(counts[3] - counts[2], 20)
+        time.sleep(0.8)
+        counts.append(int(other.read("late:reads")[0]))
+        self.assertGreater(counts[1] - counts[0], 4)
+        self.assertLess(counts[3] - counts[2], 4)
 
     def test_the_end_of_a_circuit_cancels(self) -> None:
         client = self.client()
