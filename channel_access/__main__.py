@@ -22,7 +22,7 @@ def _arguments() -> argparse.ArgumentParser:
     add("--allow-write", metavar="PATTERN", action="append", default=[], help="records, or REC.F, that may be written")
     add("--allow-links", action="store_true", help="their link fields may be written too")
     add("--journal", metavar="FILE", help="the journal is written to this file")
-    add("--drivers", metavar="FILE.py", help="drivers of devices; needs an `ioc` with --live")
+    add("--drivers", metavar="FILE.py", help="drivers of the devices of `@` links, which count without it")
     add("--port", metavar="N", type=int, default=5064, help="of TCP and UDP (5064)")
     add("--interface", metavar="ADDR", default="127.0.0.1", help="the address that is served (127.0.0.1)")
     add("--beacon", metavar="ADDR", action="append", default=[], help="where beacons go (127.0.0.1)")

@@ -46,12 +46,15 @@ class Client:
             self._input += data
 
     def reply(self, *commands: int) -> Message:
-        """Returns the next reply to one of these commands. Refused if a request is refused in place of it."""
+        """Returns the next reply to one of these commands. Refused if a request is refused in place of it, or if none comes in time."""
+        end = time.monotonic() + 6 * PATIENCE  # however many others come
         for message in self.replies():
             if message.command in commands:
                 return message
             if message.command == Command.CREATE_FAILED:
                 raise Refused("no such channel")
+            if time.monotonic() > end:
+                break
         raise Refused("no reply")
 
     def channel(self, name: str) -> Tuple[int, int, int]:

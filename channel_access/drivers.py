@@ -1,14 +1,15 @@
 """Drivers: what a device link `@NAME WORDS` asks, a driver NAME answers, over TCP. docs/DRIVERS.md has an example.
 
 A driver has two coroutines: `read(words)` returns a value, and `write(words, value)` returns when it is written. Whatever they raise is a
-fault of the device: the record has the alarm READ or WRITE, INVALID.
+fault of the device, and so is more than 60 seconds, or the driver's `patience`: the record has the alarm READ or WRITE, INVALID. A driver may
+have a third one, `run(interrupt)`, which runs beside them: `interrupt(word)` processes records with SCAN `I/O Intr`.
 """
 import asyncio
 import importlib.util
 import re
 import struct
 import sys
-from typing import Any, Awaitable, Callable, Dict, Mapping, Optional, Protocol, Set, Tuple, TypeVar, Union
+from typing import Any, Awaitable, Callable, Coroutine, Dict, Mapping, Optional, Protocol, Set, Tuple, TypeVar, Union
 
 from .interface import Ask, DeviceAnswers
 
@@ -179,11 +180,11 @@ class Modbus:
 def load_drivers(path: str) -> Mapping[str, Driver]:
     """Returns `DRIVERS` of a Python file: drivers by the first words of device links."""
     spec = importlib.util.spec_from_file_location("site_drivers", path)
-    assert spec is not None and spec.loader is not None
+    assert spec is not None and spec.loader is not None, "its name doesn't end with .py"
     module: Any = importlib.util.module_from_spec(spec)
+    sys.modules[spec.name] = module
     spec.loader.exec_module(module)
-    drivers: Mapping[str, Driver] = module.DRIVERS
-    return drivers
+    return dict(module.DRIVERS)
 
 
 class Desk:
@@ -192,28 +193,50 @@ class Desk:
     def __init__(self, drivers: Mapping[str, Driver], answers: DeviceAnswers) -> None:
         self._drivers, self._answers = drivers, answers
         self._tasks: "Set[asyncio.Task[None]]" = set()
+        self._told: Dict[Union[bytes, str], str] = {}  # the last fault of each record or driver
+
+    def start(self) -> None:
+        """Begins what drivers do beside their asks."""
+        for name, driver in self._drivers.items():
+            if hasattr(driver, "run"):
+                self._begin(self._run(name, getattr(driver, "run")))
 
     def ask(self, ask: Ask) -> None:
         """Begins an ask: its answer, or a fault, follows."""
-        task = asyncio.get_running_loop().create_task(self._serve(ask))
+        self._begin(self._serve(ask))
+
+    def _begin(self, work: Coroutine[Any, Any, None]) -> None:
+        task = asyncio.get_running_loop().create_task(work)
         self._tasks.add(task)
         task.add_done_callback(self._tasks.discard)
 
+    def _tell(self, whose: Union[bytes, str], what: str, fault: Exception) -> None:
+        """Writes a fault on standard error, unless it is the one that was written before."""
+        if self._told.get(whose) != repr(fault):
+            print(f"{what}: {fault!r}", file=sys.stderr)
+        self._told[whose] = repr(fault)
+
+    async def _run(self, name: str, run: Callable[[Callable[[str], None]], Awaitable[None]]) -> None:
+        """Runs a driver beside its asks, and a second after a fault again."""
+        while True:
+            try:
+                return await run(self._answers.interrupt)
+            except Exception as fault:
+                self._tell(name, f"driver {name}", fault)
+            await asyncio.sleep(1.0)
+
     async def _serve(self, ask: Ask) -> None:
         name, _, words = ask.text.partition(" ")
-        value: Value = ""
+        driver: Any = self._drivers.get(name)
         try:
-            if ask.value is None:
-                value = await self._drivers[name].read(words)
-            else:
-                await self._drivers[name].write(words, ask.value)
+            if driver is None:
+                raise DeviceFault(f"there is no driver {name}")
+            work = driver.read(words) if ask.value is None else driver.write(words, ask.value)
+            answer = await asyncio.wait_for(work, getattr(driver, "patience", 60.0))
+            value: Value = answer if ask.value is None else ""  # a float without a fraction has no point, to fit a whole number
+            text = f"{value:.17g}" if isinstance(value, float) else value if isinstance(value, str) else str(int(value))
+            self._answers.done(ask.record, ask.number, text)
+            self._told.pop(ask.record, None)
         except Exception as fault:  # whatever a driver raises is a fault of its device
-            print(f"{ask.record.decode('latin-1')}: @{ask.text}: {fault!r}", file=sys.stderr)
+            self._tell(name if driver is None else ask.record, f"{ask.record.decode('latin-1')}: @{ask.text}", fault)
             self._answers.fault(ask.record, ask.number)
-        else:
-            self._answers.done(ask.record, ask.number, str(value))
-
-    def close(self) -> None:
-        """Ends what is under way, without answers."""
-        for task in self._tasks:
-            task.cancel()

@@ -151,3 +151,6 @@ class DeviceAnswers(Protocol):
 
     def fault(self, record: bytes, number: int) -> None:
         """The device has failed."""
+
+    def interrupt(self, word: str) -> None:
+        """Processes the records with SCAN `I/O Intr` whose device links have this first word. ValueError if it is no word."""

@@ -1,6 +1,6 @@
-"""`ioc DB --console` as a child: lines go out, and replies come back in the same order.
+"""`ioc DB --live` as a child: lines go out, and replies come back in the same order.
 
-`read` shows fields of one moment. Watched fields are read ten times a second, after the tick.
+`read` shows fields of one moment. Watched fields are read ten times a second. What devices are asked comes at any time, for the drivers.
 """
 import asyncio
 import re
@@ -8,9 +8,10 @@ import sys
 from collections import deque
 from typing import Callable, Deque, Dict, Iterator, List, Mapping, NamedTuple, Optional, Sequence, Tuple
 
+from ..drivers import Desk, Driver
 from ..interface import (
-    ALARM, LOG, PROPERTIES, PROPERTY, VALUE, Done, Extent, Field, Given, GotReading, Ioc, Kind, PutCallback, Reading, Record, Told, Watch,
-    is_record_name,
+    ALARM, LOG, PROPERTIES, PROPERTY, VALUE, Ask, DeviceAnswers, Done, Extent, Field, Given, GotReading, Ioc, Kind, PutCallback, Reading,
+    Record, Told, Watch, is_record_name,
 )  # fmt: skip
 from .survey import ChildError
 from .texts import escaped, unescaped
@@ -27,6 +28,8 @@ _DEADBANDS = ("MDEL", "ADEL")
 _TOLD = re.compile(rb"line \d+: (E\d+ \w+|bad)\Z")
 # What stands behind the reply to a put: its place in the journal.
 _PLACED = re.compile(r"(.*) place (\d+)\Z")
+# What comes unasked: the end of a put with notification; or what a device is asked, with the text of its link and perhaps a value.
+_UNASKED = re.compile(rb"ended (\d+)\Z|\? (\S+) (\d+) (?:read|write) ([^\t]*)(?:\t(.*))?\Z")
 
 Replied = Callable[[List[bytes]], None]
 GotReadings = Callable[[Optional[List[Reading]]], None]
@@ -106,21 +109,20 @@ def _names(field: Field) -> Tuple[str, ...]:
     return (name, name + "#") if field.kind in (Kind.STATES, Kind.MENU) else (name,)
 
 
-class Console(Ioc, asyncio.SubprocessProtocol):
-    """A running `ioc DB --console`. `ended` has its exit status when it and all that it printed have ended."""
+class Console(Ioc, DeviceAnswers, asyncio.SubprocessProtocol):
+    """A running `ioc DB --live`. `ended` has its exit status when it and all that it printed have ended."""
 
     most_live_puts = 256
 
-    def __init__(self, words: Sequence[str], records: Dict[bytes, Record], workers: str, journal: Optional[str]) -> None:
-        self._words = [*words, "--console", "--workers", workers, *(("--journal", journal) if journal else ())]
-        self.records, self._has_journal, self.last_line = records, bool(journal), b""
+    def __init__(self, words: Sequence[str], records: Dict[bytes, Record], drivers: Mapping[str, Driver]) -> None:
+        self._words, self.records, self._desk, self.last_line = words, records, Desk(drivers, self), b""
         # What was asked, by its number of lines, and what was replied to the first of it so far.
         self._calls: Deque[Tuple[int, Replied]] = deque()
         self._got: List[bytes] = []
         self._out: List[bytes] = []
         self._rest: Dict[int, bytes] = {1: b"", 2: b""}
         self._names: Dict[bytes, Optional[Record]] = {}
-        self._lookups = self._ticks = self._polls = 0
+        self._lookups = self._rounds = self._polls = 0
         self._known: Dict[bytes, _Known] = {}
         self._batches: Dict[Tuple[str, Tuple[Field, ...], bool], _Batch] = {}
         self._live: Dict[int, Callable[[], None]] = {}
@@ -130,17 +132,18 @@ class Console(Ioc, asyncio.SubprocessProtocol):
     # The process.
 
     async def start(self) -> None:
-        """Starts the program, in a session of its own so that Ctrl-C reaches the front alone, and its clock."""
+        """Starts the program, in a session of its own so that Ctrl-C reaches the front alone, and the drivers."""
         self._loop = asyncio.get_running_loop()
         self.ended: "asyncio.Future[int]" = self._loop.create_future()
         await self._loop.subprocess_exec(lambda: self, *self._words, start_new_session=True)
+        self._desk.start()
 
     def connection_made(self, transport: asyncio.BaseTransport) -> None:
         assert isinstance(transport, asyncio.SubprocessTransport)
         stdin = transport.get_pipe_transport(0)
         assert isinstance(stdin, asyncio.WriteTransport)
-        self._process, self._stdin, self._begun = transport, stdin, self._loop.time()
-        self._clock = self._loop.call_later(_PERIOD, self._tick)
+        self._process, self._stdin = transport, stdin
+        self._poll_all()
 
     def close(self) -> None:
         """Ends the program's input: it answers what was asked, prints its last lines and ends. Nothing more is asked."""
@@ -150,13 +153,15 @@ class Console(Ioc, asyncio.SubprocessProtocol):
     def pipe_data_received(self, fd: int, data: bytes) -> None:
         *lines, self._rest[fd] = (self._rest[fd] + data).split(b"\n")
         for line in lines:
+            unasked = _UNASKED.match(line)
             if fd == 2:
                 if not _TOLD.match(line):
                     print("ioc:", line.decode("utf-8", "replace"), file=sys.stderr)
-            elif line.startswith(b"ended "):
-                done = self._live.pop(int(line[6:]), None)
-                if done is not None:
-                    done()
+            elif unasked and unasked[1]:
+                self._live.pop(int(unasked[1]), lambda: None)()
+            elif unasked:
+                text, value = (None if part is None else unescaped(part).decode("latin-1") for part in unasked.group(4, 5))
+                self._desk.ask(Ask(unasked[2], int(unasked[3]), text or "", value))
             elif self._calls:
                 self._got.append(line)
                 if len(self._got) == self._calls[0][0]:
@@ -199,16 +204,6 @@ class Console(Ioc, asyncio.SubprocessProtocol):
     def _flush(self) -> None:
         self._stdin.write(b"".join(self._out))
         self._out.clear()
-
-    def _tick(self) -> None:
-        self._ticks += 1
-        self._clock = self._loop.call_at(max(self._begun + (self._ticks + 1) * _PERIOD, self._loop.time()), self._tick)
-        self._ask(b"tick\n", 1, lambda got: None)
-        if self._ticks % 10 == 0 and not self._has_journal:
-            self._ask(b"checkpoint\n", 1, lambda got: None)  # each request of a tick is an entry of the journal
-        if self._polls == 0:
-            for watches in self._watched.values():
-                self._poll(watches[0].record, self._ticks % 10 == 0)
 
     # Records and readings.
 
@@ -278,7 +273,7 @@ class Console(Ioc, asyncio.SubprocessProtocol):
         wants_all = extent is Extent.PROPERTIES
         self._read_moment(record, (field,), wants_all, lambda readings: done(readings[0] if readings else None))
 
-    # Puts.
+    # Puts, and answers of devices.
 
     def _put(self, verb: bytes, record: Record, field: Field, given: Given, replied: Callable[[str, Optional[int]], None]) -> None:
         """Sends a put; `replied` is told the reply and its place in the journal, or why the value can't stand in a line."""
@@ -328,6 +323,18 @@ class Console(Ioc, asyncio.SubprocessProtocol):
             self._live.pop(begun.number, None)
             self._ask(b"cancel %d\n" % begun.number, 1, lambda got: freed())
 
+    def done(self, record: bytes, number: int, value: str) -> None:
+        text = escaped(value.encode("latin-1")[: _MOST_TEXT // 4])
+        self._ask(b"done %b %d %b\n" % (record, number, text), 1, lambda got: None)  # or E8: the record waits no more
+
+    def fault(self, record: bytes, number: int) -> None:
+        self._ask(b"fault %b %d\n" % (record, number), 1, lambda got: None)
+
+    def interrupt(self, word: str) -> None:
+        if not re.fullmatch("[!-~]{1,100}", word):
+            raise ValueError(f"{word!r} is no word")
+        self._ask(b"io %b\n" % word.encode(), 1, lambda got: None)
+
     # Watches.
 
     def watch(self, record: Record, field: Field, told: Told) -> Watch:
@@ -349,6 +356,14 @@ class Console(Ioc, asyncio.SubprocessProtocol):
         watches.remove(watch)
         if not watches:
             del self._watched[watch.record.name]
+
+    def _poll_all(self) -> None:
+        """Reads what is watched, each tenth of a second, unless readings of the time before are under way."""
+        self._rounds += 1
+        self._clock = self._loop.call_later(_PERIOD, self._poll_all)
+        if self._polls == 0:
+            for watches in self._watched.values():
+                self._poll(watches[0].record, self._rounds % 10 == 0)
 
     def _poll(self, record: Record, with_properties: bool) -> None:
         """Reads the watched fields of a record, and tells what has changed."""

@@ -15,14 +15,6 @@ class ChildError(Exception):
         self.status = status
 
 
-def lack_of_live(ioc: str) -> str:
-    """Returns why devices outside can't be served, for the user."""
-    usage = subprocess.run([ioc, "--help"], capture_output=True, timeout=10).stdout
-    if b"--live" in usage:
-        return "this `ioc` has --live, which the front doesn't speak yet"
-    return "it needs an `ioc` with --live, and `ioc --help` doesn't list it"
-
-
 class _Asking:
     """A console that is asked one line after another."""
 

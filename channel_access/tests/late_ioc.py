@@ -1,18 +1,21 @@
 #!/usr/bin/env python3
-"""A stand-in for `ioc DB --console`, which runs bin/ioc behind it: puts with notification to records `late*` end only when that is asked for.
+"""A stand-in for `ioc DB --live`, which runs bin/ioc behind it: puts with notification to records `late*` end only when that is asked for.
 
-`put late:release N` ends N of them, the oldest first; `late:live` and `late:cancelled` show how many are live and were cancelled,
-`late:reads` how many lines have read fields, and `late:checkpoints` how many checkpoints were made. The record `torn` is processed again and again
-between readings, and `off` is disabled and enabled.
+`put late:release N` ends N of them, the oldest first; `late:live` and `late:cancelled` show how many are live and were cancelled, and
+`late:reads` how many lines have read fields. The record `torn` is processed again and again between readings, and `off` is disabled and enabled.
+A reply of bin/ioc that doesn't come ends the stand-in by SIGALRM, so the front ends too, and its test fails.
 """
 import pathlib
 import random
+import signal
 import subprocess
 import sys
 from typing import List
 
 IOC = pathlib.Path(__file__).resolve().parent.parent.parent / "bin" / "ioc"
 MOST_LIVE = 256
+# How long a reply of bin/ioc may take.
+SECONDS = 5
 
 
 class Stand:
@@ -21,7 +24,7 @@ class Stand:
     def __init__(self, words: List[str]) -> None:
         self.ioc = subprocess.Popen([IOC, *words], stdin=subprocess.PIPE, stdout=subprocess.PIPE, stderr=subprocess.DEVNULL)
         self.live: List[int] = []
-        self.number = self.cancelled = self.reads = self.checkpoints = 0
+        self.number = self.cancelled = self.reads = 0
         self.is_high, self.chance = False, random.Random(7)
 
     def ask(self, line: bytes) -> List[bytes]:
@@ -29,9 +32,11 @@ class Stand:
         assert self.ioc.stdin is not None and self.ioc.stdout is not None
         self.ioc.stdin.write(line + b"\n")
         self.ioc.stdin.flush()
+        signal.alarm(SECONDS)
         replies = [self.ioc.stdout.readline().rstrip(b"\n")]
-        while replies[-1].startswith(b"- "):
+        while replies[-1].startswith((b"- ", b"? ")):  # a device may be asked at any time
             replies.append(self.ioc.stdout.readline().rstrip(b"\n"))
+        signal.alarm(0)
         return replies
 
     def notify(self, words: bytes) -> List[bytes]:
@@ -41,17 +46,17 @@ class Stand:
         if words.startswith(b"late"):
             self.live.append(self.number)
             return [b"ok notify %d place 0" % self.number]
-        reply = self.ask(b"put# " + words)[0]
+        *asked, reply = self.ask(b"put# " + words)
         if not reply.startswith(b"ok"):
-            return [reply]
+            return [*asked, reply]
         place = reply.rpartition(b" ")[2]
-        return [b"ok notify %d place %b" % (self.number, place), b"ended %d" % self.number]
+        return [*asked, b"ok notify %d place %b" % (self.number, place), b"ended %d" % self.number]
 
     def read(self, words: bytes) -> List[bytes]:
         """The reply to a reading: records that show counts take them first."""
         self.reads += 1
         name = words.partition(b" ")[0]
-        counts = {b"late:live": len(self.live), b"late:cancelled": self.cancelled, b"late:reads": self.reads, b"late:checkpoints": self.checkpoints}
+        counts = {b"late:live": len(self.live), b"late:cancelled": self.cancelled, b"late:reads": self.reads}
         if name in counts:
             self.ask(b"put %b.VAL %d" % (name, counts[name]))
         if name in (b"torn", b"off") and self.chance.random() < 1 / 6:
@@ -64,7 +69,6 @@ class Stand:
     def answer(self, line: bytes) -> List[bytes]:
         """The replies to a line."""
         verb, _, words = line.partition(b" ")
-        self.checkpoints += verb == b"checkpoint"
         if verb == b"read":
             return self.read(words)
         if verb == b"notify#":
@@ -88,6 +92,7 @@ class Stand:
             sys.stdout.buffer.flush()
         assert self.ioc.stdin is not None and self.ioc.stdout is not None
         self.ioc.stdin.close()
+        signal.alarm(SECONDS)
         sys.stdout.buffer.write(self.ioc.stdout.read())
         return self.ioc.wait()
 

@@ -7,6 +7,7 @@ import socket
 import subprocess
 import sys
 import tempfile
+import threading
 import time
 import unittest
 from typing import Callable, List, Optional, Sequence, Tuple
@@ -16,6 +17,8 @@ from ..client import Client, Refused
 TOP = pathlib.Path(__file__).resolve().parent.parent.parent
 BIN = TOP / "bin"
 PATIENCE = 10.0
+# How long a front may take to start, on a machine that is busy.
+START_PATIENCE = 20.0
 # What programs are started with: libca's tests change the environment of this process.
 ENVIRONMENT = {**os.environ, "PYTHONPATH": str(TOP)}
 
@@ -90,11 +93,19 @@ class Front:
         words += ["--journal", str(self.journal)] if has_journal else []
         self.process = subprocess.Popen(words, stdout=subprocess.PIPE, stderr=self._errors, env=ENVIRONMENT, start_new_session=True)
         assert self.process.stdout is not None
+        too_late = threading.Timer(START_PATIENCE, self.kill)
+        too_late.start()
         self.ready = self.process.stdout.readline().decode()
+        too_late.cancel()
 
-    def children(self) -> List[int]:
-        """The process numbers of its children."""
-        text = pathlib.Path(f"/proc/{self.process.pid}/task/{self.process.pid}/children").read_text()
+    def kill(self) -> None:
+        """Ends it and what it has started in its own session, whatever they do."""
+        os.killpg(self.process.pid, signal.SIGKILL)
+
+    def children(self, process: Optional[int] = None) -> List[int]:
+        """The process numbers of its children, or of another process."""
+        process = process or self.process.pid
+        text = pathlib.Path(f"/proc/{process}/task/{process}/children").read_text()
         return [int(word) for word in text.split()]
 
     def memory(self) -> int:
@@ -111,7 +122,11 @@ class Front:
         """Ends it by a signal, and returns its status."""
         if self.process.poll() is None:
             self.process.send_signal(number)
-        status = self.process.wait(PATIENCE)
+        try:
+            status = self.process.wait(PATIENCE)
+        except subprocess.TimeoutExpired:
+            self.kill()
+            raise
         assert self.process.stdout is not None
         self.process.stdout.close()
         self._errors.close()

@@ -1,16 +1,14 @@
-"""Drivers against instruments on loopback."""
+"""Drivers against instruments on loopback, without a front."""
 import asyncio
-import pathlib
-import re
-import tempfile
+import contextlib
+import io
 import time
 import unittest
-from typing import Callable, List, Tuple, Union
+from typing import Any, Callable, List, Tuple
 
-from ..drivers import Desk, DeviceFault, Modbus, Stream, Value, converted, load_drivers
+from ..drivers import Desk, DeviceFault, Modbus, Stream, Value, converted
 from ..interface import Ask, DeviceAnswers
 from .instruments import Plc, Supply
-from .support import TOP
 
 COMMANDS = {
     "volt": ("VOLT?", "VOLT %d"),
@@ -35,6 +33,30 @@ class Answers(DeviceAnswers):
 
     def fault(self, record: bytes, number: int) -> None:
         self.told.append(("fault", record, number, ""))
+
+    def interrupt(self, word: str) -> None:
+        self.told.append(("interrupt", b"", 0, word))
+
+
+class Own:
+    """A driver that reads values one after another, and takes a while to write. What it does beside fails once."""
+
+    patience = 5.0
+
+    def __init__(self, values: List[Value]) -> None:
+        self.values, self.runs = values, 0
+
+    async def read(self, words: str) -> Value:
+        return self.values.pop(0)
+
+    async def write(self, words: str, value: str) -> None:
+        await asyncio.sleep(0.3)
+
+    async def run(self, interrupt: Callable[[str], None]) -> None:
+        self.runs += 1
+        interrupt("own")
+        if self.runs == 1:
+            raise ConnectionError("lost")
 
 
 class Patterns(unittest.TestCase):
@@ -150,22 +172,28 @@ class Asks(unittest.IsolatedAsyncioTestCase):
         self.desk.ask(Ask(b"r", 1, "psu volt", None))
         self.assertEqual(await self.told(1), [("fault", b"r", 1, "")])
 
-    async def test_no_answer_after_the_end(self) -> None:
-        self.supply.delay = 0.1
-        self.desk.ask(Ask(b"r", 1, "psu volt", None))
-        await asyncio.sleep(0.05)
-        self.desk.close()
-        await asyncio.sleep(0.2)
-        self.assertEqual(self.answers.told, [])
+    async def test_values_as_texts(self) -> None:
+        values: List[Any] = [7, -7, 12.0, 12.5, 1e300, 0.1, float("inf"), True, "a text", b"12", None, [1]]
+        wants = ["7", "-7", "12", "12.5", "1.0000000000000001e+300", "0.10000000000000001", "inf", "1", "a text", "12"]
+        desk = Desk({"own": Own(values)}, self.answers)
+        for number in range(len(values)):
+            desk.ask(Ask(b"r", number, "own", None))
+            await self.told(number + 1)
+        told = [("done", b"r", number, want) for number, want in enumerate(wants)]
+        self.assertEqual(self.answers.told, [*told, ("fault", b"r", 10, ""), ("fault", b"r", 11, "")])
 
+    async def test_patience(self) -> None:
+        self.supply.delay = 0.2
+        for patience, want in ((0.1, "fault"), (5.0, "done")):
+            patient = Own([])
+            patient.patience = patience
+            Desk({"own": patient}, self.answers).ask(Ask(b"r", 1, "own wait", "7"))
+            await self.told(1)
+            self.assertEqual(self.answers.told.pop()[0], want)
 
-class Files(unittest.TestCase):
-    def load(self, text: str) -> List[str]:
-        with tempfile.NamedTemporaryFile("w", suffix=".py") as file:
-            file.write(text)
-            file.flush()
-            return sorted(load_drivers(file.name))
-
-    def test_the_example_of_the_manual(self) -> None:
-        blocks: List[str] = re.findall(r"```python\n(.*?)```", pathlib.Path(TOP, "docs", "DRIVERS.md").read_text(), re.S)
-        self.assertEqual([self.load(block) for block in blocks if "DRIVERS =" in block], [["plc", "psu", "scale"]])
+    async def test_what_fails_runs_again(self) -> None:
+        own = Own([])
+        with contextlib.redirect_stderr(io.StringIO()) as errors:
+            Desk({"own": own}, self.answers).start()
+            self.assertEqual(await self.told(2), [("interrupt", b"", 0, "own")] * 2)
+        self.assertEqual((own.runs, errors.getvalue()), (2, "driver own: ConnectionError('lost')\n"))

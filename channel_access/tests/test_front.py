@@ -4,14 +4,13 @@ import pathlib
 import re
 import signal
 import socket
-import stat
 import struct
 import subprocess
 import sys
 import tempfile
 import threading
 import unittest
-from typing import List, Tuple
+from typing import List
 
 from .. import protocol
 from ..child.survey import survey
@@ -69,17 +68,23 @@ class Starts(unittest.TestCase):
             run = command(database, "--port", str(taken.getsockname()[1]))
             self.assertEqual((run.returncode, "already in use" in run.stderr), (2, True))
 
-    def test_drivers_need_live(self) -> None:
+    def test_drivers_that_are_none(self) -> None:
         database = str(TOP / "examples" / "plant.db")
-        run = command(database, "--drivers", "drivers.py")
-        want = "ioc-ca: --drivers drivers.py: it needs an `ioc` with --live, and `ioc --help` doesn't list it\n"
-        self.assertEqual((run.returncode, run.stderr), (2, want))
         with tempfile.TemporaryDirectory() as folder:
-            later = pathlib.Path(folder, "ioc")
-            later.write_text("#!/bin/sh\necho '  --live  serves devices outside'\n")
-            later.chmod(later.stat().st_mode | stat.S_IXUSR)
-            run = command(database, "--drivers", "drivers.py", "--ioc", str(later))
-        self.assertEqual((run.returncode, "the front doesn't speak yet" in run.stderr), (2, True))
+            for name, text, want in (
+                ("drivers.py", "DRIVERS = {", "SyntaxError: "),
+                ("drivers.py", "import nothing_of_this_name", "ModuleNotFoundError: No module named 'nothing_of_this_name'"),
+                ("drivers.py", "DRIVER = {}", "AttributeError: module 'site_drivers' has no attribute 'DRIVERS'"),
+                ("drivers.py", "DRIVERS = 7", "TypeError: 'int' object is not iterable"),
+                ("drivers.txt", "DRIVERS = {}", "AssertionError: its name doesn't end with .py"),
+            ):
+                file = pathlib.Path(folder, name)
+                file.write_text(text)
+                run = command(database, "--drivers", str(file))
+                self.assertEqual((run.returncode, run.stdout), (2, ""))
+                self.assertIn(f"ioc-ca: --drivers {file}: {want}", run.stderr)
+            run = command(database, "--drivers", f"{folder}/nothing.py")
+            self.assertEqual((run.returncode, "FileNotFoundError" in run.stderr), (2, True))
 
 
 class Ends(WithFront):

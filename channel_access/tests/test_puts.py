@@ -1,20 +1,22 @@
 """Put callbacks that end late: fair shares, and circuits that end; records that are processed while they are read. The IOC is a stand-in."""
+import os
 import pathlib
+import signal
 import struct
 import time
 import unittest
 from typing import Callable, Dict, List, Optional, cast
 
-from ..client import Client
+from ..client import Client, Refused
 from ..interface import Done, Field, Given, Ioc, Kind, PutCallback, Record
 from ..protocol import WITH_TIME, Base, Command, Status, pack
 from ..puts import MOST_WAITING, Puts
-from .support import DATABASE, Front, until
+from .support import DATABASE, PATIENCE, Front, until
 
 FIELD = Field("VAL", Kind.LONG, True)
 RECORD = Record(b"rec", "longout", {"VAL": FIELD})
 LATE_IOC = str(pathlib.Path(__file__).with_name("late_ioc.py"))
-LATE = DATABASE + "".join(f'record(longout, "late:{name}") {{}}\n' for name in ("release", "live", "cancelled", "reads", "checkpoints", "a", "b"))
+LATE = DATABASE + "".join(f'record(longout, "late:{name}") {{}}\n' for name in ("release", "live", "cancelled", "reads", "a", "b"))
 LATE += """record(longout, "torn") { field(HIGH, 100) field(HSV, MAJOR) }
 record(longout, "off") { field(VAL, 5) field(DISS, MAJOR) }
 """
@@ -123,11 +125,21 @@ class LateFront(unittest.TestCase):
         self.release(3)
         self.assertEqual(self.ended(client, 3), [None] * 3)
 
-    def test_entries_are_dropped_once_a_second(self) -> None:
+    def test_a_reply_that_never_comes(self) -> None:
+        """The stand-in gives up, and so do the front and its client, in seconds."""
         client = self.client()
-        self.assertTrue(until(lambda: client.read("late:checkpoints")[0] == "1", 3))
-        time.sleep(1.0)
-        self.assertIn(client.read("late:checkpoints")[0], ("1", "2"))
+        self.assertEqual(client.read("late:a")[0], "0")
+        number, _, _ = client.channel("late:a")
+        (stand_in,) = self.front.children()
+        (ioc,) = self.front.children(stand_in)
+        os.kill(ioc, signal.SIGSTOP)
+        self.addCleanup(os.kill, ioc, signal.SIGKILL)
+        begun = time.monotonic()
+        client.send(pack(Command.READ_NOTIFY, b"", Base.LONG, 1, number, 1))
+        with self.assertRaises(Refused):
+            client.reply(Command.READ_NOTIFY)
+        self.assertEqual(self.front.process.wait(PATIENCE), 128 + signal.SIGALRM)
+        self.assertLess(time.monotonic() - begun, 15)
 
     def test_one_client_with_300(self) -> None:
         greedy, other = self.client(), self.client()
