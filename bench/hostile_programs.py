@@ -45,7 +45,7 @@ SESSION_FORMS = {**FORMS, "dbgf": FORMS["get"], "dbpf": FORMS["put"], "checkpoin
 SESSION_FORM = {verb: re.compile(f"({form}|bad)", re.S) for verb, form in SESSION_FORMS.items()}
 # The fields that ioc prints at its end.
 SHOWN = ("VAL", "STAT", "SEVR")
-NOT_OF_A_CONSOLE = ("at", "next", "done", "fault", "tally")
+NOT_OF_A_CONSOLE = ("at", "next", "tally")
 # Lines of journals, of which some are no entries.
 JOURNAL_WORDS = [
     *"0 1 2 7 00 -1 18446744073709551615 18446744073709551616 process put get notify cancel complete live link post interrupt".split(),
@@ -357,7 +357,7 @@ class Case:
         for line in lines[:400] if self.is_small else lines[:30]:
             name = self.generator.choice(names)
             verb = line.partition(" ")[0]
-            if verb in NOT_OF_A_CONSOLE and self.chance(0.9):
+            if verb in (*NOT_OF_A_CONSOLE, "done", "fault") and self.chance(0.9):
                 line = self.generator.choice([
                     f"tick {self.generator.choice([1, 2, 5, 20, 0, 'x', 10**7])}", "tick", "checkpoint", "help", f"dbpr {name}",
                     "dbl", f"dbl {name[:3]}*", f"dbl *{name[-1:]}", "dbl ?", f"dbgf {name}", f"dbpf {name} 1", f"get {name}",
@@ -517,7 +517,10 @@ class Case:
             want(same < line <= len(changed), f"a fault in line {line} of {len(changed)}, of which {same} are right", ran)
             want(most is None or line <= most + 1, "a fault behind --at", ran)
         else:
-            want(ran.said == "" and told and AGREE.fullmatch(told[-1]), "an audit that agrees", ran)
+            want(told and AGREE.fullmatch(told[-1]), "an audit that agrees", ran)
+            has_place = most is None or most < whole
+            missing = "" if has_place else f"ioc-audit: journal '{file}' has no entry at place {most}\n"
+            want(ran.said == missing, "what an audit that agrees says", ran)
             agree = AGREE.fullmatch(told[-1])
             count, wanted = int(agree["count"]), whole if most is None else min(whole, most + 1)
             want(count == wanted, f"{count} of {whole} entries", ran)

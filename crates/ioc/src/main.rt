@@ -1,16 +1,17 @@
-//! `ioc DB --ticks N --workers W [NAME=VALUE]..` loads a database text with these macros, scans its
-//! records in one thread while others serve the requests that wait, and prints a line for each
-//! record. With `--console` in place of the ticks it answers lines of standard input.
+//! `ioc DB --live --workers W [NAME=VALUE]..` loads a database text with these macros, scans its
+//! records by a clock and answers lines of standard input while other threads serve the requests that
+//! wait, and prints a line for each record at its end. With `--console` lines say when records are
+//! scanned, and with `--ticks N` they are scanned so often without waiting.
 #![tactic(auto)]
 
 use ioc_app::{
-    Args, Console, Header, JournalFile, Mode, Outputs, PROGRAM, Plant, RunFault, SyncedFile, Ticks,
-    counting_devices, database_hash, file_name, ioc_args, ioc_run,
+    Args, Asks, Console, Devices, Header, JournalFile, Mode, Outputs, PROGRAM, Plant, RunFault,
+    SyncedFile, Ticks, counting_devices, database_hash, file_name, ioc_args, ioc_run,
 };
 use ioc_command_line::{
     Ending, FileRole, Reason, Stage, Stop, bad_database, given, read_whole, show,
 };
-use ioc_engine::{Database, Device, LoadError, SystemClock, load};
+use ioc_engine::{Database, Device, DeviceName, LoadError, SystemClock, load};
 use ioc_values::Short;
 use std::alloc::{Alloc, Global};
 use std::env;
@@ -199,25 +200,76 @@ fn console_of<I: Read + Drop, E: Write + Drop>(
 
 // Does the task of a mode.
 fn do_task<
-    R: Threads + Wait + Sync,
+    R: Clock + Threads + Wait + Sync,
     D: Device + Send + Sync,
-    C: ioc_engine::Clock + Drop + Send + Sync,
     I: Read + Drop,
     E: Write + Drop,
-    W: Write + Drop,
-    J: Write + Drop,
+    W: Write + Drop + Send,
+    J: Write + Drop + Send,
 >(
     rt: &R,
     alloc: Global,
-    plant: Plant<D, C>,
+    plant: Plant<D, SystemClock<&R>>,
     mode: Mode,
-    console: &mut Console<I, E>,
-    outputs: Outputs<W, J>,
+    mut console: Console<I, E>,
+    outputs: Outputs<'_, W, J>,
 ) -> Result<(), RunFault> {
     match mode {
         Mode::Ticks(count) => ioc_run(rt, alloc, plant, &mut Ticks(count), outputs),
-        Mode::Console => ioc_run(rt, alloc, plant, console, outputs),
+        Mode::Console => ioc_run(rt, alloc, plant, &mut console, outputs),
+        Mode::Live => ioc_run(rt, alloc, plant, &mut console.with_clock(), outputs),
     }
+}
+
+// Runs a database with these devices, and writes its journal if it is kept.
+fn run_with<
+    F: Write + OpenFile + Drop + Send,
+    R: Alloc<A = Global> + Clock + Files<File = F> + Print + Threads + Wait + Sync,
+    D: Device + Send + Sync,
+    I: Read + Drop,
+    E: Write + Drop,
+>(
+    rt: &R,
+    args: &Args<'_>,
+    loaded: HashedDatabase,
+    devices: Vec<(DeviceName, D)>,
+    asks: &Asks,
+    terminal: Terminal<I, E>,
+) -> Result<(), Stop> {
+    let alloc = rt.alloc();
+    let HashedDatabase { database, hash } = loaded;
+    let console = console_of(alloc, &database, terminal)?;
+    let plant = Plant {
+        devices,
+        database,
+        clock: SystemClock::new(rt),
+        workers: args.workers,
+    };
+    let created = journal_of(rt, args, ioc_engine::Clock::now(&plant.clock))?;
+    let Some(created) = created else {
+        let outputs = Outputs {
+            lines: io::writer(rt),
+            journal: None::<JournalFile<SyncedFile<'_, F, R>>>,
+            asks,
+        };
+        let done = do_task(rt, alloc, plant, args.mode, console, outputs);
+        return ran(alloc, done, "");
+    };
+    let handle = handle_of(alloc, &created, args)?;
+    let NewFile { path, file } = created;
+    let journal = JournalFile {
+        file: SyncedFile::new(rt, file, args.syncs),
+        header: header_of(args, hash),
+    };
+    let outputs = Outputs {
+        lines: io::writer(rt),
+        journal: Some(journal),
+        asks,
+    };
+    let done = do_task(rt, alloc, plant, args.mode, console, outputs);
+    let synced = sync(alloc, handle, path.as_str());
+    ran(alloc, done, path.as_str())?;
+    synced
 }
 
 // Returns what comes of a run whose journal has this path.
@@ -230,50 +282,30 @@ fn ran(alloc: Global, done: Result<(), RunFault>, journal: &str) -> Result<(), S
 
 // Runs what the words of the command line ask for.
 fn work<
-    R: Alloc<A = Global> + Clock + Files + Print + Threads + Wait + Sync,
+    F: Write + OpenFile + Drop + Send,
+    R: Alloc<A = Global> + Clock + Files<File = F> + Print + Threads + Wait + Sync,
     I: Read + Drop,
     E: Write + Drop,
 >(rt: &R, args: &Args<'_>, terminal: Terminal<I, E>) -> Result<(), Stop> {
     let alloc = rt.alloc();
-    let HashedDatabase { database, hash } = loaded(rt, args)?;
-    let mut console = console_of(alloc, &database, terminal)?;
-    let plant = Plant {
-        devices: counting_devices(alloc, &database)?,
-        database,
-        clock: SystemClock::new(rt),
-        workers: args.workers,
-    };
-    let created = journal_of(rt, args, ioc_engine::Clock::now(&plant.clock))?;
-    let Some(created) = created else {
-        let outputs = Outputs {
-            lines: io::writer(rt),
-            journal: None::<JournalFile<SyncedFile<'_, R>>>,
-        };
-        return ran(
-            alloc,
-            do_task(rt, alloc, plant, args.mode, &mut console, outputs),
-            "",
-        );
-    };
-    let handle = handle_of(alloc, &created, args)?;
-    let NewFile { path, file } = created;
-    let journal = JournalFile {
-        file: SyncedFile::new(rt, file, args.syncs),
-        header: header_of(args, hash),
-    };
-    let outputs = Outputs {
-        lines: io::writer(rt),
-        journal: Some(journal),
-    };
-    let done = do_task(rt, alloc, plant, args.mode, &mut console, outputs);
-    let synced = sync(alloc, handle, path.as_str());
-    ran(alloc, done, path.as_str())?;
-    synced
+    let loaded = loaded(rt, args)?;
+    match args.devices {
+        Devices::Counting => {
+            let devices = counting_devices(alloc, &loaded.database)?;
+            run_with(rt, args, loaded, devices, &Asks::none(alloc)?, terminal)
+        }
+        Devices::Outside => {
+            let asks = Asks::new(alloc, &loaded.database)?;
+            let devices = asks.devices(rt, alloc)?;
+            run_with(rt, args, loaded, devices, &asks, terminal)
+        }
+    }
 }
 
 // Does what the words of the command line ask for.
 fn run<
-    R: Alloc<A = Global> + Clock + Files + Print + Threads + Wait + Sync,
+    F: Write + OpenFile + Drop + Send,
+    R: Alloc<A = Global> + Clock + Files<File = F> + Print + Threads + Wait + Sync,
     I: Read + Drop,
     E: Write + Drop,
 >(rt: &R, words: io::Result<env::Args>, terminal: Terminal<I, E>) -> Result<(), Stop> {

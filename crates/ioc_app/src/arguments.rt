@@ -1,16 +1,16 @@
 //! The command line of the program `ioc`.
-ghost use Rattle.std.specs.Prelude.{◌≡◌, ◌≤◌, ℕ, true, false, map, codes, IfOk, IfErr};
+ghost use Rattle.std.specs.Prelude.{◌≡◌, ◌≤◌, ℕ, Some, true, false, map, codes, option_map, IfOk, IfErr};
 ghost use Rattle.std.specs.String.{string_bytes};
-ghost use Rattle.clap.specs.Words.{app_of, found_of, rows_of, rule_of};
+ghost use Rattle.clap.specs.Words.{app_of, first_of, found_of, rows_of, rule_of};
 ghost use Rattle.ioc_command_line.specs.CommandLine.{program_app};
-ghost use Rattle.ioc_app.specs.Arguments.{IsNumber, IsMode, IsAskedBy, IsAskedByWords, ioc_words, number_rule, ticks_rule, workers_rule, file_option_rule};
+ghost use Rattle.ioc_app.specs.Arguments.{IsNumber, IsMode, IsAskedBy, IsAskedByWords, devices_named, ioc_words, number_rule, usual_devices, with_lines, word_rule};
 ghost use Rattle.ioc_app.specs.declared.arguments.Mode.TheVariants.{Ticks};
 
 use clap::builder::ValueParser;
 use clap::{Arg, ArgMatches, Command};
 use ioc_command_line::{
-    Program, Stop, UsageFault, definitions_argument, definitions_in, file_argument, flag, is_given,
-    macros_in, macros_option, parse,
+    Program, Stage, Stop, UsageFault, definitions_argument, definitions_in, file_argument, flag,
+    is_given, macros_in, macros_option, parse,
 };
 use ioc_dblex::Macros;
 use std::alloc::{AllocError, Global};
@@ -19,17 +19,20 @@ use std::alloc::{AllocError, Global};
 pub const PROGRAM: Program<'static> = Program {
     name: "ioc",
     version: "0.1.0",
-    about: "Loads the database text DB, in which the macros NAME stand for VALUE, scans its records \
-        for so many ticks of a tenth of a second, without waiting between them, or answers lines of \
-        standard input, while worker threads serve the requests that wait, and prints a line for \
-        each record and the counts of requests.",
+    about: "Loads the database text DB, in which the macros NAME stand for VALUE. It answers the \
+        lines of standard input with --live, beside a clock that scans the records, and with \
+        --console, whose lines say when they are scanned; with --ticks it scans them so often, \
+        without waiting. Worker threads serve the requests that wait. At its end it prints a line \
+        for each record and the counts of requests.",
     notes: "\
 The line of a record: its name, VAL, STAT, SEVR, and its time stamp.
 
 The line help of a console prints its lines. Standard error has the number of each line that is \
     refused, unless standard input is a terminal.
 
-Each device link @TEXT has a device that counts its reads: the first gives 1, the next 2.
+A device link @TEXT has a device that counts its reads: the first gives 1, the next 2. With \
+    --live, and with --devices outside, a line ? tells what it is asked, and a line done or fault \
+    answers.
 
 The exit status: 0 the run is done, 1 the database is refused, 2 the command line is wrong, \
     3 a file cannot be read or written, 4 memory ran out",
@@ -50,6 +53,10 @@ const WORKERS: &str = "workers";
 
 const CONSOLE: &str = "console";
 
+const LIVE: &str = "live";
+
+const DEVICES: &str = "devices";
+
 const JOURNAL: &str = "journal";
 
 const OVERWRITE: &str = "overwrite";
@@ -58,6 +65,15 @@ const SEAL: &str = "seal";
 
 const SYNC: &str = "sync";
 
+// What is wrong with a command line.
+const NO_MODE: &str = "one of --live, --console and --ticks N is wanted";
+
+const TWO_MODES: &str = "--live, --console and --ticks exclude each other";
+
+const NO_WORKERS: &str = "--workers N is wanted: how many threads serve the requests that wait";
+
+const NO_DEVICES: &str = "--devices wants counting, or with --live or --console outside";
+
 /// What the program does with the records.
 #[derive(Clone, Copy, Debug, PartialEq, Eq)]
 pub enum Mode {
@@ -65,6 +81,17 @@ pub enum Mode {
     Ticks(u64),
     /// Answers the lines of standard input.
     Console,
+    /// Answers them beside a clock, which walks the periods.
+    Live,
+}
+
+/// Which devices the records have.
+#[derive(Clone, Copy, Debug, PartialEq, Eq)]
+pub enum Devices {
+    /// Those of the program, which count their reads.
+    Counting,
+    /// Others, which lines tell what they are asked, and for which lines answer.
+    Outside,
 }
 
 /// What the words of a command line ask for.
@@ -79,6 +106,7 @@ pub struct Args<'a> {
     pub database: &'a str,
     pub macros: Macros,
     pub mode: Mode,
+    pub devices: Devices,
     /// From 1 to [`MAX_WORKERS`].
     pub workers: u64,
     /// The path of the file to which the journal is written, or of the folder, with `/` at its end, in
@@ -106,33 +134,36 @@ fn number_option<'a>(alloc: Global, name: &'a str, most: u64, help: &'a str) -> 
         .help(help)
 }
 
-// Returns the option of the ticks, which is given exactly if there is no console.
-fn ticks_option<'a>(alloc: Global) -> Result<Arg<'a>, AllocError>
-    ensures rule { IfOk result (λ a. rule_of a ≡ ticks_rule) }
-    ensures local { IfOk result (λ a. a.global ≡ false) }
+// Returns the option of the ticks.
+fn ticks_option<'a>(alloc: Global) -> Arg<'a>
+    ensures rule { rule_of result ≡ number_rule (codes "ticks") 1000000 }
+    ensures local { result.global ≡ false }
 {
-    number_option(alloc, TICKS, MAX_TICKS, "how many ticks")
-        .required_unless_present(CONSOLE)?
-        .conflicts_with(CONSOLE)
+    number_option(
+        alloc,
+        TICKS,
+        MAX_TICKS,
+        "scans the records for so many ticks",
+    )
 }
 
 // Returns the option of the workers.
 fn workers_option<'a>(alloc: Global) -> Arg<'a>
-    ensures rule { rule_of result ≡ workers_rule }
+    ensures rule { rule_of result ≡ number_rule (codes "workers") 64 }
     ensures local { result.global ≡ false }
 {
     let help = "how many threads serve the requests that wait";
-    number_option(alloc, WORKERS, MAX_WORKERS, help).required(true)
+    number_option(alloc, WORKERS, MAX_WORKERS, help)
 }
 
-// Returns the option of a file.
-fn file_option<'a>(alloc: Global, name: &'a str, help: &'a str) -> Arg<'a>
-    ensures rule { rule_of result ≡ file_option_rule name.entry.now }
+// Returns an option with a word, of which help shows this name.
+fn word_option<'a>(alloc: Global, name: &'a str, shown: &'a str, help: &'a str) -> Arg<'a>
+    ensures rule { rule_of result ≡ word_rule name.entry.now }
     ensures local { result.global ≡ false }
 {
     Arg::new(alloc, name)
         .long(name)
-        .value_name("FILE")
+        .value_name(shown)
         .help(help)
 }
 
@@ -144,16 +175,28 @@ fn command<'a>(alloc: Global) -> Result<Command<'a>, AllocError>
     PROGRAM
         .command(alloc)
         .arg(file_argument(alloc, DATABASE, "the database text"))?
-        .arg(ticks_option(alloc)?)?
+        .arg(ticks_option(alloc))?
         .arg(flag(
             alloc,
             CONSOLE,
             "answers the lines of standard input, in place of ticks",
         ))?
+        .arg(flag(
+            alloc,
+            LIVE,
+            "answers them beside a clock, which scans the records",
+        ))?
+        .arg(word_option(
+            alloc,
+            DEVICES,
+            "KIND",
+            "counting or outside: which devices the records have",
+        ))?
         .arg(workers_option(alloc))?
-        .arg(file_option(
+        .arg(word_option(
             alloc,
             JOURNAL,
+            "FILE",
             "the journal is written to this new file, or to a new one in this folder if it ends with /",
         ))?
         .arg(flag(alloc, OVERWRITE, "the journal's file may be there already"))?
@@ -167,12 +210,27 @@ fn command<'a>(alloc: Global) -> Result<Command<'a>, AllocError>
         .arg(macros_option(alloc))
 }
 
-// Returns the number of an option, which lies between 1 and `most`.
-fn number_in(matches: &ArgMatches<'_>, id: &str, most: u64) -> Result<u64, Stop>
+// Returns why the program stops if its words are wrong.
+fn refused(alloc: Global, why: &str) -> Stop {
+    match format!(in alloc; "error: {why}\n\nFor more information, try '--help'.\n") {
+        Ok(text) => Stop::Refused(text),
+        Err(_) => Stop::Memory(Stage::Loading),
+    }
+}
+
+// Returns the number of an option, which lies between 1 and `most`. If it isn't given, the program
+// stops for this reason.
+fn number_in(
+    alloc: Global,
+    matches: &ArgMatches<'_>,
+    id: &str,
+    most: u64,
+    missing: &str,
+) -> Result<u64, Stop>
     ensures { IfOk result (IsNumber (rows_of (found_of matches.now)) id.now most) }
 {
     let Some(text) = matches.get_str(id) else {
-        return Err(Stop::Usage(UsageFault::NoArgument));
+        return Err(refused(alloc, missing));
     };
     match text.parse::<u64>() {
         Ok(number) if 1 <= number && number <= most => Ok(number),
@@ -181,12 +239,65 @@ fn number_in(matches: &ArgMatches<'_>, id: &str, most: u64) -> Result<u64, Stop>
 }
 
 // Returns what the program does with the records.
-fn mode_in(matches: &ArgMatches<'_>) -> Result<Mode, Stop>
+fn mode_in(alloc: Global, matches: &ArgMatches<'_>) -> Result<Mode, Stop>
     ensures { IfOk result (IsMode (rows_of (found_of matches.now))) }
 {
-    match matches.get_str(CONSOLE) {
-        Some("true") => Ok(Mode::Console),
-        _ => Ok(Mode::Ticks(number_in(matches, TICKS, MAX_TICKS)?)),
+    let has_console = is_given(matches, CONSOLE);
+    let is_live = is_given(matches, LIVE);
+    match (matches.get_str(TICKS), has_console, is_live) {
+        (None, true, false) => Ok(Mode::Console),
+        (None, false, true) => Ok(Mode::Live),
+        (Some(_), false, false) => Ok(Mode::Ticks(number_in(
+            alloc, matches, TICKS, MAX_TICKS, NO_MODE,
+        )?)),
+        (None, false, false) => Err(refused(alloc, NO_MODE)),
+        _ => Err(refused(alloc, TWO_MODES)),
+    }
+}
+
+// Returns which devices records have if the command line doesn't say it.
+fn usual_devices(mode: Mode) -> Devices
+    ensures { result ≡ usual_devices mode }
+{
+    match mode {
+        Mode::Live => Devices::Outside,
+        Mode::Ticks(_) | Mode::Console => Devices::Counting,
+    }
+}
+
+// Returns the devices outside, if there are lines that answer for them.
+fn with_lines(mode: Mode) -> Option<Devices>
+    ensures { result ≡ with_lines mode }
+{
+    match mode {
+        Mode::Live | Mode::Console => Some(Devices::Outside),
+        Mode::Ticks(_) => None,
+    }
+}
+
+// Returns the devices that a word names, which may be missing.
+fn devices_named(mode: Mode, word: Option<&str>) -> Option<Devices>
+    ensures { result ≡ devices_named mode (option_map (λ s. s.now) word.entry) }
+{
+    let Some(word) = word else {
+        return Some(usual_devices(mode));
+    };
+    if word.as_bytes() == b"counting".as_slice() {
+        Some(Devices::Counting)
+    } else if word.as_bytes() == b"outside".as_slice() {
+        with_lines(mode)
+    } else {
+        None
+    }
+}
+
+// Returns which devices the records have.
+fn devices_in(alloc: Global, matches: &ArgMatches<'_>, mode: Mode) -> Result<Devices, Stop>
+    ensures { IfOk result (λ devices. devices_named mode (first_of (codes "devices") (rows_of (found_of matches.now))) ≡ Some devices) }
+{
+    match devices_named(mode, matches.get_str(DEVICES)) {
+        Some(devices) => Ok(devices),
+        None => Err(refused(alloc, NO_DEVICES)),
     }
 }
 
@@ -197,14 +308,16 @@ fn read<'a>(alloc: Global, matches: &ArgMatches<'a>) -> Result<Args<'a>, Stop>
     let Some(database) = matches.get_str(DATABASE) else {
         return Err(Stop::Usage(UsageFault::NoArgument));
     };
-    let mode = mode_in(matches)?;
-    let workers = number_in(matches, WORKERS, MAX_WORKERS)?;
+    let mode = mode_in(alloc, matches)?;
+    let devices = devices_in(alloc, matches, mode)?;
+    let workers = number_in(alloc, matches, WORKERS, MAX_WORKERS, NO_WORKERS)?;
     let macros = macros_in(alloc, matches)?;
     let definitions = definitions_in(alloc, matches)?;
     Ok(Args {
         database,
         macros,
         mode,
+        devices,
         workers,
         journal: matches.get_str(JOURNAL),
         overwrites: is_given(matches, OVERWRITE),
@@ -214,8 +327,8 @@ fn read<'a>(alloc: Global, matches: &ArgMatches<'a>) -> Result<Args<'a>, Stop>
     })
 }
 
-/// Reads the words of a command line, of which the first is the program's name: DB, `--ticks N` or
-/// `--console`, `--workers W`, `--journal FILE`, `--overwrite`, `--seal`, `--sync`, and definitions of macros, as `NAME=VALUE`, `P=a,R=b`, or with
+/// Reads the words of a command line, of which the first is the program's name: DB, one of `--ticks N`,
+/// `--console` and `--live`, `--devices KIND`, `--workers W`, `--journal FILE`, `--overwrite`, `--seal`, `--sync`, and definitions of macros, as `NAME=VALUE`, `P=a,R=b`, or with
 /// `-m` before them.
 ///
 /// # Errors

@@ -1,15 +1,17 @@
 //! The calls of a console.
 use crate::fault::RunFault;
+use crate::streams::Streams;
 use crate::task::tick;
 use ioc_engine::{
-    Channel, Clock, Desk, Device, Engine, EngineName, FieldSeen, FieldText, Input, IocError,
-    NotifyId, Reply,
+    Channel, Clock, Desk, Device, Engine, EngineName, FieldSeen, FieldText, Finished, Input,
+    IocError, NotifyId, Reply,
 };
 use ioc_fields::{FieldNo, name_of};
 use ioc_scan::Period;
 use ioc_scan::period::choice_of;
 use ioc_values::ByteBuffer;
 use std::alloc::{AllocError, Global};
+use std::io::Write;
 use std::sync::Wait;
 
 /// Why a line isn't done.
@@ -151,6 +153,36 @@ impl<'e, B: EngineName<D>, D: Device, C: Clock + Drop, R: Wait> Caller<'e, B, D,
         let channel = self.channel(record, field)?;
         let given = Input::from_text(text);
         let (reply, _receipt) = self.engine.put_notify(self.rt, self.desk, channel, given)?;
+        Ok(reply)
+    }
+
+    /// Writes what is new, which replies may tell of.
+    ///
+    /// # Errors
+    ///
+    /// As [`Streams::write_new`].
+    pub fn write_new<W: Write + Drop, J: Write + Drop>(
+        &mut self,
+        streams: &Streams<'_, W, J>,
+    ) -> Result<(), RunFault> {
+        streams.write_new(self.rt, self.alloc, self.engine, self.desk)
+    }
+
+    /// Completes a record with the late answer of its device.
+    ///
+    /// # Errors
+    ///
+    /// As [`Engine::record`] and [`Engine::complete`].
+    pub fn complete(
+        &mut self,
+        record: &[u8],
+        wait: u64,
+        finished: Finished,
+    ) -> Result<Reply, LineFault> {
+        let number = self.engine.record(record)?;
+        let (reply, _receipt) = self
+            .engine
+            .complete(self.rt, self.desk, number, wait, finished)?;
         Ok(reply)
     }
 

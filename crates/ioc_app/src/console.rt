@@ -1,17 +1,18 @@
 //! The console, which answers lines.
 use crate::caller::{Caller, LineFault};
 use crate::fault::RunFault;
-use crate::journal::JournalWriter;
 use crate::kinds::{add_choices, add_kinds, given_by};
 use crate::listing::{
-    RecordList, add_count, add_field, add_placed, add_reply, add_shown, add_tagged,
+    RecordList, add_count, add_field, add_named, add_placed, add_reply, add_shown, add_tagged,
 };
 use crate::reading::Wanted;
-use crate::streams::{Noted, Streams, write_entries};
+use crate::streams::{LineWriter, Streams};
 use crate::task::Task;
-use ioc_command_line::Reason;
-use ioc_commands::{BadLine, Command, Dialect, Help, Request, Tagged};
-use ioc_engine::{Clock, Database, Desk, Device, Engine, EngineName, Input, IocError, Reply};
+use ioc_commands::{BadLine, Command, Dialect, Help, Request, Tagged, read_text};
+use ioc_engine::{
+    Clock, Database, Desk, Device, Engine, EngineName, Finished, Input, IocError, NotifyId, Reply,
+    Text, Value,
+};
 use ioc_fields::field_list::fields;
 use ioc_fields::{RecordType, row_of};
 use ioc_main::{PROMPT, PendingOutput, ScriptFault, Session, ended_line, run_script};
@@ -30,6 +31,8 @@ pub struct Console<I: Read + Drop, E: Write + Drop> {
 // Answers the lines of a console.
 #[derive(Drop)]
 struct Answerer<E: Write + Drop> {
+    // Whether the run has a clock of its own.
+    dialect: Dialect,
     // Where the number of the line of each refusal is written.
     errors: E,
     // If there is a prompt, numbers of lines aren't written, and a line that asks for nothing is
@@ -41,6 +44,8 @@ struct Answerer<E: Write + Drop> {
     // The number of the line, from 1 on, and that of the last tick.
     line: u64,
     tick: u64,
+    // How many asks of devices were answered.
+    answered: u64,
 }
 
 // What is said to a line: its reply, and the lines that come behind it without a tag.
@@ -64,21 +69,22 @@ enum Then {
     End,
 }
 
-// A console at work: its calls, and the journal, whose entries are written before the replies that
-// tell of them.
+// A console at work: its calls, and what the run writes.
 #[derive(Drop)]
 struct Talk<
     'a,
+    's,
     E: Write + Drop,
     B: EngineName<D>,
     D: Device,
     C: Clock + Drop,
+    W: Write + Drop,
     J: Write + Drop,
     R: Wait,
 > {
     answerer: &'a mut Answerer<E>,
     caller: Caller<'a, B, D, C, R>,
-    journal: &'a mut Option<JournalWriter<J>>,
+    streams: &'a Streams<'s, W, J>,
     // What is said to the line.
     answer: Answer,
     has_ended: bool,
@@ -102,14 +108,22 @@ impl<I: Read + Drop, E: Write + Drop> Console<I, E> {
         Ok(Console {
             input,
             answerer: Answerer {
+                dialect: Dialect::Console,
                 errors,
                 has_prompt,
                 is_tagged: false,
                 records: RecordList::new(alloc, database)?,
                 line: 0,
                 tick: 0,
+                answered: 0,
             },
         })
+    }
+
+    /// The same console beside a clock, so that no line walks ticks.
+    pub fn with_clock(mut self) -> Self {
+        self.answerer.dialect = Dialect::Live;
+        self
     }
 }
 
@@ -146,7 +160,7 @@ impl<E: Write + Drop> Answerer<E> {
     ) -> Result<(), AllocError> {
         said.extend_from_slice(b"bad\n")?;
         if self.has_prompt && !self.is_tagged {
-            let why = format!(in alloc; "{}\n", BadLine::of(Dialect::Console, line))?;
+            let why = format!(in alloc; "{}\n", BadLine::of(self.dialect, line))?;
             said.extend_from_slice(why.as_bytes())?;
         }
         self.tell(alloc, "bad")
@@ -168,19 +182,75 @@ impl<E: Write + Drop> Answerer<E> {
     }
 
     // Walks the periods of so many ticks.
-    fn walk<B: EngineName<D>, D: Device, C: Clock + Drop, J: Write + Drop, R: Wait>(
+    fn walk<
+        B: EngineName<D>,
+        D: Device,
+        C: Clock + Drop,
+        W: Write + Drop,
+        J: Write + Drop,
+        R: Wait,
+    >(
         &mut self,
         caller: &mut Caller<'_, B, D, C, R>,
         count: u64,
-        journal: &mut Option<JournalWriter<J>>,
+        streams: &Streams<'_, W, J>,
     ) -> Result<u64, LineFault> {
         let mut requested = 0u64;
         for _ in 0..count {
             self.tick = self.tick.saturating_add(1);
             requested = requested.saturating_add(caller.tick(self.tick)?);
-            write_entries(journal, caller.rt, caller.engine, caller.desk)?;
+            caller.write_new(streams)?;
         }
         Ok(requested)
+    }
+
+    // Appends a line for each count of the run, and how many there are.
+    fn add_status<W: Write + Drop, J: Write + Drop, R: Wait>(
+        &self,
+        rt: &R,
+        alloc: Global,
+        streams: &Streams<'_, W, J>,
+        said: &mut Vec<u8>,
+    ) -> Result<(), AllocError> {
+        let counts = streams.counts(rt);
+        let pace = counts.pace;
+        add_named(alloc, said, "ticks", self.tick.saturating_add(pace.ticks))?;
+        add_named(alloc, said, "ticks_missed", pace.missed)?;
+        add_named(alloc, said, "late_us", pace.late / 1_000)?;
+        let open = counts.told.saturating_sub(self.answered);
+        add_named(alloc, said, "asks_open", open)?;
+        let Some(entries) = counts.entries else {
+            return add_count(said, 4);
+        };
+        add_named(alloc, said, "entries", entries)?;
+        add_count(said, 5)
+    }
+
+    // Answers for the device of a record, and appends the reply.
+    fn do_finished<B: EngineName<D>, D: Device, C: Clock + Drop, R: Wait>(
+        &mut self,
+        caller: &mut Caller<'_, B, D, C, R>,
+        line: &[u8],
+        command: &Command<'_>,
+        answer: &mut Answer,
+    ) -> Result<(), LineFault> {
+        let (record, wait, finished) = match *command {
+            Command::Done(record, wait, text) => match read_text(text) {
+                Some(text) => (
+                    record,
+                    wait,
+                    Finished::Done(Value::Text(Text::cut(text.as_slice()))),
+                ),
+                None => return Ok(self.say_bad(caller.alloc, line, &mut answer.reply)?),
+            },
+            Command::Fault(record, wait) => (record, wait, Finished::Fault),
+            _ => return Ok(self.say_bad(caller.alloc, line, &mut answer.reply)?),
+        };
+        let reply = caller.complete(record, wait, finished)?;
+        if let Reply::Plain = reply {
+            self.answered = self.answered.saturating_add(1);
+        }
+        say(caller, reply, answer)
     }
 
     // Appends a line for each field of a record, and returns how many fields it has.
@@ -296,6 +366,9 @@ impl<E: Write + Drop> Answerer<E> {
                 let sets = caller.engine.parts(caller.rt, caller.desk)?;
                 return Ok(self.records.add_sets(&mut answer.reply, sets.as_slice())?);
             }
+            Command::Done(_, _, _) | Command::Fault(_, _) => {
+                return self.do_finished(caller, line, command, answer);
+            }
             _ => {}
         }
         if let Some(reply) = reply_to(caller, command)? {
@@ -304,17 +377,6 @@ impl<E: Write + Drop> Answerer<E> {
         match count_for(caller, command)? {
             Some(count) => Ok(add_count(&mut answer.reply, count)?),
             None => Ok(self.say_bad(caller.alloc, line, &mut answer.reply)?),
-        }
-    }
-
-    // Makes a checkpoint. If the journal is kept, the entries that leave memory are written.
-    fn checkpoint<B: EngineName<D>, D: Device, C: Clock + Drop, J: Write + Drop, R: Wait>(
-        caller: &mut Caller<'_, B, D, C, R>,
-        journal: &mut Option<JournalWriter<J>>,
-    ) -> Result<(), LineFault> {
-        match journal {
-            Some(writer) => Ok(writer.checkpoint(caller.rt, caller.engine, caller.desk)?),
-            None => Ok(caller.engine.checkpoint(caller.rt)?),
         }
     }
 
@@ -400,28 +462,35 @@ impl<E: Write + Drop> Answerer<E> {
     }
 
     // Appends a line for each command, and `ok`.
-    fn help(alloc: Global, said: &mut Vec<u8>) -> Result<(), AllocError> {
-        let help = format!(in alloc; "{}", Help(Dialect::Console))?;
+    fn help(&self, alloc: Global, said: &mut Vec<u8>) -> Result<(), AllocError> {
+        let help = format!(in alloc; "{}", Help(self.dialect))?;
         said.extend_from_slice(help.as_bytes())?;
         add_reply(said, &Reply::Plain)
     }
 
     // Does what a line asks for, appends its reply, and returns whether the console goes on.
-    fn carry_out<B: EngineName<D>, D: Device, C: Clock + Drop, J: Write + Drop, R: Wait>(
+    fn carry_out<
+        B: EngineName<D>,
+        D: Device,
+        C: Clock + Drop,
+        W: Write + Drop,
+        J: Write + Drop,
+        R: Wait,
+    >(
         &mut self,
         caller: &mut Caller<'_, B, D, C, R>,
         line: &[u8],
         answer: &mut Answer,
-        journal: &mut Option<JournalWriter<J>>,
+        streams: &Streams<'_, W, J>,
     ) -> Result<Then, LineFault> {
-        let request = Request::from_line(Dialect::Console, line);
+        let request = Request::from_line(self.dialect, line);
         match request {
             Request::Command(command) => self.do_script(caller, line, &command, answer)?,
             Request::Tick(count) => {
-                add_count(&mut answer.reply, self.walk(caller, count, journal)?)?
+                add_count(&mut answer.reply, self.walk(caller, count, streams)?)?
             }
             Request::Checkpoint => {
-                Self::checkpoint(caller, journal)?;
+                streams.checkpoint(caller.rt, caller.engine, caller.desk)?;
                 add_reply(&mut answer.reply, &Reply::Plain)?;
             }
             Request::List(word, pattern) => {
@@ -438,21 +507,31 @@ impl<E: Write + Drop> Answerer<E> {
             Request::Records | Request::Fields(_) | Request::Choices(_) => {
                 self.describe(caller.alloc, &request, &mut answer.reply)?
             }
-            Request::Help => Self::help(caller.alloc, &mut answer.reply)?,
+            Request::Status => {
+                self.add_status(caller.rt, caller.alloc, streams, &mut answer.reply)?
+            }
+            Request::Help => self.help(caller.alloc, &mut answer.reply)?,
             Request::Exit => return Ok(Then::End),
         }
         Ok(Then::More)
     }
 
     // Answers a line without its tag, and returns whether the console goes on.
-    fn answer_untagged<B: EngineName<D>, D: Device, C: Clock + Drop, J: Write + Drop, R: Wait>(
+    fn answer_untagged<
+        B: EngineName<D>,
+        D: Device,
+        C: Clock + Drop,
+        W: Write + Drop,
+        J: Write + Drop,
+        R: Wait,
+    >(
         &mut self,
         caller: &mut Caller<'_, B, D, C, R>,
         line: &[u8],
         answer: &mut Answer,
-        journal: &mut Option<JournalWriter<J>>,
+        streams: &Streams<'_, W, J>,
     ) -> Result<Then, RunFault> {
-        match self.carry_out(caller, line, answer, journal) {
+        match self.carry_out(caller, line, answer, streams) {
             Ok(then) => Ok(then),
             Err(LineFault::Refused(refused)) => {
                 self.refuse(caller.alloc, refused, &mut answer.reply)?;
@@ -463,16 +542,23 @@ impl<E: Write + Drop> Answerer<E> {
     }
 
     // Answers a line with this tag. A line for which nothing is said is answered `ok`.
-    fn answer_tagged<B: EngineName<D>, D: Device, C: Clock + Drop, J: Write + Drop, R: Wait>(
+    fn answer_tagged<
+        B: EngineName<D>,
+        D: Device,
+        C: Clock + Drop,
+        W: Write + Drop,
+        J: Write + Drop,
+        R: Wait,
+    >(
         &mut self,
         caller: &mut Caller<'_, B, D, C, R>,
         tag: &[u8],
         line: &[u8],
         answer: &mut Answer,
-        journal: &mut Option<JournalWriter<J>>,
+        streams: &Streams<'_, W, J>,
     ) -> Result<Then, RunFault> {
         self.is_tagged = true;
-        let answered = self.answer_untagged(caller, line, answer, journal);
+        let answered = self.answer_untagged(caller, line, answer, streams);
         self.is_tagged = false;
         let then = answered?;
         if answer.reply.is_empty() && matches!(then, Then::More) {
@@ -485,17 +571,24 @@ impl<E: Write + Drop> Answerer<E> {
     }
 
     // Answers a line, and returns whether the console goes on.
-    fn answer<B: EngineName<D>, D: Device, C: Clock + Drop, J: Write + Drop, R: Wait>(
+    fn answer<
+        B: EngineName<D>,
+        D: Device,
+        C: Clock + Drop,
+        W: Write + Drop,
+        J: Write + Drop,
+        R: Wait,
+    >(
         &mut self,
         caller: &mut Caller<'_, B, D, C, R>,
         line: &[u8],
         answer: &mut Answer,
-        journal: &mut Option<JournalWriter<J>>,
+        streams: &Streams<'_, W, J>,
     ) -> Result<Then, RunFault> {
         self.line = self.line.saturating_add(1);
         match Tagged::of(line) {
-            Tagged::Plain(line) => self.answer_untagged(caller, line, answer, journal),
-            Tagged::Tag(tag, line) => self.answer_tagged(caller, tag, line, answer, journal),
+            Tagged::Plain(line) => self.answer_untagged(caller, line, answer, streams),
+            Tagged::Tag(tag, line) => self.answer_tagged(caller, tag, line, answer, streams),
             Tagged::Malformed => {
                 self.say_bad(caller.alloc, line, &mut answer.reply)?;
                 Ok(Then::More)
@@ -518,14 +611,21 @@ impl<I: Read + Drop, E: Write + Drop> Task for Console<I, E> {
         alloc: Global,
         engine: &Engine<B, D, C>,
         desk: &mut Desk<B, D>,
-        streams: &mut Streams<W, J>,
+        streams: &Streams<'_, W, J>,
     ) -> Result<(), RunFault> {
         let Console { input, answerer } = self;
-        let Streams { lines, journal } = streams;
-        if converse(rt, alloc, engine, desk, answerer, journal, input, lines)? {
-            streams.write(b"\n")?;
+        if converse(rt, alloc, engine, desk, answerer, &*streams, input)? {
+            streams.write(rt, b"\n")?;
         }
         Ok(())
+    }
+
+    fn is_endless(&self) -> bool {
+        true
+    }
+
+    fn has_clock(&self) -> bool {
+        self.answerer.dialect == Dialect::Live
     }
 }
 
@@ -537,7 +637,7 @@ fn converse<
     B: EngineName<D>,
     D: Device,
     C: Clock + Drop,
-    W: Write,
+    W: Write + Drop,
     J: Write + Drop,
     R: Wait,
 >(
@@ -546,9 +646,8 @@ fn converse<
     engine: &'a Engine<B, D, C>,
     desk: &'a mut Desk<B, D>,
     answerer: &'a mut Answerer<E>,
-    journal: &'a mut Option<JournalWriter<J>>,
+    streams: &'a Streams<'_, W, J>,
     input: &mut I,
-    lines: &mut W,
 ) -> Result<bool, RunFault> {
     let has_prompt = answerer.has_prompt;
     let caller = Caller {
@@ -557,10 +656,11 @@ fn converse<
         engine,
         desk,
     };
+    let mut out = LineWriter::new(rt, streams);
     let mut talk = Talk {
         answerer,
         caller,
-        journal,
+        streams,
         answer: Answer {
             reply: Vec::new(alloc),
             behind: Vec::new(alloc),
@@ -568,11 +668,9 @@ fn converse<
         has_ended: false,
         fault: None,
     };
-    let mut out = Noted::new(lines);
     let ran = run_script(alloc, &mut talk, input, &mut out);
     let is_prompted = has_prompt && !talk.has_ended;
-    let reason = out.reason;
-    ended(talk.fault, ran, reason)?;
+    ended(talk.fault, ran, out.fault)?;
     Ok(is_prompted)
 }
 
@@ -581,7 +679,7 @@ fn converse<
 fn ended(
     fault: Option<RunFault>,
     ran: Result<(), ScriptFault>,
-    reason: Reason,
+    unwritten: Option<RunFault>,
 ) -> Result<(), RunFault> {
     if let Some(fault) = fault {
         return Err(fault);
@@ -589,7 +687,7 @@ fn ended(
     match ran {
         Ok(()) => Ok(()),
         Err(ScriptFault::Read(reason)) => Err(RunFault::Read(reason)),
-        Err(ScriptFault::Write) => Err(RunFault::Write(reason)),
+        Err(ScriptFault::Write) => Err(unwritten.unwrap_or(RunFault::Memory)),
         Err(ScriptFault::Memory) => Err(RunFault::Memory),
     }
 }
@@ -599,9 +697,10 @@ impl<
     B: EngineName<D>,
     D: Device,
     C: Clock + Drop,
+    W: Write + Drop,
     J: Write + Drop,
     R: Wait,
-> Session for Talk<'_, E, B, D, C, J, R> {
+> Session for Talk<'_, '_, E, B, D, C, W, J, R> {
     ghost use Rattle.std.specs.Prelude.{[]};
     ghost use Rattle.std.proofs.Common.{refl};
 
@@ -619,7 +718,7 @@ impl<
         let caller = &mut self.caller;
         match self
             .answerer
-            .answer(caller, line, &mut self.answer, self.journal)
+            .answer(caller, line, &mut self.answer, self.streams)
         {
             Ok(Then::More) => {}
             Ok(Then::End) => self.has_ended = true,
@@ -634,13 +733,13 @@ impl<
         said.add(reply.as_slice())
     }
 
-    /// Writes the entries of the journal that the pending replies tell of, and those before them.
+    /// Writes the entries of the journal that the pending replies tell of, and those before them, and
+    /// what devices outside are asked in them.
     fn may_write(&mut self) -> bool {
         if let Some(RunFault::Journal(_)) = self.fault {
             return false;
         }
-        let caller = &mut self.caller;
-        match write_entries(self.journal, caller.rt, caller.engine, caller.desk) {
+        match self.caller.write_new(self.streams) {
             Ok(()) => true,
             Err(fault) => {
                 self.fault = Some(fault);

@@ -34,31 +34,30 @@ impl Device for CountingDevice {
     }
 }
 
-// Appends a device with the name that a link has, if it has one.
-fn add_device(
-    devices: &mut Vec<(DeviceName, CountingDevice)>,
-    link: &Link,
-) -> Result<(), AllocError> {
+// Appends the name of the device of a link, if it has one.
+fn add_name(names: &mut Vec<DeviceName>, link: &Link) -> Result<(), AllocError> {
     if let Link::Device(name) = link {
-        devices.push((*name, CountingDevice { reads: 0 }))?;
+        names.push(*name)?;
     }
     Ok(())
 }
 
-// Appends a device for each device that the record owns.
-fn add_devices(
-    devices: &mut Vec<(DeviceName, CountingDevice)>,
-    item: &Record,
-) -> Result<(), AllocError> {
+/// Returns the names of the devices that a record of a loaded database owns.
+///
+/// # Errors
+///
+/// [`AllocError`] if allocation fails.
+pub fn own_devices(alloc: Global, item: &Record) -> Result<Vec<DeviceName>, AllocError> {
+    let mut names = Vec::new(alloc);
     for field in item.link_fields() {
         // A link field is large, so only links to own devices are copied.
         if let Some(kept) = item.link(*field) {
             if kept.in_use() == LinkUse::OwnDevice {
-                add_device(devices, &kept.get().link)?;
+                add_name(&mut names, &kept.get().link)?;
             }
         }
     }
-    Ok(())
+    Ok(names)
 }
 
 /// Returns a device for each name that follows the `@` of a device link of a loaded database. It
@@ -73,7 +72,9 @@ pub fn counting_devices(
 ) -> Result<Vec<(DeviceName, CountingDevice)>, AllocError> {
     let mut devices = Vec::new(alloc);
     for item in &database.records {
-        add_devices(&mut devices, item)?;
+        for name in own_devices(alloc, item)? {
+            devices.push((name, CountingDevice { reads: 0 }))?;
+        }
     }
     Ok(devices)
 }

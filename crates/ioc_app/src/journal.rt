@@ -49,6 +49,11 @@ impl<J: Write + Drop> JournalWriter<J> {
         Ok(writer)
     }
 
+    /// Returns the place of the next entry.
+    pub fn place(&self) -> u64 {
+        self.text.place()
+    }
+
     // Writes the lines that aren't written yet, with a seal behind them if one is due. If that fails,
     // they are left out.
     fn flush(&mut self, is_last: bool) -> Result<(), RunFault> {

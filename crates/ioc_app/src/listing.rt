@@ -90,6 +90,21 @@ pub fn add_count(said: &mut Vec<u8>, count: u64) -> Result<(), AllocError> {
     said.extend_from_slice(count_line(count).as_slice())
 }
 
+/// Appends the line of a count with this name, `- NAME N`.
+///
+/// # Errors
+///
+/// [`AllocError`] if allocation fails.
+pub fn add_named(
+    alloc: Global,
+    said: &mut Vec<u8>,
+    name: &str,
+    count: u64,
+) -> Result<(), AllocError> {
+    let line = format!(in alloc; "- {name} {count}\n")?;
+    said.extend_from_slice(line.as_bytes())
+}
+
 /// Appends the line of a field that was asked for, `= TEXT`.
 ///
 /// # Errors

@@ -67,9 +67,9 @@ pub fn end<B: EngineName<D>, D: Device, W: Write + Drop, J: Write + Drop>(
     alloc: Global,
     report: Report<B, D>,
     ran: Result<(), RunFault>,
-    streams: &mut Streams<W, J>,
+    streams: &mut Streams<'_, W, J>,
 ) -> Result<(), RunFault> {
-    let kept = write_journal(&report, ran, &mut streams.journal);
+    let kept = write_journal(&report, ran, streams.journal());
     let is_complete = report.refused() == 0;
     let lines = lines_of(alloc, report);
     kept?;
@@ -77,8 +77,8 @@ pub fn end<B: EngineName<D>, D: Device, W: Write + Drop, J: Write + Drop>(
         return Err(RunFault::Memory);
     }
     let lines = lines?;
-    if let Some(writer) = &mut streams.journal {
+    if let Some(writer) = streams.journal() {
         writer.write_end()?;
     }
-    streams.write(&lines)
+    streams.write_last(&lines)
 }

@@ -1,8 +1,11 @@
 //! Runs of the program.
+ghost use Rattle.std.specs.Thread.{IsSend};
 ghost use Rattle.ioc_engine.specs.Named.{IsNamedBy};
 
+use crate::asks::Asks;
 use crate::fault::RunFault;
 use crate::journal::JournalWriter;
+use crate::live::beside_clock;
 use crate::report::end;
 use crate::streams::Streams;
 use crate::task::{Task, fault_of};
@@ -13,9 +16,13 @@ use std::io::Write;
 use std::marker::Brand;
 use std::sync::Wait;
 use std::thread::{self, Threads};
+use std::time;
 
 /// The number of calls that a journal can take.
 pub(crate) const PLACES: u64 = 4_194_304;
+
+// The number of entries that stay in memory in a run that may go on for months.
+const KEPT: u64 = 65_536;
 
 // The number of requests that can wait at the same time.
 const MAX_WAITING: usize = 7_000;
@@ -37,11 +44,13 @@ pub struct JournalFile<J: Write + Drop> {
     pub header: Header,
 }
 
-/// Where a run writes to: the lines of the records, and the journal if it is kept.
+/// Where a run writes to: lines, and the journal if it is kept.
 #[derive(Drop)]
-pub struct Outputs<W: Write + Drop, J: Write + Drop> {
+pub struct Outputs<'a, W: Write + Drop, J: Write + Drop> {
     pub lines: W,
     pub journal: Option<JournalFile<J>>,
+    /// What devices outside are asked, which is told in lines.
+    pub asks: &'a Asks,
 }
 
 // Serves the requests that wait, until none does or many were served.
@@ -57,30 +66,46 @@ fn serve_waiting<B: EngineName<D>, D: Device, C: Clock + Drop, R: Wait>(
     }
 }
 
-// Does a task, serves the requests that wait then, and closes the engine.
+// Does a task, by the clock if there is a second desk, serves the requests that wait then, and closes
+// the engine.
 fn work_and_close<
-    B: EngineName<D>,
-    D: Device,
-    C: Clock + Drop,
+    B: EngineName<D> + Send + Sync,
+    D: Device + Send + Sync,
+    C: Clock + Drop + Send + Sync,
     T: Task,
-    W: Write + Drop,
-    J: Write + Drop,
-    R: Wait,
+    W: Write + Drop + Send,
+    J: Write + Drop + Send,
+    R: time::Clock + Threads + Wait + Sync,
 >(
     rt: &R,
     alloc: Global,
     engine: &Engine<B, D, C>,
     desk: Desk<B, D>,
+    second: Option<Desk<B, D>>,
     task: &mut T,
-    streams: &mut Streams<W, J>,
+    streams: &Streams<'_, W, J>,
 ) -> Result<(), RunFault> {
     let mut desk = desk;
-    let worked = task.work(rt, alloc, engine, &mut desk, streams);
+    let worked = match second {
+        Some(second) => beside_clock(rt, alloc, engine, &mut desk, second, task, streams),
+        None => task.work(rt, alloc, engine, &mut desk, streams),
+    };
     if worked.is_ok() {
         serve_waiting(rt, engine, &mut desk);
     }
     engine.close(rt);
     worked
+}
+
+// Opens a desk.
+fn open_desk<B: EngineName<D>, D: Device, C: Clock + Drop, R: Wait>(
+    rt: &R,
+    engine: &Engine<B, D, C>,
+) -> Result<Desk<B, D>, RunFault> {
+    match engine.desk(rt) {
+        Ok(desk) => Ok(desk),
+        Err(refused) => Err(fault_of(refused)),
+    }
 }
 
 // Opens this many desks.
@@ -92,10 +117,7 @@ fn desks<B: EngineName<D>, D: Device, C: Clock + Drop, R: Wait>(
 ) -> Result<Vec<Desk<B, D>>, RunFault> {
     let mut desks = Vec::new(alloc);
     for _ in 0..count {
-        let desk = match engine.desk(rt) {
-            Ok(desk) => desk,
-            Err(refused) => return Err(fault_of(refused)),
-        };
+        let desk = open_desk(rt, engine)?;
         if desks.push(desk).is_err() {
             return Err(RunFault::Memory);
         }
@@ -135,26 +157,30 @@ fn in_threads<
     D: Device + Send + Sync,
     C: Clock + Drop + Send + Sync,
     T: Task,
-    W: Write + Drop,
-    J: Write + Drop,
-    R: Threads + Wait + Sync,
+    W: Write + Drop + Send,
+    J: Write + Drop + Send,
+    R: time::Clock + Threads + Wait + Sync,
 >(
     rt: &R,
     alloc: Global,
     engine: &Engine<B, D, C>,
     workers: u64,
     task: &mut T,
-    streams: &mut Streams<W, J>,
+    streams: &Streams<'_, W, J>,
 ) -> Result<(), RunFault> {
-    let desk = match engine.desk(rt) {
-        Ok(desk) => desk,
-        Err(refused) => return Err(fault_of(refused)),
+    let desk = open_desk(rt, engine)?;
+    let second = if task.has_clock() {
+        Some(open_desk(rt, engine)?)
+    } else {
+        None
     };
     let workers = desks(rt, alloc, engine, workers)?;
     let (served, worked) = thread::join(
         rt,
         || serve_all(rt, engine, workers),
-        || work_and_close(rt, alloc, engine, desk, task, streams),
+        || -> Result<(), RunFault>
+            requires { IsSend B.row × IsSend D.row × IsSend C.row × IsSend W.row × IsSend J.row }
+        { work_and_close(rt, alloc, engine, desk, second, task, streams) },
     );
     worked?;
     served
@@ -164,24 +190,34 @@ fn in_threads<
 fn writer_of<J: Write + Drop>(
     alloc: Global,
     journal: Option<JournalFile<J>>,
+    is_endless: bool,
 ) -> Result<Option<JournalWriter<J>>, RunFault> {
     let Some(JournalFile { file, header }) = journal else {
         return Ok(None);
     };
-    let writer = JournalWriter::begin(alloc, file, &header, PLACES / 4)?;
+    let most = if is_endless { KEPT } else { PLACES / 4 };
+    let writer = JournalWriter::begin(alloc, file, &header, most)?;
     Ok(Some(writer))
 }
 
-// Returns the limits of an engine, which makes its checkpoints itself if its journal isn't kept.
-fn limits(is_kept: bool) -> Limits {
-    if is_kept {
-        Limits {
+// Returns the limits of an engine, which makes its checkpoints itself if its journal isn't kept. Sets
+// keep one event each, and a run that may go on for months keeps few entries too.
+fn limits(is_kept: bool, is_endless: bool) -> Limits {
+    match (is_kept, is_endless) {
+        (true, _) => Limits {
             journal: PLACES,
             checkpoint_at: 0,
-            history: 64,
-        }
-    } else {
-        Limits::of(PLACES)
+            history: 1,
+        },
+        (false, true) => Limits {
+            journal: 4 * KEPT,
+            checkpoint_at: KEPT,
+            history: 1,
+        },
+        (false, false) => Limits {
+            history: 1,
+            ..Limits::of(PLACES)
+        },
     }
 }
 
@@ -191,9 +227,9 @@ fn work<
     D: Device + Send + Sync,
     C: Clock + Drop + Send + Sync,
     T: Task,
-    W: Write + Drop,
-    J: Write + Drop,
-    R: Threads + Wait + Sync,
+    W: Write + Drop + Send,
+    J: Write + Drop + Send,
+    R: time::Clock + Threads + Wait + Sync,
 >(
     rt: &R,
     alloc: Global,
@@ -201,11 +237,11 @@ fn work<
     clock: C,
     workers: u64,
     task: &mut T,
-    streams: &mut Streams<W, J>,
+    streams: &mut Streams<'_, W, J>,
 ) -> Result<(), RunFault>
     requires named { IsNamedBy B.table B.base B.devices B.places B.tickets B.counts seed }
 {
-    let limits = limits(streams.journal.is_some());
+    let limits = limits(streams.journal().is_some(), task.is_endless());
     let Ok(engine) = Engine::<B, D, C>::start(rt, alloc, seed, clock, limits) else {
         return Err(RunFault::Start);
     };
@@ -218,9 +254,9 @@ fn run<
     D: Device + Send + Sync,
     C: Clock + Drop + Send + Sync,
     T: Task,
-    W: Write + Drop,
-    J: Write + Drop,
-    R: Threads + Wait + Sync,
+    W: Write + Drop + Send,
+    J: Write + Drop + Send,
+    R: time::Clock + Threads + Wait + Sync,
 >(
     rt: &R,
     alloc: Global,
@@ -228,7 +264,7 @@ fn run<
     clock: C,
     workers: u64,
     task: &mut T,
-    streams: &mut Streams<W, J>,
+    streams: &mut Streams<'_, W, J>,
 ) -> Result<(), RunFault> {
     work::<Brand, D, C, T, W, J, R>(rt, alloc, seed, clock, workers, task, streams)
 }
@@ -247,15 +283,15 @@ pub fn ioc_run<
     D: Device + Send + Sync,
     C: Clock + Drop + Send + Sync,
     T: Task,
-    W: Write + Drop,
-    J: Write + Drop,
-    R: Threads + Wait + Sync,
+    W: Write + Drop + Send,
+    J: Write + Drop + Send,
+    R: time::Clock + Threads + Wait + Sync,
 >(
     rt: &R,
     alloc: Global,
     plant: Plant<D, C>,
     task: &mut T,
-    outputs: Outputs<W, J>,
+    outputs: Outputs<'_, W, J>,
 ) -> Result<(), RunFault> {
     let Plant {
         database,
@@ -263,11 +299,13 @@ pub fn ioc_run<
         clock,
         workers,
     } = plant;
-    let Outputs { lines, journal } = outputs;
-    let mut streams = Streams {
+    let Outputs {
         lines,
-        journal: writer_of(alloc, journal)?,
-    };
+        journal,
+        asks,
+    } = outputs;
+    let writer = writer_of(alloc, journal, task.is_endless())?;
+    let mut streams = Streams::new(lines, writer, asks);
     let Ok(seed) = Seed::new(alloc, database, devices) else {
         return Err(RunFault::Start);
     };

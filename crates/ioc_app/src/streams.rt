@@ -1,25 +1,80 @@
-//! What a run writes.
+//! What the threads of a run write.
+use crate::asks::{Asked, Asks};
+use crate::caller::LineFault;
 use crate::fault::RunFault;
 use crate::journal::JournalWriter;
+use crate::pace::{Next, Pace};
 use ioc_command_line::Reason;
-use ioc_engine::{Desk, Device, Engine, EngineName};
-use std::io::{self, Write};
-use std::sync::Wait;
+use ioc_engine::{Desk, Device, Engine, EngineName, IocError};
+use std::alloc::Global;
+use std::io::{self, ErrorKind, Write};
+use std::sync::{Mutex, Wait};
 
-/// What a run writes: lines, and the journal if it is kept.
-#[derive(Drop)]
-pub struct Streams<W: Write + Drop, J: Write + Drop> {
-    pub lines: W,
-    pub journal: Option<JournalWriter<J>>,
+/// How a run is doing.
+#[derive(Clone, Copy)]
+pub struct Counts {
+    pub pace: Pace,
+    /// How many entries the journal's file has, if it is kept.
+    pub entries: Option<u64>,
+    /// How many asks devices outside were told.
+    pub told: u64,
 }
 
-impl<W: Write + Drop, J: Write + Drop> Streams<W, J> {
-    /// Writes all of a text at once.
-    ///
-    /// # Errors
-    ///
-    /// [`RunFault::Write`] if a write fails.
-    pub fn write(&mut self, text: &[u8]) -> Result<(), RunFault> {
+/// What the threads of a run write, under one lock: lines, and the journal if it is kept. No line is
+/// written before the journal's file has each entry that the line tells of. After a write that failed
+/// nothing more is written.
+#[derive(Drop)]
+pub struct Streams<'a, W: Write + Drop, J: Write + Drop> {
+    written: Mutex<Written<W, J>>,
+    pub asks: &'a Asks,
+}
+
+// What is written under the lock.
+#[derive(Drop)]
+struct Written<W: Write + Drop, J: Write + Drop> {
+    lines: W,
+    journal: Option<JournalWriter<J>>,
+    pace: Pace,
+    told: u64,
+    fault: Option<RunFault>,
+}
+
+// Waits until the call is done in which a device was asked.
+fn settle<B: EngineName<D>, D: Device, C: Drop, R: Wait>(
+    rt: &R,
+    engine: &Engine<B, D, C>,
+    desk: &mut Desk<B, D>,
+    asks: &Asks,
+    asked: &Asked,
+) -> Result<(), RunFault> {
+    let Some(number) = asks.record(asked) else {
+        return Ok(());
+    };
+    match engine.look(rt, desk, number, &[]) {
+        Err(IocError::NoMemory) => Err(RunFault::Memory),
+        _ => Ok(()),
+    }
+}
+
+impl<W: Write + Drop, J: Write + Drop> Written<W, J> {
+    // Returns the fault of the write that failed, if one did.
+    fn check(&self) -> Result<(), RunFault> {
+        match self.fault {
+            Some(fault) => Err(fault),
+            None => Ok(()),
+        }
+    }
+
+    // Keeps the fault of a write, if it failed.
+    fn keep(&mut self, done: Result<(), RunFault>) -> Result<(), RunFault> {
+        if let Err(fault) = done {
+            self.fault = Some(fault);
+        }
+        done
+    }
+
+    // Writes all of a text at once.
+    fn write_text(&mut self, text: &[u8]) -> Result<(), RunFault> {
         if let Err(error) = self.lines.write_all(text) {
             return Err(RunFault::Write(Reason::of(&error)));
         }
@@ -29,72 +84,187 @@ impl<W: Write + Drop, J: Write + Drop> Streams<W, J> {
         }
     }
 
-    /// Writes what is new in the journal, if it is kept.
-    ///
-    /// # Errors
-    ///
-    /// [`RunFault::Journal`] if a write fails. [`RunFault::Memory`] if allocation fails.
-    pub fn write_new<B: EngineName<D>, D: Device, C: Drop, R: Wait>(
+    // Writes what is new in the journal, if it is kept.
+    fn write_entries<B: EngineName<D>, D: Device, C: Drop, R: Wait>(
         &mut self,
         rt: &R,
         engine: &Engine<B, D, C>,
         desk: &mut Desk<B, D>,
     ) -> Result<(), RunFault> {
-        write_entries(&mut self.journal, rt, engine, desk)
+        match &mut self.journal {
+            Some(writer) => writer.write_new(rt, engine, desk),
+            None => Ok(()),
+        }
+    }
+
+    // Writes what is new: the entries, and what devices are asked in them.
+    fn write_new<B: EngineName<D>, D: Device, C: Drop, R: Wait>(
+        &mut self,
+        rt: &R,
+        alloc: Global,
+        engine: &Engine<B, D, C>,
+        desk: &mut Desk<B, D>,
+        asks: &Asks,
+    ) -> Result<(), RunFault> {
+        let all = asks.take(rt, alloc)?;
+        for asked in &all {
+            settle(rt, engine, desk, asks, asked)?;
+        }
+        self.write_entries(rt, engine, desk)?;
+        let mut text = Vec::new(alloc);
+        for asked in &all {
+            asks.add_line(alloc, &mut text, asked)?;
+        }
+        self.told = self.told.saturating_add(all.len() as u64);
+        if text.is_empty() {
+            return Ok(());
+        }
+        self.write_text(&text)
     }
 }
 
-/// Writes what is new in a journal, if it is kept.
-///
-/// # Errors
-///
-/// [`RunFault::Journal`] if a write fails. [`RunFault::Memory`] if allocation fails.
-pub fn write_entries<B: EngineName<D>, D: Device, C: Drop, J: Write + Drop, R: Wait>(
-    journal: &mut Option<JournalWriter<J>>,
-    rt: &R,
-    engine: &Engine<B, D, C>,
-    desk: &mut Desk<B, D>,
-) -> Result<(), RunFault> {
-    match journal {
-        Some(writer) => writer.write_new(rt, engine, desk),
-        None => Ok(()),
+impl<'a, W: Write + Drop, J: Write + Drop> Streams<'a, W, J> {
+    /// Takes what is written to.
+    pub fn new(lines: W, journal: Option<JournalWriter<J>>, asks: &'a Asks) -> Self {
+        Streams {
+            written: Mutex::new(Written {
+                lines,
+                journal,
+                pace: Pace::new(),
+                told: 0,
+                fault: None,
+            }),
+            asks,
+        }
+    }
+
+    /// Writes whole lines, or a prompt, at once.
+    ///
+    /// # Errors
+    ///
+    /// [`RunFault::Write`] if a write fails, or the fault of an earlier one.
+    pub fn write<R: Wait>(&self, rt: &R, text: &[u8]) -> Result<(), RunFault> {
+        let mut guard = self.written.lock(rt);
+        let written = &mut *guard;
+        written.check()?;
+        let done = written.write_text(text);
+        written.keep(done)
+    }
+
+    /// Writes what is new in the journal, if it is kept, then a line for each device outside that was
+    /// asked something.
+    ///
+    /// # Errors
+    ///
+    /// [`RunFault::Journal`] or [`RunFault::Write`] if a write fails. [`RunFault::Memory`] if
+    /// allocation fails. The same if an earlier write has failed.
+    pub fn write_new<B: EngineName<D>, D: Device, C: Drop, R: Wait>(
+        &self,
+        rt: &R,
+        alloc: Global,
+        engine: &Engine<B, D, C>,
+        desk: &mut Desk<B, D>,
+    ) -> Result<(), RunFault> {
+        let mut guard = self.written.lock(rt);
+        let written = &mut *guard;
+        written.check()?;
+        let done = written.write_new(rt, alloc, engine, desk, self.asks);
+        written.keep(done)
+    }
+
+    /// Makes a checkpoint. If the journal is kept, the entries that leave memory are written.
+    ///
+    /// # Errors
+    ///
+    /// As [`Engine::checkpoint`], or [`RunFault::Journal`] if a write fails.
+    pub fn checkpoint<B: EngineName<D>, D: Device, C: Drop, R: Wait>(
+        &self,
+        rt: &R,
+        engine: &Engine<B, D, C>,
+        desk: &mut Desk<B, D>,
+    ) -> Result<(), LineFault> {
+        let mut guard = self.written.lock(rt);
+        let written = &mut *guard;
+        written.check()?;
+        let Some(writer) = &mut written.journal else {
+            return Ok(engine.checkpoint(rt)?);
+        };
+        let done = writer.checkpoint(rt, engine, desk);
+        Ok(written.keep(done)?)
+    }
+
+    /// Counts a tick that begins so many nanoseconds after the start of the clock.
+    pub fn count_tick<R: Wait>(&self, rt: &R, next: Next, elapsed: u64) {
+        let mut guard = self.written.lock(rt);
+        let written = &mut *guard;
+        written.pace.count(next, elapsed);
+    }
+
+    /// Returns how the run is doing.
+    pub fn counts<R: Wait>(&self, rt: &R) -> Counts {
+        let guard = self.written.lock(rt);
+        let written = &*guard;
+        Counts {
+            pace: written.pace,
+            entries: match &written.journal {
+                Some(writer) => Some(writer.place()),
+                None => None,
+            },
+            told: written.told,
+        }
+    }
+
+    /// Returns the journal, if it is kept. No other thread writes any more.
+    pub fn journal(&mut self) -> &mut Option<JournalWriter<J>> {
+        &mut self.written.get_mut().journal
+    }
+
+    /// Writes lines. No other thread writes any more.
+    ///
+    /// # Errors
+    ///
+    /// [`RunFault::Write`] if a write fails.
+    pub fn write_last(&mut self, text: &[u8]) -> Result<(), RunFault> {
+        self.written.get_mut().write_text(text)
     }
 }
 
-/// A writer that keeps why it failed last.
+/// The lines of a run as a writer: each write is one of [`Streams::write`].
 #[derive(Drop)]
-pub struct Noted<'w, W: Write> {
-    out: &'w mut W,
+pub struct LineWriter<'s, 'a, W: Write + Drop, J: Write + Drop, R: Wait> {
+    rt: &'s R,
+    streams: &'s Streams<'a, W, J>,
     /// Why the last write that failed did.
-    pub reason: Reason,
+    pub fault: Option<RunFault>,
 }
 
-impl<'w, W: Write> Noted<'w, W> {
+impl<'s, 'a, W: Write + Drop, J: Write + Drop, R: Wait> LineWriter<'s, 'a, W, J, R> {
     /// No write has failed yet.
-    pub fn new(out: &'w mut W) -> Self {
-        Noted {
-            out,
-            reason: Reason::Other,
+    pub fn new(rt: &'s R, streams: &'s Streams<'a, W, J>) -> Self {
+        LineWriter {
+            rt,
+            streams,
+            fault: None,
         }
     }
 }
 
-impl<W: Write> Write for Noted<'_, W> {
+impl<W: Write + Drop, J: Write + Drop, R: Wait> Write for LineWriter<'_, '_, W, J, R> {
     ghost use Rattle.std.specs.Prelude.{None};
 
     ghost contents = { λ _. None };
 
     fn write(&mut self, bytes: &[u8]) -> io::Result<usize> {
-        match self.out.write(bytes) {
-            Ok(count) => Ok(count),
-            Err(error) => {
-                self.reason = Reason::of(&error);
-                Err(error)
+        match self.streams.write(self.rt, bytes) {
+            Ok(()) => Ok(bytes.len()),
+            Err(fault) => {
+                self.fault = Some(fault);
+                Err(io::Error::from(ErrorKind::Other))
             }
         }
     }
 
     fn flush(&mut self) -> io::Result<()> {
-        self.out.flush()
+        Ok(())
     }
 }

@@ -1,22 +1,22 @@
 //! A file whose bytes are on the disk soon.
-use std::fs::{Files, OpenFile};
+use std::fs::OpenFile;
 use std::io::{self, Write};
 use std::time::{Clock, Duration, Instant};
 
 /// A file of which all bytes that are written are brought to the disk once a second, if that is asked
 /// for.
 #[derive(Drop)]
-pub struct SyncedFile<'r, R: Files + Clock> {
+pub struct SyncedFile<'r, F: Write + OpenFile + Drop, R: Clock> {
     rt: &'r R,
-    file: R::File,
+    file: F,
     syncs: bool,
     // When they were brought there last.
     last: Option<Instant>,
 }
 
-impl<'r, R: Files + Clock> SyncedFile<'r, R> {
+impl<'r, F: Write + OpenFile + Drop, R: Clock> SyncedFile<'r, F, R> {
     /// Takes a file.
-    pub fn new(rt: &'r R, file: R::File, syncs: bool) -> Self {
+    pub fn new(rt: &'r R, file: F, syncs: bool) -> Self {
         SyncedFile {
             rt,
             file,
@@ -34,7 +34,7 @@ impl<'r, R: Files + Clock> SyncedFile<'r, R> {
     }
 }
 
-impl<R: Files + Clock> Write for SyncedFile<'_, R> {
+impl<F: Write + OpenFile + Drop, R: Clock> Write for SyncedFile<'_, F, R> {
     ghost use Rattle.std.specs.Prelude.{None};
 
     ghost contents = { λ _. None };

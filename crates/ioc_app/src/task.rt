@@ -28,8 +28,14 @@ pub trait Task {
         alloc: Global,
         engine: &Engine<B, D, C>,
         desk: &mut Desk<B, D>,
-        streams: &mut Streams<W, J>,
+        streams: &Streams<'_, W, J>,
     ) -> Result<(), RunFault>;
+
+    /// Returns whether the task may go on for months, so that the engine keeps few entries in memory.
+    fn is_endless(&self) -> bool;
+
+    /// Returns whether another thread walks the periods by a clock meanwhile.
+    fn has_clock(&self) -> bool;
 }
 
 /// Walks the periods of so many ticks, without waiting between them.
@@ -78,12 +84,20 @@ impl Task for Ticks {
         alloc: Global,
         engine: &Engine<B, D, C>,
         desk: &mut Desk<B, D>,
-        streams: &mut Streams<W, J>,
+        streams: &Streams<'_, W, J>,
     ) -> Result<(), RunFault> {
         for number in 1..=self.0 {
             tick(rt, alloc, engine, desk, number)?;
-            streams.write_new(rt, engine, desk)?;
+            streams.write_new(rt, alloc, engine, desk)?;
         }
         Ok(())
+    }
+
+    fn is_endless(&self) -> bool {
+        false
+    }
+
+    fn has_clock(&self) -> bool {
+        false
     }
 }

@@ -1,5 +1,5 @@
 //! The command line of the program.
-use clap::{Arg, ArgAction, Command, value_parser};
+use clap::{Arg, ArgAction, ArgMatches, Command, value_parser};
 use ioc_command_line::{
     Program, Stop, UsageFault, definitions_argument, definitions_in, file_argument, macros_in,
     macros_option, parse,
@@ -37,6 +37,8 @@ const SETS: &str = "sets";
 
 const WHOLE: &str = "whole";
 
+const SEALED: &str = "sealed";
+
 /// What a command line asks for.
 #[derive(Drop)]
 pub struct Words<'a> {
@@ -47,14 +49,16 @@ pub struct Words<'a> {
     pub macros: Macros,
     /// The place of the last entry that is checked, if not all are.
     pub at: Option<u64>,
-    /// The fields that are shown, each as `REC.F`.
+    /// The fields that are shown, each as `REC.F`, or `REC` for its field VAL.
     pub shown: Vec<&'a str>,
-    /// The name of the record whose changes are shown.
-    pub traced: Option<&'a str>,
+    /// The names of the records whose changes are shown.
+    pub traced: Vec<&'a str>,
     /// Whether the lock sets are shown.
     pub sets: bool,
     /// Whether the run has to have ended.
     pub whole: bool,
+    /// Whether the journal has to have seals.
+    pub sealed: bool,
     /// The definitions of macros, each behind a byte 0.
     pub definitions: Vec<u8>,
 }
@@ -74,12 +78,14 @@ fn with_options<'a>(alloc: Global, command: Command<'a>) -> Result<Command<'a>, 
                 .long(SHOW)
                 .value_name("REC.F")
                 .action(ArgAction::Append)
-                .help("shows the field F of the record REC at the end"),
+                .help("shows the field F of the record REC at the end, VAL if there is no F"),
         )?
         .arg(
-            Arg::new(alloc, TRACE).long(TRACE).value_name("REC").help(
-                "shows each entry that changes the record REC, and what it changes",
-            ),
+            Arg::new(alloc, TRACE)
+                .long(TRACE)
+                .value_name("REC")
+                .action(ArgAction::Append)
+                .help("shows each entry that changes the record REC, and what it changes"),
         )?
         .arg(
             Arg::new(alloc, SETS)
@@ -94,6 +100,12 @@ fn with_options<'a>(alloc: Global, command: Command<'a>) -> Result<Command<'a>, 
                 .help(
                     "takes a journal only if its run has ended, and it is sealed to its end if it has seals",
                 ),
+        )?
+        .arg(
+            Arg::new(alloc, SEALED)
+                .long(SEALED)
+                .action(ArgAction::SetTrue)
+                .help("takes a journal only if it has seals"),
         )
 }
 
@@ -112,6 +124,19 @@ fn command<'a>(alloc: Global) -> Result<Command<'a>, AllocError> {
     with_options(alloc, command)
 }
 
+// Returns the words of an option that may be given several times.
+fn all_of<'a>(
+    alloc: Global,
+    matches: &ArgMatches<'a>,
+    id: &str,
+) -> Result<Vec<&'a str>, AllocError> {
+    let mut words = Vec::new(alloc);
+    for word in matches.get_strs(id).unwrap_or(&[]) {
+        words.push(*word)?;
+    }
+    Ok(words)
+}
+
 impl<'a> Words<'a> {
     /// Parses the words of a command line: the program's name, DB, JOURNAL, definitions of macros
     /// and options.
@@ -126,19 +151,16 @@ impl<'a> Words<'a> {
         else {
             return Err(Stop::Usage(UsageFault::NoArgument));
         };
-        let mut shown = Vec::new(alloc);
-        for word in matches.get_strs(SHOW).unwrap_or(&[]) {
-            shown.push(*word).map_err(AllocError::from)?;
-        }
         Ok(Words {
             database,
             journal,
             macros: macros_in(alloc, &matches)?,
             at: matches.get_one::<u64>(AT),
-            shown,
-            traced: matches.get_str(TRACE),
+            shown: all_of(alloc, &matches, SHOW)?,
+            traced: all_of(alloc, &matches, TRACE)?,
             sets: matches.get_flag(SETS),
             whole: matches.get_flag(WHOLE),
+            sealed: matches.get_flag(SEALED),
             definitions: definitions_in(alloc, &matches)?,
         })
     }

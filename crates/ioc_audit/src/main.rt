@@ -56,9 +56,9 @@ fn run<R: BufRead, W: Write>(
     let found = found_in(alloc, &database, words)?;
     let Database { records, .. } = database;
     let mut auditor = Auditor::new(alloc, records)?;
-    let mut trace = match found.traced {
-        Some(number) => Some(Trace::new(alloc, auditor.map(), number)?),
-        None => None,
+    let mut trace = match found.traced.as_slice() {
+        [] => None,
+        numbers => Some(Trace::new(alloc, auditor.map(), numbers)?),
     };
     let hash = database_hash(text, words.definitions.as_slice());
     let most = words.most();

@@ -25,7 +25,7 @@ pub struct Place {
 #[derive(Drop)]
 pub struct Found {
     pub shown: Vec<Place>,
-    pub traced: Option<RecordNo>,
+    pub traced: Vec<RecordNo>,
 }
 
 // Returns the fault of a word that names nothing.
@@ -46,17 +46,18 @@ fn record_in(database: &Database, name: &[u8]) -> Result<RecordNo, IocError> {
     }
 }
 
-// Finds the field that REC.F names.
+// Finds the field that REC.F names; REC alone is its field VAL.
 fn place_in(database: &Database, word: &str) -> Result<Place, IocError> {
     let (name, rest) = split_at_byte(b'.', word.as_bytes());
     let number = record_in(database, name)?;
     let Some(record) = database.records.get(number.index()) else {
         return Err(IocError::NoRecord);
     };
-    let ([_, name @ ..], record_type) = (rest, record.record_type()) else {
-        return Err(IocError::NoField);
+    let name = match rest {
+        [] => b"VAL".as_slice(),
+        [_, name @ ..] => name,
     };
-    match field(record_type, name) {
+    match field(record.record_type(), name) {
         Some(field) => Ok(Place {
             record: number,
             field,
@@ -78,13 +79,13 @@ pub fn found_in(alloc: Global, database: &Database, words: &Words<'_>) -> Result
             Err(error) => return Err(refused(alloc, "show", word, error)),
         }
     }
-    let traced = match words.traced {
-        Some(name) => match record_in(database, name.as_bytes()) {
-            Ok(number) => Some(number),
+    let mut traced = Vec::new(alloc);
+    for name in words.traced.as_slice() {
+        match record_in(database, name.as_bytes()) {
+            Ok(number) => traced.push(number).map_err(AllocError::from)?,
             Err(error) => return Err(refused(alloc, "trace", name, error)),
-        },
-        None => None,
-    };
+        }
+    }
     Ok(Found { shown, traced })
 }
 

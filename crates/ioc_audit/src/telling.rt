@@ -105,10 +105,22 @@ fn agreement(
     frame: &Frame,
 ) -> Result<Telling, AllocError> {
     let (name, journal) = (PROGRAM.name, words.journal);
+    if words.sealed && !frame.is_sealed {
+        let text = format!(in alloc; "{name}: journal '{journal}' has no seals\n")?;
+        return Ok(Telling::Fault(text));
+    }
     let lack = lack_of(audited, frame);
     if let (true, Some(lack)) = (words.whole, lack) {
         let text = format!(in alloc; "{name}: journal '{journal}' isn't whole: {lack}\n")?;
         return Ok(Telling::Fault(text));
+    }
+    if let Some(place) = words.at {
+        if frame.entries <= place {
+            let text = format!(in alloc;
+                "{name}: journal '{journal}' has no entry at place {place}\n"
+            )?;
+            return Ok(Telling::Agreement(Some(text)));
+        }
     }
     if frame.has_header {
         return Ok(Telling::Agreement(None));

@@ -64,9 +64,10 @@ fn tells(alloc: Global, change: &Change, said: &[u8], fault: &str) -> Result<boo
         macros: Macros::new(alloc),
         at: None,
         shown: Vec::new(alloc),
-        traced: None,
+        traced: Vec::new(alloc),
         sets: false,
         whole: false,
+        sealed: false,
         definitions: Vec::new(alloc),
     };
     let journal = journal_of(alloc, change)?;

@@ -1,5 +1,5 @@
 -- What the lines of a user or a program ask for: those of a script, and `tick N`, `checkpoint`, `dbl TYPE PATTERN`, `dbpr REC`,
--- `put# REC.F TEXT`, `notify# REC.F TEXT`, `read REC F..`, `records`, `fields TYPE`, `menu NAME`, `help`, `exit`.
+-- `put# REC.F TEXT`, `notify# REC.F TEXT`, `read REC F..`, `records`, `fields TYPE`, `menu NAME`, `status`, `help`, `exit`.
 -- Application Developer's Guide, "IOC Test Facilities".
 use Rattle.std.specs.Prelude.{ℕ, ◌^◌, List, [], ◌∷◌, length, codes, nat_lt, ◌==◌, ◌&&◌, if◌then◌else◌, Bool, true, false, Option, Some, None, option_map, unwrap_or}
 use Rattle.ioc_values.specs.Number.{numeral, below}
@@ -29,6 +29,7 @@ pub data Request : Type 0 where
   Records : Request
   Fields : (record-type : List ℕ) → Request
   Choices : (menu : List ℕ) → Request
+  Status : Request
   Help : Request
   Exit : Request
 
@@ -119,6 +120,7 @@ asked_by verbs.Read words = read_of words
 asked_by verbs.Records words = alone words Records
 asked_by verbs.Fields words = fields_of words
 asked_by verbs.Choices words = choices_of words
+asked_by verbs.Status words = alone words Status
 asked_by verbs.Checkpoint words = alone words Checkpoint
 asked_by verbs.Help words = alone words Help
 asked_by verbs.Exit words = alone words Exit
@@ -152,5 +154,6 @@ seen (code.Read name fields) = Read name.now fields.now
 seen code.Records = Records
 seen (code.Fields record-type) = Fields record-type.now
 seen (code.Choices menu) = Choices menu.now
+seen code.Status = Status
 seen code.Help = Help
 seen code.Exit = Exit

@@ -5,7 +5,7 @@ use Rattle.std.specs.Cmp.Lexicographic.{pointwise}
 use Rattle.ioc_commands.specs.declared.verb.Verb.{Verb}
 use Rattle.ioc_commands.specs.declared.verb.Verb.TheVariants as verb
 use Rattle.ioc_commands.specs.declared.verb.Dialect.{Dialect}
-use Rattle.ioc_commands.specs.declared.verb.Dialect.TheVariants.{Script, Prompt, Console}
+use Rattle.ioc_commands.specs.declared.verb.Dialect.TheVariants.{Script, Prompt, Console, Live}
 
 -- The first words that are meant for programs, by their spelling.
 abbrev pub program_verb_named : List ℕ → Option Verb
@@ -16,7 +16,8 @@ program_verb_named word =
     else (if pointwise nat_eq word (codes "records") then Some verb.Records
     else (if pointwise nat_eq word (codes "fields") then Some verb.Fields
     else (if pointwise nat_eq word (codes "menu") then Some verb.Choices
-    else None)))))
+    else (if pointwise nat_eq word (codes "status") then Some verb.Status
+    else None))))))
 
 -- The first words that no script has, by their spelling.
 abbrev pub user_verb_named : List ℕ → Option Verb
@@ -51,9 +52,10 @@ verb_named word =
     else (if pointwise nat_eq word (codes "sets") then Some verb.Sets
     else user_verb_named word))))))))))))))
 
--- A script says when something happens and what devices answer; the console has a clock and devices of its own.
+-- A script says when something happens and what devices answer next; a console has devices of its own.
 abbrev pub in_scripts : Dialect → Bool
 in_scripts Console = false
+in_scripts Live = false
 in_scripts dialect = true
 
 -- A user may ask for help, and end.
@@ -61,34 +63,40 @@ abbrev pub of_users : Dialect → Bool
 of_users Script = false
 of_users dialect = true
 
-abbrev pub of_the_console : Dialect → Bool
-of_the_console Console = true
-of_the_console dialect = false
+abbrev pub of_consoles : Dialect → Bool
+of_consoles Console = true
+of_consoles Live = true
+of_consoles dialect = false
+
+-- Time passes by the lines of a console, unless it has a clock of its own.
+abbrev pub without_a_clock : Dialect → Bool
+without_a_clock Console = true
+without_a_clock dialect = false
 
 -- Whether a line may begin with this word.
 abbrev pub knows : Dialect → Verb → Bool
 knows dialect verb.At = in_scripts dialect
 knows dialect verb.Next = in_scripts dialect
-knows dialect verb.Done = in_scripts dialect
-knows dialect verb.Fault = in_scripts dialect
 knows dialect verb.Tally = in_scripts dialect
 knows dialect verb.Dbpf = of_users dialect
 knows dialect verb.Dbgf = of_users dialect
 knows dialect verb.Help = of_users dialect
 knows dialect verb.Exit = of_users dialect
-knows dialect verb.Tick = of_the_console dialect
-knows dialect verb.Checkpoint = of_the_console dialect
-knows dialect verb.List = of_the_console dialect
-knows dialect verb.Show = of_the_console dialect
-knows dialect verb.PutPlaced = of_the_console dialect
-knows dialect verb.NotifyPlaced = of_the_console dialect
-knows dialect verb.Read = of_the_console dialect
-knows dialect verb.Records = of_the_console dialect
-knows dialect verb.Fields = of_the_console dialect
-knows dialect verb.Choices = of_the_console dialect
+knows dialect verb.Tick = without_a_clock dialect
+knows dialect verb.Checkpoint = of_consoles dialect
+knows dialect verb.List = of_consoles dialect
+knows dialect verb.Show = of_consoles dialect
+knows dialect verb.PutPlaced = of_consoles dialect
+knows dialect verb.NotifyPlaced = of_consoles dialect
+knows dialect verb.Read = of_consoles dialect
+knows dialect verb.Records = of_consoles dialect
+knows dialect verb.Fields = of_consoles dialect
+knows dialect verb.Choices = of_consoles dialect
+knows dialect verb.Status = of_consoles dialect
 knows dialect _ = true
 
 -- How many bytes a line may have, without its line feed.
 abbrev pub most_bytes : Dialect → ℕ
 most_bytes Console = 4096
+most_bytes Live = 4096
 most_bytes dialect = 1024

@@ -101,8 +101,13 @@ fn by_verb<'a>(verb: Verb, words: &'a [u8]) -> BadLine<'a> {
         | Verb::NotifyPlaced => with_field(verb, word, rest),
         Verb::At | Verb::Cancel | Verb::Tick => with_number(verb, word, rest),
         Verb::Scan => BadLine::NoPeriod(Quoted(words)),
-        Verb::Sets | Verb::Tally | Verb::Checkpoint | Verb::Records | Verb::Help | Verb::Exit =>
-            BadLine::TooMuch(verb, words),
+        Verb::Sets
+        | Verb::Tally
+        | Verb::Checkpoint
+        | Verb::Records
+        | Verb::Status
+        | Verb::Help
+        | Verb::Exit => BadLine::TooMuch(verb, words),
         _ if word.is_empty() => BadLine::Lacks(verb),
         Verb::Next => with_answer(verb, rest),
         Verb::Done | Verb::Fault => with_wait(verb, rest),

@@ -179,6 +179,7 @@ fn with_words(is_value: bool, verb: Verb, words: &[u8]) -> Command<'_>
         | Verb::Records
         | Verb::Fields
         | Verb::Choices
+        | Verb::Status
         | Verb::Help
         | Verb::Exit => Command::Bad,
     }

@@ -45,6 +45,8 @@ pub enum Request<'a> {
     Fields(&'a [u8]),
     /// Prints the choices of the menu with this name.
     Choices(&'a [u8]),
+    /// Prints how the program is doing.
+    Status,
     Help,
     /// Ends the lines.
     Exit,
@@ -93,6 +95,7 @@ fn asked_by<'a>(verb: Verb, words: Option<&'a [u8]>) -> Request<'a>
         Verb::Records => alone(words, Request::Records),
         Verb::Fields => fields(words),
         Verb::Choices => menu(words),
+        Verb::Status => alone(words, Request::Status),
         Verb::Checkpoint => alone(words, Request::Checkpoint),
         Verb::Help => alone(words, Request::Help),
         Verb::Exit => alone(words, Request::Exit),

@@ -15,7 +15,7 @@ pub struct Form {
 }
 
 /// The forms of all commands, in the order in which help prints them.
-pub static FORMS: [Form; 29] = [
+pub static FORMS: [Form; 30] = [
     Form {
         verb: Verb::Process,
         line: "process REC",
@@ -176,6 +176,12 @@ pub static FORMS: [Form; 29] = [
         verb: Verb::Choices,
         line: "menu NAME",
         about: "for programs: a line '- N TEXT' for each choice",
+        shell: "",
+    },
+    Form {
+        verb: Verb::Status,
+        line: "status",
+        about: "for programs: a line '- NAME VALUE' for each count of the run",
         shell: "",
     },
     Form {

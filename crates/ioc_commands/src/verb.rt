@@ -38,6 +38,7 @@ pub enum Verb {
     Fields,
     /// The word `menu`.
     Choices,
+    Status,
     Help,
     Exit,
 }
@@ -51,6 +52,8 @@ pub enum Dialect {
     Prompt,
     /// The console of `ioc`.
     Console,
+    /// The console of an `ioc` that has a clock of its own.
+    Live,
 }
 
 impl Verb {
@@ -135,6 +138,8 @@ fn of_a_program(word: &[u8]) -> Option<Verb>
         Some(Verb::Fields)
     } else if word == b"menu".as_slice() {
         Some(Verb::Choices)
+    } else if word == b"status".as_slice() {
+        Some(Verb::Status)
     } else {
         None
     }
@@ -155,13 +160,15 @@ impl Dialect {
             | Verb::Interrupt
             | Verb::Scan
             | Verb::Link
-            | Verb::Sets => true,
-            Verb::At | Verb::Next | Verb::Done | Verb::Fault | Verb::Tally => {
-                self != Dialect::Console
+            | Verb::Sets
+            | Verb::Done
+            | Verb::Fault => true,
+            Verb::At | Verb::Next | Verb::Tally => {
+                matches!(self, Dialect::Script | Dialect::Prompt)
             }
             Verb::Dbpf | Verb::Dbgf | Verb::Help | Verb::Exit => self != Dialect::Script,
-            Verb::Tick
-            | Verb::Checkpoint
+            Verb::Tick => self == Dialect::Console,
+            Verb::Checkpoint
             | Verb::List
             | Verb::Show
             | Verb::PutPlaced
@@ -169,7 +176,8 @@ impl Dialect {
             | Verb::Read
             | Verb::Records
             | Verb::Fields
-            | Verb::Choices => self == Dialect::Console,
+            | Verb::Choices
+            | Verb::Status => matches!(self, Dialect::Console | Dialect::Live),
         }
     }
 
@@ -179,7 +187,7 @@ impl Dialect {
     {
         match self {
             Dialect::Script | Dialect::Prompt => 1024,
-            Dialect::Console => 4096,
+            Dialect::Console | Dialect::Live => 4096,
         }
     }
 }

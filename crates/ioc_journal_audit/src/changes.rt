@@ -17,11 +17,17 @@ struct Shown {
     text: FieldText,
 }
 
-/// The fields of a record as they were last, to tell what an entry has changed.
+// The fields of a record as they were last.
 #[derive(Drop)]
-pub struct Trace {
+struct Traced {
     record: RecordNo,
     shown: Vec<Shown>,
+}
+
+/// The fields of some records as they were last, to tell what an entry has changed.
+#[derive(Drop)]
+pub struct Trace {
+    records: Vec<Traced>,
 }
 
 // Returns the text of a field, which is that of another value only if it is shown in the same way. A
@@ -48,9 +54,18 @@ fn shown_of(alloc: Global, record: &Record) -> Result<Vec<Shown>, AllocError> {
     Ok(shown)
 }
 
-// Appends the line of a changed field.
-fn add_change(out: &mut Vec<u8>, before: &Shown, text: &FieldText) -> Result<(), AllocError> {
+// Appends the line of a changed field, with the name of its record if there is one.
+fn add_change(
+    out: &mut Vec<u8>,
+    name: &[u8],
+    before: &Shown,
+    text: &FieldText,
+) -> Result<(), AllocError> {
     out.push(b'\t')?;
+    if !name.is_empty() {
+        out.extend_from_slice(name)?;
+        out.push(b'.')?;
+    }
     out.extend_from_slice(name_of(before.field).as_bytes())?;
     out.push(b' ')?;
     add_shown_text(out, before.text.as_slice())?;
@@ -60,8 +75,37 @@ fn add_change(out: &mut Vec<u8>, before: &Shown, text: &FieldText) -> Result<(),
     Ok(())
 }
 
+impl Traced {
+    // Appends a line for each field that was changed.
+    fn add_changes(
+        &mut self,
+        map: &PlayedMap<Record>,
+        has_name: bool,
+        out: &mut Vec<u8>,
+    ) -> Result<(), AllocError> {
+        if !map.has(self.record) {
+            return Ok(());
+        }
+        let record = map.record(self.record);
+        let name = record.common().name;
+        let name = if has_name {
+            name.as_slice()
+        } else {
+            b"".as_slice()
+        };
+        for shown in self.shown.iter_mut() {
+            let text = exact_text_of(record, shown.field);
+            if text != shown.text {
+                add_change(out, name, shown, &text)?;
+                shown.text = text;
+            }
+        }
+        Ok(())
+    }
+}
+
 impl Trace {
-    /// Creates the trace of a record, from now on.
+    /// Creates the trace of these records, from now on.
     ///
     /// # Errors
     ///
@@ -69,44 +113,46 @@ impl Trace {
     pub fn new(
         alloc: Global,
         map: &PlayedMap<Record>,
-        record: RecordNo,
+        numbers: &[RecordNo],
     ) -> Result<Self, AllocError> {
-        let shown = if map.has(record) {
-            shown_of(alloc, map.record(record))?
-        } else {
-            Vec::new(alloc)
-        };
-        Ok(Trace { record, shown })
+        let mut records = Vec::new(alloc);
+        for number in numbers {
+            let shown = if map.has(*number) {
+                shown_of(alloc, map.record(*number))?
+            } else {
+                Vec::new(alloc)
+            };
+            records.push(Traced {
+                record: *number,
+                shown,
+            })?;
+        }
+        Ok(Trace { records })
     }
 
     /// Appends the line of an entry and a line `FIELD old -> new` for each field of the record that
-    /// it has changed, or nothing if it has changed none.
+    /// it has changed, or nothing if it has changed none. If there are several records, the line of a
+    /// field has `REC.FIELD`.
     ///
     /// # Errors
     ///
     /// [`AllocError`] if allocation fails.
     pub fn add_changes(
         &mut self,
+        alloc: Global,
         map: &PlayedMap<Record>,
         entry: &[u8],
         out: &mut Vec<u8>,
     ) -> Result<(), AllocError> {
-        if !map.has(self.record) {
+        let has_names = self.records.len() > 1;
+        let mut changes = Vec::new(alloc);
+        for traced in self.records.iter_mut() {
+            traced.add_changes(map, has_names, &mut changes)?;
+        }
+        if changes.is_empty() {
             return Ok(());
         }
-        let record = map.record(self.record);
-        let mut is_first = true;
-        for shown in self.shown.iter_mut() {
-            let text = exact_text_of(record, shown.field);
-            if text != shown.text {
-                if is_first {
-                    out.extend_from_slice(entry)?;
-                }
-                is_first = false;
-                add_change(out, shown, &text)?;
-                shown.text = text;
-            }
-        }
-        Ok(())
+        out.extend_from_slice(entry)?;
+        out.extend_from_slice(changes.as_slice())
     }
 }

@@ -132,7 +132,7 @@ fn trace_line<W: Write>(
         return Ok(());
     };
     let mut said = Vec::new(alloc);
-    trace.add_changes(auditor.map(), text, &mut said)?;
+    trace.add_changes(alloc, auditor.map(), text, &mut said)?;
     match out.write_all(said.as_slice()) {
         Ok(()) => Ok(()),
         Err(e) => Err(AuditFault::Write(e)),

@@ -1,11 +1,14 @@
 //! A run of the program `ioc`.
-use ioc_app::{Header, JournalFile, Outputs, Plant, RunFault, Ticks, counting_devices, ioc_run};
+use ioc_app::{
+    Asks, Header, JournalFile, Outputs, Plant, RunFault, Ticks, counting_devices, ioc_run,
+};
 use ioc_engine::{CountingClock, LoadError, Macros, load};
 use ioc_values::Short;
 use std::alloc::Global;
 use std::sync::Wait;
 use std::test::Fail;
 use std::thread::Threads;
+use std::time::Clock;
 
 // A level that is scanned at each tick, with a panel that shows it, and a flow that is scanned at
 // each tenth tick and posts an event, on which the pump waits. One record is processed at the start.
@@ -28,7 +31,7 @@ enum NoRun {
 }
 
 // Runs the plant for 100 ticks with four workers, and appends what is written.
-fn run<R: Threads + Wait + Sync>(
+fn run<R: Clock + Threads + Wait + Sync>(
     rt: &R,
     alloc: Global,
     lines: &mut Vec<u8>,
@@ -39,7 +42,7 @@ fn run<R: Threads + Wait + Sync>(
         Ok(database) => database,
         Err(error) => return Err(NoRun::Load(error)),
     };
-    let Ok(devices) = counting_devices(alloc, &database) else {
+    let (Ok(devices), Ok(asks)) = (counting_devices(alloc, &database), Asks::none(alloc)) else {
         return Err(NoRun::Load(LoadError::NoMemory));
     };
     let plant = Plant {
@@ -59,6 +62,7 @@ fn run<R: Threads + Wait + Sync>(
                 first: 0,
             },
         }),
+        asks: &asks,
     };
     match ioc_run(rt, alloc, plant, &mut Ticks(100), outputs) {
         Ok(()) => Ok(()),

@@ -6,6 +6,7 @@ pub returns : goal.returns
 returns c = record {
   database = first_some c.args.matches.now (codes "DB") c.get_str.result c.in-Some.database c.get_str.ensures c.in-Some.is;
   mode = c.in_ok-mode.ensures;
+  devices = c.in_ok-devices.ensures;
   workers = c.in_ok-workers.ensures;
   journal = first_is c.args.matches.now (codes "journal") c.get_str-2.result c.get_str-2.ensures;
   overwrites = c.is_given.ensures;
