@@ -13,14 +13,17 @@ tank = {"level": 0, "speed": 0}
 
 
 def send(line):
-    ioc.stdin.write(line + "\n")
-    ioc.stdin.flush()
+    try:
+        ioc.stdin.write(line + "\n")
+        ioc.stdin.flush()
+    except BrokenPipeError:
+        pass  # it has ended meanwhile
 
 
 def scene():
     send("put tank:pump 3")
     time.sleep(2)
-    ioc.stdin.close()  # the end of the input ends the run
+    send("exit")
 
 
 threading.Thread(target=scene).start()

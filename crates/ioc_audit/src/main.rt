@@ -3,19 +3,21 @@
 #![tactic(auto)]
 
 mod command;
+mod restoring;
 mod showing;
 mod telling;
 #[cfg(test)]
 mod tests;
 
 use crate::command::{PROGRAM, Words};
+use crate::restoring::{Restored, restore};
 use crate::showing::{Found, add_shown, found_in};
-use crate::telling::{Telling, told_of};
+use crate::telling::{Telling, told_of, told_of_base};
 use ioc_command_line::{
     Ending, FileRole, Reason, Stage, Stop, bad_database, given, open, read_whole, show, unreadable,
 };
 use ioc_dbfile::{Database, load};
-use ioc_journal_audit::{AuditFault, Auditor, Trace, audit_file};
+use ioc_journal_audit::{AuditFault, Auditor, FileBegun, FileFound, Trace, audit_file, begin_file};
 use ioc_journal_lines::database_hash;
 use ioc_values::LoadError;
 use std::alloc::Global;
@@ -35,16 +37,46 @@ fn stop_of(alloc: Global, fault: AuditFault, journal: &str) -> Stop {
     }
 }
 
-// Loads the database of a text.
-fn loaded(alloc: Global, words: &Words<'_>, text: &[u8]) -> Result<Database, Stop> {
-    match load(alloc, text, &words.macros) {
+/// Returns the database that a load of the text gave.
+///
+/// # Errors
+///
+/// [`Stop::BadDbIn`] if the text was refused. [`Stop::Memory`] if allocation failed.
+pub(crate) fn loaded(
+    alloc: Global,
+    words: &Words<'_>,
+    read: Result<Database, LoadError>,
+) -> Result<Database, Stop> {
+    match read {
         Ok(database) => Ok(database),
         Err(LoadError::BadDb(fault)) => Err(bad_database(alloc, words.database, fault)),
         Err(LoadError::NoMemory) => Err(Stop::Memory(Stage::Loading)),
     }
 }
 
-// Audits a journal, and writes what was asked for.
+// Audits the entries of a journal, and writes the changes that were asked for.
+fn audited<R: BufRead, W: Write>(
+    alloc: Global,
+    words: &Words<'_>,
+    found: &Found,
+    auditor: &mut Auditor,
+    begun: FileBegun,
+    journal: &mut R,
+    out: &mut W,
+) -> Result<FileFound, Stop> {
+    let mut trace = match found.traced.as_slice() {
+        [] => None,
+        numbers => Some(Trace::new(alloc, auditor.map(), numbers)?),
+    };
+    let most = words.most();
+    match audit_file(alloc, auditor, begun, journal, most, &mut trace, out) {
+        Ok(audited) => Ok(audited),
+        Err(fault) => Err(stop_of(alloc, fault, words.journal)),
+    }
+}
+
+// Audits a journal on the database of a text, with the saved values that its run has taken, and writes
+// what was asked for.
 fn run<R: BufRead, W: Write>(
     alloc: Global,
     words: &Words<'_>,
@@ -52,21 +84,20 @@ fn run<R: BufRead, W: Write>(
     journal: &mut R,
     out: &mut W,
 ) -> Result<Telling, Stop> {
-    let database = loaded(alloc, words, text)?;
+    let database = loaded(alloc, words, load(alloc, text, &words.macros))?;
     let found = found_in(alloc, &database, words)?;
-    let Database { records, .. } = database;
-    let mut auditor = Auditor::new(alloc, records)?;
-    let mut trace = match found.traced.as_slice() {
-        [] => None,
-        numbers => Some(Trace::new(alloc, auditor.map(), numbers)?),
-    };
     let hash = database_hash(text, words.definitions.as_slice());
-    let most = words.most();
-    let audited = audit_file(alloc, &mut auditor, journal, &hash, most, &mut trace, out);
-    let audited = match audited {
-        Ok(audited) => audited,
+    let begun = match begin_file(alloc, journal, &hash) {
+        Ok(begun) => begun,
         Err(fault) => return Err(stop_of(alloc, fault, words.journal)),
     };
+    let database = match restore(alloc, words, text, database, begun.bases.as_slice())? {
+        Restored::Database(database) => database,
+        Restored::Fault(line, fault) => return Ok(told_of_base(alloc, words, line, fault)?),
+    };
+    let Database { records, .. } = database;
+    let mut auditor = Auditor::new(alloc, records)?;
+    let audited = audited(alloc, words, &found, &mut auditor, begun, journal, out)?;
     let mut said = Vec::new(alloc);
     add_shown(alloc, words, &found, auditor.map(), &audited, &mut said)?;
     match out.write_all(said.as_slice()) {

@@ -1,5 +1,6 @@
 //! What the program tells of an audit.
 use crate::command::{PROGRAM, Words};
+use crate::restoring::BaseFault;
 use ioc_command_line::{Ending, Stop, Stream};
 use ioc_journal_audit::{Audited, Difference, FileFault, FileFound, Frame, Tail};
 use ioc_journal_file::{Line, print};
@@ -129,6 +130,32 @@ fn agreement(
         "{name}: journal '{journal}' has no header, as those of older programs: whether it is of this database, and whether its run has ended, isn't known\n"
     )?;
     Ok(Telling::Agreement(Some(text)))
+}
+
+/// Returns what is said of a base line whose value the database doesn't take.
+///
+/// # Errors
+///
+/// [`AllocError`] if allocation fails.
+pub fn told_of_base(
+    alloc: Global,
+    words: &Words<'_>,
+    line: u64,
+    fault: BaseFault,
+) -> Result<Telling, AllocError> {
+    let (name, journal) = (PROGRAM.name, words.journal);
+    let mut text = format!(in alloc; "{name}: journal '{journal}' line {line}: ")?;
+    match fault {
+        BaseFault::NoRecord => text.push_str("no such record is in the database\n")?,
+        BaseFault::NoField => text.push_str("the record has no such field\n")?,
+        BaseFault::NoText => text.push_str("no database text gives the field this value\n")?,
+        BaseFault::Refused(kind) => writeln!(
+            text,
+            "the field doesn't take this value: {}",
+            kind.words()
+        )?,
+    }
+    Ok(Telling::Fault(text))
 }
 
 /// Returns what an audit says of the journal of a database with this hash.

@@ -3,7 +3,7 @@ use crate::run;
 use crate::telling::Telling;
 use ioc_command_line::Stop;
 use ioc_dblex::Macros;
-use ioc_journal_lines::{Header, add_header, database_hash};
+use ioc_journal_lines::{Header, Seals, add_header, add_seal, database_hash};
 use ioc_values::Short;
 use std::alloc::{AllocError, Global};
 use std::test::*;
@@ -56,9 +56,18 @@ fn journal_of(alloc: Global, change: &Change) -> Result<Vec<u8>, AllocError> {
     Ok(journal)
 }
 
+// A database text, and the text of a journal of it.
+#[derive(Clone, Copy)]
+struct Case<'a> {
+    text: &'a [u8],
+    journal: &'a [u8],
+    // A field that is shown at the end.
+    shown: &'static str,
+}
+
 // Returns whether an audit of this journal tells this on its outputs.
-fn tells(alloc: Global, change: &Change, said: &[u8], fault: &str) -> Result<bool, Stop> {
-    let words = Words {
+fn audit_tells(alloc: Global, case: &Case<'_>, said: &[u8], fault: &str) -> Result<bool, Stop> {
+    let mut words = Words {
         database: "valve.db",
         journal: "valve.journal",
         macros: Macros::new(alloc),
@@ -70,15 +79,28 @@ fn tells(alloc: Global, change: &Change, said: &[u8], fault: &str) -> Result<boo
         sealed: false,
         definitions: Vec::new(alloc),
     };
-    let journal = journal_of(alloc, change)?;
-    let mut left = journal.as_slice();
+    if !case.shown.is_empty() {
+        words.shown.push(case.shown).map_err(AllocError::from)?;
+    }
+    let mut left = case.journal;
     let mut out = Vec::new(alloc);
-    let told = run(alloc, &words, DATABASE, &mut left, &mut out)?;
+    let told = run(alloc, &words, case.text, &mut left, &mut out)?;
     let is_told = match &told {
         Telling::Agreement(note) => note.is_none() && fault.is_empty(),
         Telling::Fault(text) => text.as_bytes() == fault.as_bytes(),
     };
     Ok(is_told && out.as_slice() == said)
+}
+
+// Returns whether an audit of the changed journal tells this on its outputs.
+fn tells(alloc: Global, change: &Change, said: &[u8], fault: &str) -> Result<bool, Stop> {
+    let journal = journal_of(alloc, change)?;
+    let case = Case {
+        text: DATABASE,
+        journal: journal.as_slice(),
+        shown: "",
+    };
+    audit_tells(alloc, &case, said, fault)
 }
 
 // Each change of the entries, and the fault that is told.
@@ -191,5 +213,142 @@ fn first_difference(rt: HostRuntime) -> Result<(), Stop> {
     for (change, fault) in &CHANGES {
         assert!(rt; tells(rt.alloc(), change, b"", fault)?);
     }
+    Ok(())
+}
+
+// Gets of values that are restored: the first record's description, and the second one's value.
+const GETS: &[u8] = b"0\t0\t0\t1000\tget\t0\tDESC\t\"a \\22b\\22 \\5c $ #\\0a\\09\\01.\"\t0\n\
+1\t0\t1\t1001\tget\t1\tVAL\t\"7\"\t0\n";
+
+const DESCRIPTION: &[u8] = b"base\tlevel.DESC a \"b\" \\\\ $ #\\n\\t\\x01.\n";
+
+const VALUE: &[u8] = b"base\tcopy.VAL 7\n";
+
+// Returns a journal with these lines behind the header of the text.
+fn journal_with(
+    alloc: Global,
+    text: &[u8],
+    is_sealed: bool,
+    lines: &[&[u8]],
+) -> Result<Vec<u8>, AllocError> {
+    let mut journal = Vec::new(alloc);
+    let header = Header {
+        program: Short::cut(b"0.1.0"),
+        database: database_hash(text, b""),
+        is_sealed,
+        first: 0,
+    };
+    add_header(&mut journal, &header)?;
+    for line in lines {
+        journal.extend_from_slice(*line)?;
+    }
+    Ok(journal)
+}
+
+// Returns whether an audit of a journal with these lines tells this on its outputs.
+fn lines_tell(alloc: Global, lines: &[&[u8]], said: &[u8], fault: &str) -> Result<bool, Stop> {
+    let journal = journal_with(alloc, DATABASE, false, lines)?;
+    let case = Case {
+        text: DATABASE,
+        journal: journal.as_slice(),
+        shown: "",
+    };
+    audit_tells(alloc, &case, said, fault)
+}
+
+#[test]
+fn restored_values_agree(rt: HostRuntime) -> Result<(), Stop> {
+    let alloc = rt.alloc();
+    let without_end =
+        b"record(longin,\"level\"){}\nrecord(longin,\"copy\"){} # the copy".as_slice();
+    for text in &[DATABASE, without_end] {
+        let journal = journal_with(alloc, *text, false, &[DESCRIPTION, VALUE, GETS])?;
+        let case = Case {
+            text: *text,
+            journal: journal.as_slice(),
+            shown: "copy.VAL",
+        };
+        let said = b"copy.VAL 7\n2 entries agree, and the run did not end\n".as_slice();
+        assert!(rt; audit_tells(alloc, &case, said, "")?);
+    }
+    Ok(())
+}
+
+#[test]
+fn restored_value_lost(rt: HostRuntime) -> Result<(), Stop> {
+    let fault = "ioc-audit: journal 'valve.journal' line 4: another reply: \
+        1\t0\t1\t1001\tget\t1\tVAL\t\"0\"\t0\n";
+    assert!(rt; lines_tell(rt.alloc(), &[DESCRIPTION, GETS], b"", fault)?);
+    Ok(())
+}
+
+// Lines behind the header that are refused, and what is told of them.
+static REFUSED: [(&[u8], &str); 8] = [
+    (
+        b"base\tlevle.VAL 7\n",
+        "line 3: no such record is in the database\n",
+    ),
+    (
+        b"base\tlevel.DESK 7\n",
+        "line 3: the record has no such field\n",
+    ),
+    (
+        b"base\tlevel.DESC $(P)\n",
+        "line 3: no database text gives the field this value\n",
+    ),
+    (
+        b"base\tlevel.VAL seven\n",
+        "line 3: the field doesn't take this value: bad value\n",
+    ),
+    (
+        b"base\tlevel.PACT 1\n",
+        "line 3: the field doesn't take this value: field not settable\n",
+    ),
+    (b"base\tlevel.VAL \\x37\n", "line 3: no entry\n"),
+    (b"base level.VAL 7\n", "line 3: no entry\n"),
+    (
+        b"0\t0\t0\t1000\tget\t1\tVAL\t\"7\"\t0\nbase\tlevel.VAL 7\n",
+        "line 4: no entry\n",
+    ),
+];
+
+#[test]
+fn base_lines_refused(rt: HostRuntime) -> Result<(), Stop> {
+    let alloc = rt.alloc();
+    for (line, told) in &REFUSED {
+        let mut fault = String::from_str(alloc, "ioc-audit: journal 'valve.journal' ")?;
+        fault.push_str(told)?;
+        assert!(rt; lines_tell(alloc, &[VALUE, *line, GETS], b"", fault.as_str())?);
+    }
+    let cut = b"line 3 is cut off; 0 entries agree\n".as_slice();
+    assert!(rt; lines_tell(alloc, &[VALUE, b"base\tlevel.V"], cut, "")?);
+    Ok(())
+}
+
+#[test]
+fn seals_cover_base_lines(rt: HostRuntime) -> Result<(), Stop> {
+    let alloc = rt.alloc();
+    let mut journal = journal_with(alloc, DATABASE, true, &[DESCRIPTION, VALUE, GETS])?;
+    let mut seals = Seals::new();
+    seals.cover(journal.as_slice());
+    let hash = seals.hash()?;
+    add_seal(&mut journal, &hash)?;
+    let mut case = Case {
+        text: DATABASE,
+        journal: journal.as_slice(),
+        shown: "",
+    };
+    let said = b"2 entries agree under 1 seal, and the run did not end\n".as_slice();
+    assert!(rt; audit_tells(alloc, &case, said, "")?);
+    let mut changed = journal_with(
+        alloc,
+        DATABASE,
+        true,
+        &[b"base\tlevel.HIGH 5\n", DESCRIPTION, VALUE, GETS],
+    )?;
+    add_seal(&mut changed, &hash)?;
+    case.journal = changed.as_slice();
+    let fault = "ioc-audit: journal 'valve.journal' line 7: other lines were sealed\n";
+    assert!(rt; audit_tells(alloc, &case, b"", fault)?);
     Ok(())
 }

@@ -11,7 +11,7 @@ use Rattle.ioc_command_line.specs.declared.reason.Reason.{Reason}
 use Rattle.ioc_command_line.specs.declared.reason.Reason.TheVariants as reason
 use Rattle.ioc_command_line.specs.declared.ending.Stage.TheVariants.{Loading, Line, Run}
 use Rattle.ioc_command_line.specs.declared.ending.FileRole.{FileRole}
-use Rattle.ioc_command_line.specs.declared.ending.FileRole.TheVariants.{Database, Script, Journal}
+use Rattle.ioc_command_line.specs.declared.ending.FileRole.TheVariants.{Database, Script, Journal, Request, Saved}
 use Rattle.ioc_command_line.specs.declared.ending.UsageFault.{UsageFault}
 use Rattle.ioc_command_line.specs.declared.ending.UsageFault.TheVariants.{NoDefinition, NoArgument, NotText}
 use Rattle.ioc_command_line.specs.declared.ending.Stop.{Stop}
@@ -59,6 +59,8 @@ unfoldable pub role_text : FileRole → List ℕ
 role_text Database = codes "database"
 role_text Script = codes "script"
 role_text Journal = codes "journal"
+role_text Request = codes "request file"
+role_text Saved = codes "saved file"
 
 -- The words for a fault of the command line.
 unfoldable pub usage_text : UsageFault → List ℕ

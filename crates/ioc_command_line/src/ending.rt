@@ -22,6 +22,10 @@ pub enum FileRole {
     Database,
     Script,
     Journal,
+    /// Names the channels that are saved.
+    Request,
+    /// Has their values.
+    Saved,
 }
 
 /// When memory ran out.
@@ -186,6 +190,8 @@ impl fmt::Display for FileRole {
             FileRole::Database => "database",
             FileRole::Script => "script",
             FileRole::Journal => "journal",
+            FileRole::Request => "request file",
+            FileRole::Saved => "saved file",
         })
     }
 }

@@ -162,7 +162,7 @@ impl<K: RecordKind + Drop, B: SetsName<K, D>, D: Device> EngineCore<K, B, D> {
 }
 
 // Waits for a set that was busy, if there was one.
-fn wait_for<K: RecordKind + Drop, B: SetsName<K, D>, D: Device, R: Wait>(
+pub(crate) fn wait_for<K: RecordKind + Drop, B: SetsName<K, D>, D: Device, R: Wait>(
     rt: &R,
     busy: Option<BusySet<'_, K, B, D>>,
 ) {

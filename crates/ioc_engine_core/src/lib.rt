@@ -25,6 +25,7 @@ pub mod opening;
 mod parts;
 mod posting;
 pub mod queueing;
+mod record_copies;
 pub mod report;
 mod sending;
 pub mod serving;

@@ -172,9 +172,9 @@ impl<K: RecordKind, B: JournalName<K>> Journal<K, B> {
         }
     }
 
-    // Returns the number of calls, with those whose entries were dropped.
+    /// Returns the number of calls, with those whose entries were dropped.
     #[inline(always)]
-    pub(crate) fn len(&self) -> u64
+    pub fn len(&self) -> u64
         ensures count { result ≡ length self.now.filled }
         ensures few { result < 2 ^ 64 - 1 }
     {

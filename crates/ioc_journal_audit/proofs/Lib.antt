@@ -10,3 +10,4 @@ mod Starting
 mod Comparing
 mod Checking
 mod Reading
+mod Basing

@@ -6,3 +6,4 @@ pub mod Redoing
 pub mod Legal
 pub mod Audit
 pub mod Journal
+pub mod Bases

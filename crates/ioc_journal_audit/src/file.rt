@@ -1,9 +1,12 @@
-//! Audits of the files of journals: their headers, their entries, their seals and their ends.
+//! Audits of the files of journals: their headers, the saved values that their runs have taken, their
+//! entries, their seals and their ends.
 use crate::auditor::Auditor;
+use crate::bases::{Bases, first_byte, read_bases};
 use crate::changes::Trace;
 use crate::difference::Difference;
 use crate::journal::{AuditFault, Audited, LastLine, audit, next_line};
 use ioc_journal_lines::{Seals, end_of, header_of, seal_of};
+use ioc_saved::SavedValue;
 use std::alloc::Global;
 use std::io::{BufRead, Write};
 
@@ -61,6 +64,18 @@ pub enum FileFound {
     Fault(FileFault),
 }
 
+/// The file of a journal up to its first entry.
+#[derive(Drop)]
+pub struct FileBegun {
+    /// The saved values that its run has taken, in their order. The first one stands on line 2, and each
+    /// of the others on the line behind the one before it.
+    pub bases: Vec<SavedValue>,
+    last: LastLine,
+    frame: Frame,
+    // What was found, if no entries are to be checked.
+    found: Option<FileFound>,
+}
+
 // What a line is that is no entry.
 #[derive(Clone, Copy)]
 enum Other {
@@ -84,6 +99,15 @@ impl Frame {
         }
     }
 
+    // Returns how the file ends if no end stands behind its entries.
+    fn without_end(&self) -> Tail {
+        if self.has_header {
+            Tail::Running
+        } else {
+            Tail::Unknown
+        }
+    }
+
     // Returns the number of the line that was read last.
     fn line(&self) -> u64 {
         self.entries.saturating_add(self.others).saturating_add(1)
@@ -93,6 +117,20 @@ impl Frame {
     fn count(&mut self, entries: u64) {
         self.entries = self.entries.saturating_add(entries);
         self.unsealed = self.unsealed.saturating_add(entries);
+    }
+
+    // Counts the lines of saved values behind a header. Returns what was found if the line behind them
+    // begins as they do and is none.
+    fn take_bases(&mut self, bases: &Bases, last: &LastLine) -> Option<FileFound> {
+        self.others = self.others.saturating_add(bases.values.len() as u64);
+        if !bases.is_broken {
+            return None;
+        }
+        let audited = match last.text.as_slice() {
+            [.., b'\n'] => Audited::NoEntry(0),
+            _ => Audited::CutOff(0),
+        };
+        Some(self.found(audited))
     }
 
     // Counts a seal, if it is that of the lines before it.
@@ -182,14 +220,6 @@ fn end<R: BufRead>(
     Ok(FileFound::Checked(Audited::Agree(frame.entries), *frame))
 }
 
-// Returns whether the first line begins as an entry does, with a digit, if there is a line.
-fn begins_with_a_digit<R: BufRead>(journal: &mut R) -> Result<Option<bool>, AuditFault> {
-    match journal.fill_buf() {
-        Ok(bytes) => Ok(bytes.first().map(u8::is_ascii_digit)),
-        Err(e) => Err(AuditFault::Read(e)),
-    }
-}
-
 // What the first line of a file is.
 #[derive(Drop)]
 enum Begun {
@@ -204,10 +234,10 @@ fn begin<R: BufRead>(
     last: &mut LastLine,
     database: &[u8; 32],
 ) -> Result<Begun, AuditFault> {
-    match begins_with_a_digit(journal)? {
+    match first_byte(journal)? {
         None => return Ok(Begun::Found(FileFound::Fault(FileFault::Empty))),
-        Some(true) => return Ok(Begun::Frame(Frame::new(false, false))),
-        Some(false) => {}
+        Some(b'0'..=b'9') => return Ok(Begun::Frame(Frame::new(false, false))),
+        Some(_) => {}
     }
     next_line(journal, &mut last.text)?;
     let Some(header) = header_of(alloc, &last.text)? else {
@@ -233,9 +263,43 @@ fn begin<R: BufRead>(
     Ok(Begun::Frame(frame))
 }
 
-/// Audits the file of a journal of the database with this hash, as [`audit`] does its entries: its
-/// header is that of the database, each seal is that of the lines before it, and its end, if it has
-/// one, is that of the entries before it and the last line, or the last but its seal.
+/// Reads the file of a journal up to its first entry: its header, which has to be that of the database
+/// with this hash, and the saved values that its run has taken.
+///
+/// # Errors
+///
+/// [`AuditFault::Read`] if a read fails, and [`AuditFault::Memory`] if allocation fails.
+pub fn begin_file<R: BufRead>(
+    alloc: Global,
+    journal: &mut R,
+    database: &[u8; 32],
+) -> Result<FileBegun, AuditFault> {
+    let mut last = LastLine::new(alloc);
+    let (mut frame, found) = match begin(alloc, journal, &mut last, database)? {
+        Begun::Frame(frame) => (frame, None),
+        Begun::Found(found) => (Frame::new(false, false), Some(found)),
+    };
+    if !frame.has_header || found.is_some() {
+        return Ok(FileBegun {
+            bases: Vec::new(alloc),
+            last,
+            frame,
+            found,
+        });
+    }
+    let bases = read_bases(alloc, journal, &mut last)?;
+    let found = frame.take_bases(&bases, &last);
+    Ok(FileBegun {
+        bases: bases.values,
+        last,
+        frame,
+        found,
+    })
+}
+
+/// Audits the file of a journal that was begun, on a database that has the saved values, as [`audit`]
+/// does its entries: each seal is that of the lines before it, and its end, if it has one, is that of the
+/// entries before it and the last line, or the last but its seal.
 ///
 /// # Errors
 ///
@@ -243,28 +307,28 @@ fn begin<R: BufRead>(
 pub fn audit_file<R: BufRead, W: Write>(
     alloc: Global,
     auditor: &mut Auditor,
+    begun: FileBegun,
     journal: &mut R,
-    database: &[u8; 32],
     most: u64,
     trace: &mut Option<Trace>,
     out: &mut W,
 ) -> Result<FileFound, AuditFault> {
-    let mut last = LastLine::new(alloc);
-    let mut frame = match begin(alloc, journal, &mut last, database)? {
-        Begun::Frame(frame) => frame,
-        Begun::Found(found) => return Ok(found),
-    };
+    let FileBegun {
+        bases: _values,
+        mut last,
+        mut frame,
+        found,
+    } = begun;
+    if let Some(found) = found {
+        return Ok(found);
+    }
     for _ in 0..u64::MAX {
         let left = most.saturating_sub(frame.entries);
         let audited = audit(alloc, auditor, journal, &mut last, left, trace, out)?;
         match audited {
             Audited::NoEntry(line) => frame.count(line.saturating_sub(1)),
             Audited::Agree(count) if count < left => {
-                frame.tail = if frame.has_header {
-                    Tail::Running
-                } else {
-                    Tail::Unknown
-                };
+                frame.tail = frame.without_end();
                 return Ok(frame.found(audited));
             }
             other => return Ok(frame.found(other)),

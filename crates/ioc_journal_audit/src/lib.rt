@@ -3,6 +3,7 @@
 #![tactic(auto)]
 
 mod auditor;
+mod bases;
 mod changes;
 mod counts;
 mod difference;
@@ -17,7 +18,7 @@ mod sets;
 pub use auditor::Auditor;
 pub use changes::Trace;
 pub use difference::Difference;
-pub use file::{FileFault, FileFound, Frame, Tail, audit_file};
+pub use file::{FileBegun, FileFault, FileFound, Frame, Tail, audit_file, begin_file};
 pub use journal::{AuditFault, Audited, LastLine, audit};
 pub use played_map::{PlayedMap, Playing};
 pub use sets::add_sets;

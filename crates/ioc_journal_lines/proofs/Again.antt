@@ -1,5 +1,5 @@
 -- Printed lines are read.
-use Rattle.std.proofs.Common.{◌≡◌, ℕ, zero, suc, ◌≤◌, ◌<◌, ◌^◌, ◌/◌, ◌%◌, true, cond, not, List, [], ◌∷◌, ◌++◌, length, take, slice_index, Option, Some, None, Ok, refl, sym, ap, ◌∙◌, append_assoc, arith}
+use Rattle.std.proofs.Common.{◌≡◌, ℕ, suc, ◌≤◌, ◌<◌, ◌^◌, ◌/◌, ◌%◌, true, cond, not, List, [], ◌∷◌, ◌++◌, slice_index, Option, Some, None, refl, sym, ap, ◌∙◌, append_assoc, arith}
 use Rattle.std.specs.Prelude.{◌↔◌, codes, decimal, Bool, false, IsTrue}
 use Rattle.std.specs.Char.{digit_value}
 use Rattle.std.specs.Str.Parse.{AllDigits, IsNumeral, digits_value}
@@ -11,9 +11,12 @@ use Rattle.std.proofs.lemmas.Fmt.{decimal_is_IsNumeral}
 use Rattle.hex.specs.Hex.{IsBytes, encode_lower, encode_with, hex_digit_value, lower_digits}
 use Rattle.hex.proofs.HexLemmas.{IsDigits-lower_digits, decode_sized-encode_lower}
 use Rattle.ioc_values.specs.Number.{numeral, below, all_digits}
+use Rattle.ioc_saved.specs.declared.value.SavedValue.{SavedValue}
+use Rattle.ioc_saved.specs.Files.{value_line}
+use Rattle.ioc_saved.specs.Lines.{saved_in}
 use Rattle.ioc_journal_lines.specs.declared.header.Header.{Header}
-use Rattle.ioc_journal_lines.specs.Words.{ends_word, is_whole, is_word, word_of, after_word, number_at, digest_at, hash_or_none}
-use Rattle.ioc_journal_lines.specs.Lines.{header_line, seal_word, end_line, seal_line, IsDigest, IsHeader, read_header, read_end, read_seal}
+use Rattle.ioc_journal_lines.specs.Words.{ends_word, is_whole, is_word, number_at, digest_at}
+use Rattle.ioc_journal_lines.specs.Lines.{header_line, seal_word, base_line, end_line, seal_line, IsDigest, IsHeader, read_header, read_base, read_end, read_seal}
 use Rattle.ioc_journal_lines.proofs.Splitting.{and_true, word_cut, after_cut}
 
 -- ---- Numbers
@@ -72,6 +75,10 @@ digest_again hash c rest h e =
     rw (word_cut (encode_lower hash) c rest whole e, after_cut (encode_lower hash) c rest whole e, decode_sized-encode_lower hash 32 h.0 h.1) refl
 
 -- ---- Lines
+
+pub base_again : (saved : SavedValue) → saved_in (value_line saved) ≡ Some saved → read_base (base_line saved) ≡ Some saved
+unfolding read_base base_line
+base_again saved h = ap saved_in (after_cut (codes "base") 9 (value_line saved) refl refl) ∙ h
 
 pub end_again : (place : ℕ) → place < 2 ^ 64 → read_end (end_line place) ≡ Some place
 unfolding read_end end_line

@@ -2,6 +2,9 @@
 -- word of an entry is a number, and that of these lines is none.
 use Rattle.std.specs.Prelude.{◌≡◌, ◌≤◌, ◌<◌, ◌^◌, ℕ, Bool, true, false, List, [], ◌∷◌, ◌++◌, codes, decimal, length, take, Option, Some}
 use Rattle.hex.specs.Hex.{encode_lower, IsBytes}
+use Rattle.ioc_saved.specs.declared.value.SavedValue.{SavedValue}
+use Rattle.ioc_saved.specs.Files.{value_line}
+use Rattle.ioc_saved.specs.Lines.{saved_in}
 use Rattle.ioc_journal_lines.specs.declared.header.Header.{Header}
 use Rattle.ioc_journal_lines.specs.Words.{is_whole, is_word, word_of, after_word, number_at, digest_at, ◌>>=◌}
 
@@ -17,6 +20,10 @@ unfoldable pub header_line : Header → List ℕ
 header_line header =
     codes "journal" ++ 9 ∷ codes "1" ++ 9 ∷ header.program ++ 9 ∷ encode_lower header.database ++ 9 ∷ codes "lowest" ++ 9 ∷ seal_word header.is_sealed
     ++ 9 ∷ decimal header.first ++ 10 ∷ []
+
+-- A value that a run has taken from a file of saved ones, with the line that it has there.
+unfoldable pub base_line : SavedValue → List ℕ
+base_line saved = codes "base" ++ 9 ∷ value_line saved
 
 -- The end of a run: the number of its entries.
 unfoldable pub end_line : ℕ → List ℕ
@@ -48,6 +55,9 @@ read_header line = do
     is_sealed = is_word (word_of (after_word hash.1)) (codes "sealed");
     first = first.0;
   })
+
+unfoldable pub read_base : List ℕ → Option SavedValue
+read_base line = saved_in (after_word line)
 
 unfoldable pub read_end : List ℕ → Option ℕ
 read_end line = do

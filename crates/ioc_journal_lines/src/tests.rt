@@ -1,5 +1,6 @@
 use super::*;
-use ioc_values::Short;
+use ioc_saved::{SavedText, SavedValue};
+use ioc_values::{FieldName, Name, Short};
 use std::alloc::AllocError;
 use std::test::*;
 
@@ -36,5 +37,27 @@ fn seals_of_lines(rt: HostRuntime) -> Result<(), AllocError> {
     let wanted = b"seal\tba7816bf8f01cfea414140de5dae2223b00361a396177a9cb410ff61f20015ad\n";
     assert!(rt; line.as_slice() == wanted.as_slice());
     assert!(rt; seal_of(rt.alloc(), line.as_slice())? == Some(seals.hash()?));
+    Ok(())
+}
+
+#[test]
+fn lines_of_saved_values(rt: HostRuntime) -> Result<(), AllocError> {
+    let saved = SavedValue {
+        record_name: Name::cut(b"plant:note"),
+        field: FieldName::cut(b"DESC"),
+        value: SavedText::cut(b"a\tb"),
+    };
+    let mut line = Vec::new(rt.alloc());
+    add_base(&mut line, &saved)?;
+    assert!(rt; line.as_slice() == b"base\tplant:note.DESC a\\tb\n".as_slice());
+    let read = base_of(rt.alloc(), line.as_slice())?;
+    assert!(rt;
+        matches!(&read, Some(read) if read.record_name.as_slice() == b"plant:note".as_slice()
+            && read.field.as_slice() == b"DESC".as_slice() && read.value.as_slice() == b"a\tb".as_slice())
+    );
+    assert!(rt; base_of(rt.alloc(), b"base\tplant:note.DESC a\\x09b\n")?.is_none());
+    assert!(rt; base_of(rt.alloc(), b"base\tplant:note.DESC a")?.is_none());
+    assert!(rt; base_of(rt.alloc(), b"bass\tplant:note.DESC a\n")?.is_none());
+    assert!(rt; base_of(rt.alloc(), b"base\tplant DESC a\n")?.is_none());
     Ok(())
 }

@@ -2,6 +2,7 @@
 ghost use Rattle.std.specs.Prelude.{◌≡◌, ◌<◌, ℕ, All, map, length, IfOk, IfErr, IfSome};
 ghost use Rattle.std.specs.List.{flat_map};
 ghost use Rattle.ioc_journal.specs.Account.{calls, HasSeenMore, IsGiven};
+ghost use Rattle.ioc_journal.specs.Base.{IsBaseOf};
 ghost use Rattle.ioc_journal.specs.Legal.{map_of};
 ghost use Rattle.ioc_journal.specs.Places.{IsNoPlace};
 ghost use Rattle.ioc_set.specs.SetState.{folded};
@@ -83,6 +84,28 @@ pub fn move_all_on<K: RecordKind + Drop, B: SetsName<K, D>, D: Device, R: Wait>(
     }
 }
 
+// Moves these sets on to the whole list of a journal, which leads to these copies of their records.
+pub(crate) fn move_all_to<K: RecordKind + Drop, B: SetsName<K, D>, D: Device, R: Wait>(
+    rt: &R,
+    cell: &Cell,
+    journal: &mut Journal<K, B>,
+    sets: &mut [JournaledSet<K, B, D>],
+    base: &JournalBase<K>,
+)
+    requires table { cell.now.table.shared.table_id ≡ B.table }
+    requires known { (n : ℕ) → Has B.base n → n < length base.now.records.items }
+    requires each { HoldEach numbers_of sets.old (length base.now.records.items) }
+    requires records { AreCopies sets.old base.now.records.items }
+    requires waiting { base.now.waiting.items ≡ flat_map (λ h. h.set.waiting) sets.old }
+    ensures sets { map (λ h. h.set) sets.new ≡ map (λ h. h.set) sets.old }
+    ensures journal { journal.new ≡ journal.old }
+    ensures base { IsBaseOf (map_of K.rules B.base journal.old.filled) base.now.records.items base.now.waiting.items }
+{
+    lists_leave_sound::<K>();
+    journal.is_legal();
+    move_all_on(rt, cell, journal, sets);
+}
+
 // Moves these sets on to the whole list of a journal, whose entries are dropped, since it leads to
 // these copies of their records. Returns `None` if there were more than 2^63 calls; none is dropped
 // then.
@@ -100,9 +123,7 @@ fn drop_known<K: RecordKind + Drop, B: SetsName<K, D>, D: Device, R: Wait>(
     requires waiting { base.waiting.items ≡ flat_map (λ h. h.set.waiting) sets.old }
     ensures { map (λ h. h.set) sets.new ≡ map (λ h. h.set) sets.old }
 {
-    lists_leave_sound::<K>();
-    journal.is_legal();
-    move_all_on(rt, cell, journal, sets);
+    move_all_to(rt, cell, journal, sets, &base);
     journal.drop_entries(base)
 }
 
@@ -173,7 +194,7 @@ fn fold_all<K: RecordKind + Drop, B: SetsName<K, D>, D: Device>(sets: &mut [Jour
 
 // Copies the records of these sets and the puts with notification that wait in them. Returns `None`
 // if one of the first `count` records is in none of these sets, or one is in two.
-fn base_of<K: RecordKind + Drop, B: SetsName<K, D>, D: Device>(
+pub(crate) fn base_of<K: RecordKind + Drop, B: SetsName<K, D>, D: Device>(
     alloc: Global,
     sets: &[JournaledSet<K, B, D>],
     count: usize,

@@ -13,6 +13,7 @@ mod beginning;
 mod call_laws;
 pub mod changing;
 mod checkpoint;
+pub mod copies;
 mod copying;
 mod counts;
 pub mod ending;
@@ -32,6 +33,7 @@ pub mod together;
 
 pub use changing::{Changed, change_link};
 pub use checkpoint::{checkpoint_giving, checkpoint_on, move_all_on};
+pub use copies::{RecordCopies, copies_on};
 pub use ending::EndedSet;
 pub use field_put::FieldPut;
 pub use giving_up::cancel_on;

@@ -17,7 +17,7 @@ use Rattle.ioc_saved.specs.declared.fault.SavedFault.{SavedFault}
 use Rattle.ioc_saved.specs.declared.fault.SavedFault.TheVariants.{NoEnd, BadLine}
 use Rattle.ioc_saved.specs.Words.{lacks, before, behind, lines_of, no_lines, last_of, last_byte}
 use Rattle.ioc_saved.specs.Escapes.{escaped, limited}
-use Rattle.ioc_saved.specs.Lines.{is_passed, is_long_as, is_record_name, is_field_name, is_saveable, row, name_in, text_in, value_in, line_with, line_in}
+use Rattle.ioc_saved.specs.Lines.{is_passed, is_long_as, is_record_name, is_field_name, is_saveable, row, name_in, text_in, value_in, saved_in, line_with, line_in}
 use Rattle.ioc_saved.specs.Files.{head, value_line, end_line, file_of, is_end, onto_values, with_line, is_whole, values_of, values_in, AllSaveable}
 use Rattle.ioc_saved.proofs.Cuts.{and_true, lacks_append, before_cut, behind_cut, lines_cut, lines_here, none_left, some_left, last_append, last_lacks, lacks_not, cut_line, has_lines}
 use Rattle.ioc_saved.proofs.EscapesAgain.{within, escaped_read, escaped_lacks}
@@ -100,6 +100,11 @@ value_again v h =
       h.long_field,
       text_again v.value h.value,
     ) refl
+
+-- The line of a value that can be saved is read as this value.
+pub saved_again : (v : SavedValue) → is_saveable v ≡ true → saved_in (value_line v) ≡ Some v
+unfolding saved_in
+saved_again v h = let p = parts v h in ap value_in (before_cut 10 (row v) [] (row_lacks v p)) ∙ value_again v p
 
 passed_by_first : (name rest : List ℕ) (limit : ℕ) → is_long_as limit name ≡ true → is_passed name ≡ false → is_passed (name ++ rest) ≡ false
 passed_by_first [] rest limit h k = absurd cc

@@ -3,3 +3,5 @@ mod EscapesAgain
 mod FilesAgain
 mod Ends
 mod SavedAgain
+mod Quoting
+mod Blocks

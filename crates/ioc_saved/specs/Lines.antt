@@ -57,6 +57,10 @@ value_in line =
     text_in (behind 32 line) >>= λ value.
     Some (record { record_name = name; field = field; value = value })
 
+-- The value of the first line of a text.
+unfoldable pub saved_in : List ℕ → Option SavedValue
+saved_in text = value_in (before 10 text)
+
 abbrev pub line_with : Option SavedValue → SavedLine
 line_with None = Bad
 line_with (Some v) = Value v

@@ -1,8 +1,9 @@
 //! Whole files.
-ghost use Rattle.std.specs.Prelude.{◌≡◌, ◌++◌, ◌<◌, ◌^◌, ℕ, List, decimal, ◌∷◌, Ok, Err, OnOk, IfOk};
+ghost use Rattle.std.specs.Prelude.{◌≡◌, ◌++◌, ◌<◌, ◌^◌, ℕ, true, List, decimal, ◌∷◌, Some, Ok, Err, OnOk, IfOk};
 ghost use Rattle.ioc_saved.specs.declared.value.SavedValue.{SavedValue};
 ghost use Rattle.ioc_saved.specs.declared.fault.SavedFault.TheVariants.{NoEnd};
 ghost use Rattle.ioc_saved.specs.Words.{lines_of};
+ghost use Rattle.ioc_saved.specs.Lines.{is_saveable, saved_in};
 ghost use Rattle.ioc_saved.specs.Files.{head, value_line, end_line, file_of, is_whole, is_end, values_of, values_in, Reads, EndsWell, AllSaveable};
 
 use crate::fault::SavedFault;
@@ -123,6 +124,11 @@ pub fn parse_saved(alloc: Global, text: &[u8]) -> Result<Vec<SavedValue>, SavedF
     }
     values_of(alloc, text)
 }
+
+/// The line of a value that can be saved is read as this value.
+pub fn saved_lines_read_back()
+    ensures { (saved : SavedValue) → is_saveable saved ≡ true → saved_in (value_line saved) ≡ Some saved }
+{}
 
 /// The file of values that can be saved is read as these values.
 pub fn saved_files_read_back()

@@ -1,6 +1,6 @@
 //! The line of a value.
 ghost use Rattle.std.specs.Prelude.{◌≡◌, ◌++◌, ◌∷◌, [], OnOk};
-ghost use Rattle.ioc_saved.specs.Lines.{Gives, name_in, value_in, line_in, row};
+ghost use Rattle.ioc_saved.specs.Lines.{Gives, name_in, value_in, saved_in, line_in, row};
 
 use crate::escapes::{add_escaped, text_in};
 use crate::value::{SavedValue, is_long_as, is_passed};
@@ -62,6 +62,16 @@ fn value_in(line: &[u8]) -> Option<SavedValue>
         field,
         value,
     })
+}
+
+/// Reads the value of a line that [`add_saved`](crate::add_saved) appends, up to its line feed. Returns
+/// `None` where [`parse_saved`](crate::parse_saved) refuses the line.
+#[tactic(auto, unfolding(crate::specs::Lines::saved_in))]
+pub fn saved_in(line: &[u8]) -> Option<SavedValue>
+    ensures { Gives (λ value. value) result (saved_in line.now) }
+{
+    let (row, _rest) = split(b'\n', line);
+    value_in(row)
 }
 
 /// Reads a line.

@@ -94,3 +94,50 @@ fn lines_of_a_request_file(rt: HostRuntime) {
         }
     );
 }
+
+#[test]
+fn lines_of_saved_values(rt: HostRuntime) -> Result<(), SavedFault> {
+    let mut line = Vec::new(rt.alloc());
+    add_saved(&mut line, &saved(b"plant:note", b"DESC", b"a\nb"))?;
+    let read = saved_in(line.as_slice());
+    assert!(rt;
+        match &read {
+            Some(read) => read.record_name.as_slice() == b"plant:note".as_slice()
+                && read.field.as_slice() == b"DESC".as_slice()
+                && read.value.as_slice() == b"a\nb".as_slice(),
+            None => false,
+        }
+    );
+    assert!(rt; saved_in(b"plant:note a").is_none());
+    Ok(())
+}
+
+#[test]
+fn blocks_of_saved_values(rt: HostRuntime) -> Result<(), SavedFault> {
+    let mut out = Vec::new(rt.alloc());
+    add_block(&mut out, b"longin", &saved(b"plant:level", b"HIGH", b"40"))?;
+    let value = b"a \"b\" \\ # $x\x07\x08\t\n\x0b\x0c\r\x01".as_slice();
+    add_block(&mut out, b"stringin", &saved(b"a\\b", b"VAL", value))?;
+    add_block(&mut out, b"bi", &saved(b"c", b"OSV", b""))?;
+    let wanted = b"record(longin,\"plant:level\"){field(HIGH,\"40\")}\n\
+record(stringin,\"a\\\\b\"){field(VAL,\"a \\\"b\\\" \\\\ # $x\\a\\b\\t\\n\\v\\f\\r\x01\")}\n\
+record(bi,\"c\"){field(OSV,\"\")}\n";
+    assert!(rt; out.as_slice() == wanted.as_slice());
+    Ok(())
+}
+
+#[test]
+fn values_that_have_a_block(rt: HostRuntime) {
+    assert!(rt; has_block(&saved(b"plant:level", b"HIGH", b"")));
+    assert!(rt; has_block(&saved(b"a", b"B2", b"$ \"$\" $a\\$\x7f\xff")));
+    assert!(rt; !has_block(&saved(b"a", b"B", b"1 $(P)")));
+    assert!(rt; !has_block(&saved(b"a", b"B", b"${P")));
+    assert!(rt; !has_block(&saved(b"a", b"B", b"$$(")));
+    assert!(rt; !has_block(&saved(b"a\"", b"B", b"1")));
+    assert!(rt; !has_block(&saved(b"$(P)a", b"B", b"1")));
+    assert!(rt; !has_block(&saved(b"a b", b"B", b"1")));
+    assert!(rt; !has_block(&saved(b"a", b"b", b"1")));
+    assert!(rt; !has_block(&saved(b"a", b"B,", b"1")));
+    assert!(rt; !has_block(&saved(b"", b"B", b"1")));
+    assert!(rt; !has_block(&saved(b"a", b"", b"1")));
+}
