@@ -1,28 +1,15 @@
 //! The clock of a run.
-ghost use Rattle.std.specs.Thread.{IsSend};
-
 use crate::fault::RunFault;
 use crate::pace::{next_tick, wait_for};
-use crate::saving::Saving;
 use crate::streams::Streams;
 use crate::task::{Task, tick};
 use ioc_command_line::Reason;
 use ioc_engine::{Clock, Desk, Device, Engine, EngineName};
 use std::alloc::Global;
-use std::fs::Files;
 use std::io::Write;
 use std::sync::Wait;
 use std::thread::{self, Threads};
 use std::time::{self, Duration, Instant};
-
-/// The desks of the threads beside a task.
-#[derive(Drop)]
-pub struct ClockDesks<B: EngineName<D>, D: Device> {
-    /// That of the thread that walks the periods.
-    pub ticking: Desk<B, D>,
-    /// That of the thread that saves values, if any are saved.
-    pub saving: Option<Desk<B, D>>,
-}
 
 // Returns how many nanoseconds have passed since the start; 0 if the time can't be read.
 fn since<R: time::Clock>(rt: &R, start: &Instant) -> u64 {
@@ -73,54 +60,6 @@ fn keep_time<
     Ok(())
 }
 
-// Walks the periods, and has the thread end then that saves values.
-fn keep_time_to_its_end<
-    B: EngineName<D>,
-    D: Device,
-    C: Clock + Drop,
-    W: Write + Drop,
-    J: Write + Drop,
-    R: time::Clock + Wait,
->(
-    rt: &R,
-    alloc: Global,
-    engine: &Engine<B, D, C>,
-    desk: Desk<B, D>,
-    saving: &Saving,
-    streams: &Streams<'_, W, J>,
-) -> Result<(), RunFault> {
-    let kept = keep_time(rt, alloc, engine, desk, streams);
-    saving.end();
-    kept
-}
-
-// Walks the periods, while another thread saves values, if any are saved.
-fn keep_all<
-    B: EngineName<D> + Send + Sync,
-    D: Device + Send + Sync,
-    C: Clock + Drop + Send + Sync,
-    W: Write + Drop + Send,
-    J: Write + Drop + Send,
-    R: Files + time::Clock + Threads + Wait + Sync,
->(
-    rt: &R,
-    alloc: Global,
-    engine: &Engine<B, D, C>,
-    desks: ClockDesks<B, D>,
-    streams: &Streams<'_, W, J>,
-) -> Result<(), RunFault> {
-    let ClockDesks { ticking, saving } = desks;
-    let (Some(values), Some(desk)) = (streams.saving, saving) else {
-        return keep_time(rt, alloc, engine, ticking, streams);
-    };
-    let (kept, ()) = thread::join(
-        rt,
-        || keep_time_to_its_end(rt, alloc, engine, ticking, values, streams),
-        || values.keep(rt, alloc, engine, desk),
-    );
-    kept
-}
-
 // Does a task, and has the thread end then that tells of asks.
 fn do_task<
     B: EngineName<D>,
@@ -144,8 +83,7 @@ fn do_task<
 }
 
 /// Does a task by a desk of an engine, while another thread walks the periods once in each tenth of a
-/// second by a desk of its own, tells what devices outside are asked, and writes the journal, and a third
-/// one saves values, if any are saved.
+/// second by a second desk, tells what devices outside are asked, and writes the journal.
 ///
 /// # Errors
 ///
@@ -157,21 +95,19 @@ pub fn beside_clock<
     T: Task,
     W: Write + Drop + Send,
     J: Write + Drop + Send,
-    R: Files + time::Clock + Threads + Wait + Sync,
+    R: time::Clock + Threads + Wait + Sync,
 >(
     rt: &R,
     alloc: Global,
     engine: &Engine<B, D, C>,
     desk: &mut Desk<B, D>,
-    clock: ClockDesks<B, D>,
+    second: Desk<B, D>,
     task: &mut T,
     streams: &Streams<'_, W, J>,
 ) -> Result<(), RunFault> {
     let (kept, worked) = thread::join(
         rt,
-        || -> Result<(), RunFault>
-            requires { IsSend B.row × IsSend D.row × IsSend C.row × IsSend W.row × IsSend J.row }
-        { keep_all(rt, alloc, engine, clock, streams) },
+        || keep_time(rt, alloc, engine, second, streams),
         || do_task(rt, alloc, engine, desk, task, streams),
     );
     worked?;

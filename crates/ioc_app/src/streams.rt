@@ -4,7 +4,6 @@ use crate::caller::LineFault;
 use crate::fault::RunFault;
 use crate::journal::JournalWriter;
 use crate::pace::{Next, Pace};
-use crate::saving::Saving;
 use ioc_command_line::Reason;
 use ioc_engine::{Desk, Device, Engine, EngineName, IocError};
 use std::alloc::Global;
@@ -19,8 +18,6 @@ pub struct Counts {
     pub entries: Option<u64>,
     /// How many asks devices outside were told.
     pub told: u64,
-    /// How many files of values were saved, and how many couldn't be, if values are saved.
-    pub saves: Option<(u64, u64)>,
 }
 
 /// What the threads of a run write, under one lock: lines, and the journal if it is kept. No line is
@@ -30,8 +27,6 @@ pub struct Counts {
 pub struct Streams<'a, W: Write + Drop, J: Write + Drop> {
     written: Mutex<Written<W, J>>,
     pub asks: &'a Asks,
-    /// What is saved, if anything is.
-    pub saving: Option<&'a Saving>,
 }
 
 // What is written under the lock.
@@ -130,12 +125,7 @@ impl<W: Write + Drop, J: Write + Drop> Written<W, J> {
 
 impl<'a, W: Write + Drop, J: Write + Drop> Streams<'a, W, J> {
     /// Takes what is written to.
-    pub fn new(
-        lines: W,
-        journal: Option<JournalWriter<J>>,
-        asks: &'a Asks,
-        saving: Option<&'a Saving>,
-    ) -> Self {
+    pub fn new(lines: W, journal: Option<JournalWriter<J>>, asks: &'a Asks) -> Self {
         Streams {
             written: Mutex::new(Written {
                 lines,
@@ -145,7 +135,6 @@ impl<'a, W: Write + Drop, J: Write + Drop> Streams<'a, W, J> {
                 fault: None,
             }),
             asks,
-            saving,
         }
     }
 
@@ -222,10 +211,6 @@ impl<'a, W: Write + Drop, J: Write + Drop> Streams<'a, W, J> {
                 None => None,
             },
             told: written.told,
-            saves: match self.saving {
-                Some(saving) => Some(saving.counts()),
-                None => None,
-            },
         }
     }
 
