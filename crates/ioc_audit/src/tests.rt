@@ -282,7 +282,7 @@ fn restored_value_lost(rt: HostRuntime) -> Result<(), Stop> {
     Ok(())
 }
 
-// Lines behind the header that are refused, and what is told of them.
+// Each line is refused behind the header. The text is what the audit says of it.
 static REFUSED: [(&[u8], &str); 8] = [
     (
         b"base\tlevle.VAL 7\n",
