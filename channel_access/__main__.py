@@ -13,6 +13,14 @@ from .server import Rights, Server
 IOC = pathlib.Path(__file__).resolve().parent.parent / "bin" / "ioc"
 DESCRIPTION = "Serves a database by Channel Access; nothing can be written unless it is allowed. docs/CHANNEL_ACCESS.md is the manual."
 
+# What the IOC keeps in files, and how they are named.
+KEPT = {
+    "--journal": "the journal is written to this file",
+    "--save": "saves the channels that this request file names",
+    "--save-to": "saves them to this file",
+    "--restore": "restores the values of this file",
+}
+
 
 def _arguments() -> argparse.ArgumentParser:
     parser = argparse.ArgumentParser(prog="ioc-ca", description=DESCRIPTION)
@@ -21,7 +29,9 @@ def _arguments() -> argparse.ArgumentParser:
     add("-m", dest="macros", metavar="NAME=VALUE", action="append", default=[], help="a macro of the database text")
     add("--allow-write", metavar="PATTERN", action="append", default=[], help="records, or REC.F, that may be written")
     add("--allow-links", action="store_true", help="their link fields may be written too")
-    add("--journal", metavar="FILE", help="the journal is written to this file")
+    for option, what in KEPT.items():
+        add(option, metavar="FILE", help=what)
+    add("--save-every", metavar="S", help="seconds from one save to the next (30)")
     add("--drivers", metavar="FILE.py", help="drivers of the devices of `@` links, which count without it")
     add("--port", metavar="N", type=int, default=5064, help="of TCP and UDP (5064)")
     add("--interface", metavar="ADDR", default="127.0.0.1", help="the address that is served (127.0.0.1)")
@@ -38,7 +48,9 @@ async def _serve(options: argparse.Namespace) -> int:
     loop, stopped = asyncio.get_running_loop(), asyncio.Event()
     for number in (signal.SIGINT, signal.SIGTERM):
         loop.add_signal_handler(number, stopped.set)
-    child = child_of(options.ioc, options.database, options.macros, options.workers, options.journal, options.drivers)
+    given = ((option, getattr(options, option[2:].replace("-", "_"))) for option in [*KEPT, "--save-every"])
+    kept = [word for option, word in given if word is not None for word in (option, word)]
+    child = child_of(options.ioc, options.database, options.macros, options.workers, kept, options.drivers)
     await child.start()
     server = Server(child, Rights(options.allow_write, options.allow_links), options.interface, options.port)
     try:

@@ -55,6 +55,22 @@ class Starts(unittest.TestCase):
         self.addCleanup(front.clean)
         self.assertEqual(Client("127.0.0.1", front.port).read("tank:level.HIGH")[0], "7")
 
+    def test_saved_values(self) -> None:
+        """What a run saves at its end is there again in the next one."""
+        with tempfile.TemporaryDirectory() as name:
+            folder = pathlib.Path(name)
+            (folder / "a.req").write_text("a\n")
+            (folder / "a.sav").write_text("a.VAL 7\n<END>\n")
+            for _ in range(2):
+                front = Front(
+                    "--restore", str(folder / "a.sav"), "--save", str(folder / "a.req"), "--save-to", str(folder / "a.sav"), "--save-every", "60",
+                    database='record(longin, "a") { }',
+                )  # fmt: skip
+                self.addCleanup(front.clean)
+                self.assertEqual(Client("127.0.0.1", front.port).read("a")[0], "7")
+                self.assertEqual((front.end(), front.errors()[:5]), (0, "tally"))
+                self.assertEqual((folder / "a.sav").read_text().splitlines()[1:], ["a.VAL 7", "<END>"])
+
     def test_wrong_words(self) -> None:
         database = str(TOP / "examples" / "plant.db")
         for words in ("", "--port", f"{database} --nothing", f"{database} --port 99999", f"{database} --ioc /nowhere/ioc"):

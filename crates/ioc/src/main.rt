@@ -5,13 +5,15 @@
 #![tactic(auto)]
 
 use ioc_app::{
-    Args, Asks, Console, Devices, Header, JournalFile, Mode, Outputs, PROGRAM, Plant, RunFault,
-    SyncedFile, Ticks, counting_devices, database_hash, file_name, ioc_args, ioc_run,
+    Args, Asks, Console, Devices, Header, JournalFile, Mode, Outputs, PROGRAM, Plant, ReplaceFiles,
+    Requested, Restored, RunFault, Saving, SyncedFile, Ticks, counting_devices, database_hash,
+    file_name, ioc_args, ioc_run, saved_values,
 };
 use ioc_command_line::{
     Ending, FileRole, Reason, Stage, Stop, bad_database, given, read_whole, show,
 };
 use ioc_engine::{Database, Device, DeviceName, LoadError, SystemClock, load};
+use ioc_saved::SavedValue;
 use ioc_values::Short;
 use std::alloc::{Alloc, Global};
 use std::env;
@@ -20,7 +22,7 @@ use std::io::{self, ErrorKind, IsTerminal, Print, Read, Write};
 use std::process::ExitCode;
 use std::sync::Wait;
 use std::thread::Threads;
-use std::time::Clock;
+use std::time::{Clock, Duration};
 
 // What a console reads from, and where it writes the numbers of lines.
 #[derive(Drop)]
@@ -33,24 +35,94 @@ struct Terminal<I: Read + Drop, E: Write + Drop> {
 // How many names are tried for a file of a folder.
 const NAMES: u64 = 1_000;
 
-// A database, and the hash of its text and macros.
+// A database, the hash of its text and macros, and the values that were restored into it.
 #[derive(Drop)]
 struct HashedDatabase {
     database: Database,
     hash: [u8; 32],
+    restored: Vec<SavedValue>,
 }
 
-// Loads the database text.
-fn loaded<R: Files + Alloc<A = Global>>(rt: &R, args: &Args<'_>) -> Result<HashedDatabase, Stop> {
-    let text = read_whole(rt, FileRole::Database, args.database)?;
-    match load(rt.alloc(), &text, &args.macros) {
-        Ok(database) => Ok(HashedDatabase {
-            database,
-            hash: database_hash(&text, &args.definitions),
-        }),
+// Loads a database text.
+fn load_text<R: Alloc<A = Global>>(rt: &R, args: &Args<'_>, text: &[u8]) -> Result<Database, Stop> {
+    match load(rt.alloc(), text, &args.macros) {
+        Ok(database) => Ok(database),
         Err(LoadError::BadDb(fault)) => Err(bad_database(rt.alloc(), args.database, fault)),
         Err(LoadError::NoMemory) => Err(Stop::Memory(Stage::Loading)),
     }
+}
+
+// Writes lines of text, each with the program's name, where a user sees them. If they can't be
+// written, nothing else changes.
+fn tell<E: Write>(alloc: Global, errors: &mut E, lines: &[u8]) -> Result<(), Stop> {
+    let mut text = Vec::new(alloc);
+    for line in lines.split_inclusive(|byte| *byte == b'\n') {
+        text.extend_from_slice(b"ioc: ")?;
+        text.extend_from_slice(line)?;
+    }
+    let _written = errors.write_all(&text);
+    Ok(())
+}
+
+// Restores the values of a saved file: loads the database text with the values behind it.
+fn restored<R: Files + Alloc<A = Global>, E: Write>(
+    rt: &R,
+    args: &Args<'_>,
+    path: &str,
+    mut text: Vec<u8>,
+    loaded: HashedDatabase,
+    errors: &mut E,
+) -> Result<HashedDatabase, Stop> {
+    let mut told = Vec::new(rt.alloc());
+    let values = saved_values(rt, path, &mut told)?;
+    let Restored {
+        values,
+        blocks,
+        told: left_out,
+    } = Restored::of(rt.alloc(), &loaded.database, &values)?;
+    told.extend_from_slice(&left_out)?;
+    tell(rt.alloc(), errors, &told)?;
+    text.extend_from_slice(b"\n")?;
+    text.extend_from_slice(&blocks)?;
+    Ok(HashedDatabase {
+        database: load_text(rt, args, &text)?,
+        hash: loaded.hash,
+        restored: values,
+    })
+}
+
+// Loads the database text, and restores saved values if that is asked for.
+fn loaded<R: Files + Alloc<A = Global>, E: Write>(
+    rt: &R,
+    args: &Args<'_>,
+    errors: &mut E,
+) -> Result<HashedDatabase, Stop> {
+    let text = read_whole(rt, FileRole::Database, args.database)?;
+    let loaded = HashedDatabase {
+        database: load_text(rt, args, &text)?,
+        hash: database_hash(&text, &args.definitions),
+        restored: Vec::new(rt.alloc()),
+    };
+    match args.restore {
+        Some(path) => restored(rt, args, path, text, loaded, errors),
+        None => Ok(loaded),
+    }
+}
+
+// Returns what is saved, if anything is.
+fn saving_of<R: Files + Alloc<A = Global>, E: Write>(
+    rt: &R,
+    args: &Args<'_>,
+    database: &Database,
+    errors: &mut E,
+) -> Result<Option<Saving>, Stop> {
+    let Some(save) = args.save else {
+        return Ok(None);
+    };
+    let Requested { fields, told } = Requested::of(rt, database, &args.macros, save.request)?;
+    tell(rt.alloc(), errors, &told)?;
+    let every = Duration::from_secs(save.seconds);
+    Ok(Some(Saving::new(rt.alloc(), save.file, fields, every)?))
 }
 
 // The new file of a journal.
@@ -78,7 +150,7 @@ fn new_file<R: Files + Alloc<A = Global>>(
             file,
         }),
         Err(error) if error.kind() == ErrorKind::AlreadyExists => Err(exists(rt.alloc(), path)),
-        Err(error) => Err(unwritable(rt.alloc(), path, Reason::of(&error))),
+        Err(error) => Err(unwritable(rt.alloc(), FileRole::Journal, path, Reason::of(&error))),
     }
 }
 
@@ -134,7 +206,12 @@ fn handle_of<F: OpenFile + Drop>(
     }
     match created.file.try_clone() {
         Ok(handle) => Ok(Some(handle)),
-        Err(error) => Err(unwritable(alloc, created.path.as_str(), Reason::of(&error))),
+        Err(error) => Err(unwritable(
+            alloc,
+            FileRole::Journal,
+            created.path.as_str(),
+            Reason::of(&error),
+        )),
     }
 }
 
@@ -145,7 +222,7 @@ fn sync<F: OpenFile + Drop>(alloc: Global, handle: Option<F>, path: &str) -> Res
     };
     match file.sync_all() {
         Ok(()) => Ok(()),
-        Err(error) => Err(unwritable(alloc, path, Reason::of(&error))),
+        Err(error) => Err(unwritable(alloc, FileRole::Journal, path, Reason::of(&error))),
     }
 }
 
@@ -157,10 +234,10 @@ fn exists(alloc: Global, path: &str) -> Stop {
     }
 }
 
-// Returns why the program stops if the journal's file can't be written.
-fn unwritable(alloc: Global, path: &str, reason: Reason) -> Stop {
+// Returns why the program stops if a file can't be written.
+fn unwritable(alloc: Global, role: FileRole, path: &str, reason: Reason) -> Stop {
     match String::from_str(alloc, path) {
-        Ok(path) => Stop::Unwritable(FileRole::Journal, path, reason),
+        Ok(path) => Stop::Unwritable(role, path, reason),
         Err(_) => Stop::Memory(Stage::Run),
     }
 }
@@ -174,11 +251,15 @@ fn unreadable(alloc: Global, reason: Reason) -> Stop {
 }
 
 // Returns why the program stops if its run has ended early.
-fn stop_of(alloc: Global, fault: RunFault, journal: &str) -> Stop {
+fn stop_of(alloc: Global, args: &Args<'_>, fault: RunFault, journal: &str) -> Stop {
     match fault {
         RunFault::Read(reason) => unreadable(alloc, reason),
         RunFault::Write(reason) => Stop::Write(reason),
-        RunFault::Journal(reason) => unwritable(alloc, journal, reason),
+        RunFault::Journal(reason) => unwritable(alloc, FileRole::Journal, journal, reason),
+        RunFault::Save(reason) => match args.save {
+            Some(save) => unwritable(alloc, FileRole::Saved, save.file, reason),
+            None => Stop::Write(reason),
+        },
         RunFault::Start => Stop::Memory(Stage::Loading),
         RunFault::Memory => Stop::Memory(Stage::Run),
     }
@@ -200,7 +281,7 @@ fn console_of<I: Read + Drop, E: Write + Drop>(
 
 // Does the task of a mode.
 fn do_task<
-    R: Clock + Threads + Wait + Sync,
+    R: ReplaceFiles + Clock + Threads + Wait + Sync,
     D: Device + Send + Sync,
     I: Read + Drop,
     E: Write + Drop,
@@ -224,7 +305,7 @@ fn do_task<
 // Runs a database with these devices, and writes its journal if it is kept.
 fn run_with<
     F: Write + OpenFile + Drop + Send,
-    R: Alloc<A = Global> + Clock + Files<File = F> + Print + Threads + Wait + Sync,
+    R: Alloc<A = Global> + Clock + Files<File = F> + ReplaceFiles + Print + Threads + Wait + Sync,
     D: Device + Send + Sync,
     I: Read + Drop,
     E: Write + Drop,
@@ -237,7 +318,13 @@ fn run_with<
     terminal: Terminal<I, E>,
 ) -> Result<(), Stop> {
     let alloc = rt.alloc();
-    let HashedDatabase { database, hash } = loaded;
+    let HashedDatabase {
+        database,
+        hash,
+        restored,
+    } = loaded;
+    let mut terminal = terminal;
+    let saving = saving_of(rt, args, &database, &mut terminal.errors)?;
     let console = console_of(alloc, &database, terminal)?;
     let plant = Plant {
         devices,
@@ -251,44 +338,53 @@ fn run_with<
             lines: io::writer(rt),
             journal: None::<JournalFile<SyncedFile<'_, F, R>>>,
             asks,
+            saving: saving.as_ref(),
         };
         let done = do_task(rt, alloc, plant, args.mode, console, outputs);
-        return ran(alloc, done, "");
+        return ran(alloc, args, done, "");
     };
     let handle = handle_of(alloc, &created, args)?;
     let NewFile { path, file } = created;
     let journal = JournalFile {
         file: SyncedFile::new(rt, file, args.syncs),
         header: header_of(args, hash),
+        restored,
     };
     let outputs = Outputs {
         lines: io::writer(rt),
         journal: Some(journal),
         asks,
+        saving: saving.as_ref(),
     };
     let done = do_task(rt, alloc, plant, args.mode, console, outputs);
     let synced = sync(alloc, handle, path.as_str());
-    ran(alloc, done, path.as_str())?;
+    ran(alloc, args, done, path.as_str())?;
     synced
 }
 
 // Returns what comes of a run whose journal has this path.
-fn ran(alloc: Global, done: Result<(), RunFault>, journal: &str) -> Result<(), Stop> {
+fn ran(
+    alloc: Global,
+    args: &Args<'_>,
+    done: Result<(), RunFault>,
+    journal: &str,
+) -> Result<(), Stop> {
     match done {
         Ok(()) => Ok(()),
-        Err(fault) => Err(stop_of(alloc, fault, journal)),
+        Err(fault) => Err(stop_of(alloc, args, fault, journal)),
     }
 }
 
 // Runs what the words of the command line ask for.
 fn work<
     F: Write + OpenFile + Drop + Send,
-    R: Alloc<A = Global> + Clock + Files<File = F> + Print + Threads + Wait + Sync,
+    R: Alloc<A = Global> + Clock + Files<File = F> + ReplaceFiles + Print + Threads + Wait + Sync,
     I: Read + Drop,
     E: Write + Drop,
 >(rt: &R, args: &Args<'_>, terminal: Terminal<I, E>) -> Result<(), Stop> {
     let alloc = rt.alloc();
-    let loaded = loaded(rt, args)?;
+    let mut terminal = terminal;
+    let loaded = loaded(rt, args, &mut terminal.errors)?;
     match args.devices {
         Devices::Counting => {
             let devices = counting_devices(alloc, &loaded.database)?;
@@ -305,7 +401,7 @@ fn work<
 // Does what the words of the command line ask for.
 fn run<
     F: Write + OpenFile + Drop + Send,
-    R: Alloc<A = Global> + Clock + Files<File = F> + Print + Threads + Wait + Sync,
+    R: Alloc<A = Global> + Clock + Files<File = F> + ReplaceFiles + Print + Threads + Wait + Sync,
     I: Read + Drop,
     E: Write + Drop,
 >(rt: &R, words: io::Result<env::Args>, terminal: Terminal<I, E>) -> Result<(), Stop> {

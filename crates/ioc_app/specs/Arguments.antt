@@ -1,5 +1,5 @@
 -- What a command line asks for.
-use Rattle.std.specs.Prelude.{◌≡◌, ◌≤◌, ℕ, Bool, true, false, List, [], Option, Some, None, codes, nat_eq, if◌then◌else◌, option_map}
+use Rattle.std.specs.Prelude.{◌≡◌, ◌≤◌, ◌⊎◌, ℕ, Bool, true, false, List, [], Option, Some, None, codes, nat_eq, if◌then◌else◌, option_map}
 use Rattle.std.specs.Cmp.Lexicographic.{pointwise}
 use Rattle.std.specs.Str.Parse.{digits_value, without_leading_plus}
 use Rattle.clap.specs.Words.{App, Row, Rule, Text, first_of, matches_of, new_rule, with_rule}
@@ -11,6 +11,7 @@ use Rattle.ioc_app.specs.declared.arguments.Args.{Args}
 use Rattle.ioc_app.specs.declared.arguments.Mode.{Mode}
 use Rattle.ioc_app.specs.declared.arguments.Mode.TheVariants.{Console, Live, Ticks}
 use Rattle.ioc_app.specs.declared.arguments.Devices.{Devices}
+use Rattle.ioc_app.specs.declared.arguments.SaveArgs.{SaveArgs}
 use Rattle.ioc_app.specs.declared.arguments.Devices.TheVariants.{Counting, Outside}
 
 -- The option of a number from 1 on.
@@ -25,10 +26,12 @@ word_rule name = record (new_rule name) { long = Some name; value_names = 1 }
 unfoldable pub ioc_words : App
 ioc_words =
     with_rule (with_rule (with_rule (with_rule (with_rule (with_rule (with_rule (with_rule (with_rule (with_rule (with_rule (with_rule
-    (program_app (codes "ioc"))
+    (with_rule (with_rule (with_rule (with_rule (program_app (codes "ioc"))
     (file_rule (codes "DB"))) (number_rule (codes "ticks") 1000000)) (flag_rule (codes "console"))) (flag_rule (codes "live")))
     (word_rule (codes "devices"))) (number_rule (codes "workers") 64))
-    (word_rule (codes "journal"))) (flag_rule (codes "overwrite"))) (flag_rule (codes "seal"))) (flag_rule (codes "sync"))) definitions_rule) macros_rule
+    (word_rule (codes "journal"))) (flag_rule (codes "overwrite"))) (flag_rule (codes "seal"))) (flag_rule (codes "sync")))
+    (word_rule (codes "save"))) (word_rule (codes "save-to"))) (number_rule (codes "save-every") 86400)) (word_rule (codes "restore")))
+    definitions_rule) macros_rule
 
 -- The number that the first value of an option has, which lies between 1 and `most`.
 pub record IsNumber (rows : List Row) (id : Text) (most : ℕ) (number : ℕ) : Type 0 where
@@ -65,6 +68,18 @@ devices_named mode (Some word) =
     if pointwise nat_eq word (codes "counting") then Some Counting
     else (if pointwise nat_eq word (codes "outside") then with_lines mode else None)
 
+-- The seconds between two saves: those that are given, or 30.
+abbrev pub IsSeconds : List Row → ℕ → Type 0
+IsSeconds rows seconds = IsNumber rows (codes "save-every") 86400 seconds ⊎ ((first_of (codes "save-every") rows ≡ None) × (seconds ≡ 30))
+
+-- What is saved: nothing if no option of saves is given. Only a live run saves, and then both files are given.
+abbrev pub IsSave : List Row → Mode → Option SaveArgs → Type 0
+IsSave rows mode None =
+    (first_of (codes "save") rows ≡ None) × ((first_of (codes "save-to") rows ≡ None) × (first_of (codes "save-every") rows ≡ None))
+IsSave rows mode (Some save) =
+    (mode ≡ Live) × ((first_of (codes "save") rows ≡ Some save.request.now)
+    × ((first_of (codes "save-to") rows ≡ Some save.file.now) × IsSeconds rows save.seconds))
+
 -- What the matches ask for.
 pub record IsAskedBy (rows : List Row) (args : Args) : Type 0 where
   pub database : first_of (codes "DB") rows ≡ Some args.database.now
@@ -75,6 +90,8 @@ pub record IsAskedBy (rows : List Row) (args : Args) : Type 0 where
   pub overwrites : args.overwrites ≡ is_true (first_of (codes "overwrite") rows)
   pub seals : args.seals ≡ is_true (first_of (codes "seal") rows)
   pub syncs : args.syncs ≡ is_true (first_of (codes "sync") rows)
+  pub save : IsSave rows args.mode args.save
+  pub restore : first_of (codes "restore") rows ≡ option_map (λ s. s.now) args.restore
   pub macros : all_defined [] (definitions_in rows) ≡ Some args.macros
 
 -- The same of the words, by what the program makes of them.

@@ -1,10 +1,10 @@
 //! The command line of the program `ioc`.
-ghost use Rattle.std.specs.Prelude.{◌≡◌, ◌≤◌, ℕ, Some, true, false, map, codes, option_map, IfOk, IfErr};
+ghost use Rattle.std.specs.Prelude.{◌≡◌, ◌≤◌, ℕ, Some, true, false, map, codes, option_map, IfOk, IfErr, OnOk};
 ghost use Rattle.std.specs.String.{string_bytes};
 ghost use Rattle.clap.specs.Words.{app_of, first_of, found_of, rows_of, rule_of};
 ghost use Rattle.ioc_command_line.specs.CommandLine.{program_app};
-ghost use Rattle.ioc_app.specs.Arguments.{IsNumber, IsMode, IsAskedBy, IsAskedByWords, devices_named, ioc_words, number_rule, usual_devices, with_lines, word_rule};
-ghost use Rattle.ioc_app.specs.declared.arguments.Mode.TheVariants.{Ticks};
+ghost use Rattle.ioc_app.specs.Arguments.{IsNumber, IsMode, IsSave, IsSeconds, IsAskedBy, IsAskedByWords, devices_named, ioc_words, number_rule, usual_devices, with_lines, word_rule};
+ghost use Rattle.ioc_app.specs.declared.arguments.Mode.TheVariants.{Live, Ticks};
 
 use clap::builder::ValueParser;
 use clap::{Arg, ArgMatches, Command};
@@ -44,6 +44,12 @@ pub const MAX_TICKS: u64 = 1_000_000;
 /// The largest number of worker threads.
 pub const MAX_WORKERS: u64 = 64;
 
+/// The largest number of seconds between two saves.
+pub const MAX_SAVE_SECONDS: u64 = 86_400;
+
+/// The number of seconds between two saves if the command line doesn't say it.
+pub const SAVE_SECONDS: u64 = 30;
+
 // The names of the arguments.
 const DATABASE: &str = "DB";
 
@@ -65,12 +71,24 @@ const SEAL: &str = "seal";
 
 const SYNC: &str = "sync";
 
+const SAVE: &str = "save";
+
+const SAVE_TO: &str = "save-to";
+
+const SAVE_EVERY: &str = "save-every";
+
+const RESTORE: &str = "restore";
+
 // What is wrong with a command line.
 const NO_MODE: &str = "one of --live, --console and --ticks N is wanted";
 
 const TWO_MODES: &str = "--live, --console and --ticks exclude each other";
 
 const NO_WORKERS: &str = "--workers N is wanted: how many threads serve the requests that wait";
+
+const NO_SAVE: &str = "--save FILE.req and --save-to FILE are wanted together, with --live";
+
+const NO_SECONDS: &str = "--save-every wants a number of seconds, with --save";
 
 const NO_DEVICES: &str = "--devices wants counting, or with --live or --console outside";
 
@@ -118,8 +136,23 @@ pub struct Args<'a> {
     pub seals: bool,
     /// Whether what is written to the journal is to reach the disk within a second.
     pub syncs: bool,
+    /// What is saved.
+    pub save: Option<SaveArgs<'a>>,
+    /// The path of the file whose values are restored.
+    pub restore: Option<&'a str>,
     /// The definitions of macros, each behind a byte 0.
     pub definitions: Vec<u8>,
+}
+
+/// What is saved while a live run goes on.
+#[derive(Clone, Copy, Debug)]
+pub struct SaveArgs<'a> {
+    /// The path of the request file, which names the channels.
+    pub request: &'a str,
+    /// The path of the file of their values.
+    pub file: &'a str,
+    /// The number of seconds from one save to the next, from 1 to [`MAX_SAVE_SECONDS`].
+    pub seconds: u64,
 }
 
 // Returns the option of a number from 1 to `most`.
@@ -154,6 +187,15 @@ fn workers_option<'a>(alloc: Global) -> Arg<'a>
 {
     let help = "how many threads serve the requests that wait";
     number_option(alloc, WORKERS, MAX_WORKERS, help)
+}
+
+// Returns the option of the seconds between two saves.
+fn save_every_option<'a>(alloc: Global) -> Arg<'a>
+    ensures rule { rule_of result ≡ number_rule (codes "save-every") 86400 }
+    ensures local { result.global ≡ false }
+{
+    let help = "how many seconds pass from one save to the next; 30 without it";
+    number_option(alloc, SAVE_EVERY, MAX_SAVE_SECONDS, help)
 }
 
 // Returns an option with a word, of which help shows this name.
@@ -206,6 +248,20 @@ fn command<'a>(alloc: Global) -> Result<Command<'a>, AllocError>
             "the journal has seals, which ioc-audit compares",
         ))?
         .arg(flag(alloc, SYNC, "the journal is on the disk within a second"))?
+        .arg(word_option(
+            alloc,
+            SAVE,
+            "FILE.req",
+            "saves the channels that this request file names, with --live",
+        ))?
+        .arg(word_option(alloc, SAVE_TO, "FILE", "saves them to this file"))?
+        .arg(save_every_option(alloc))?
+        .arg(word_option(
+            alloc,
+            RESTORE,
+            "FILE",
+            "restores the values of this file, if there is one",
+        ))?
         .arg(definitions_argument(alloc))?
         .arg(macros_option(alloc))
 }
@@ -301,6 +357,53 @@ fn devices_in(alloc: Global, matches: &ArgMatches<'_>, mode: Mode) -> Result<Dev
     }
 }
 
+// Returns the seconds between two saves.
+fn seconds_in(alloc: Global, matches: &ArgMatches<'_>) -> Result<u64, Stop>
+    ensures { IfOk result (IsSeconds (rows_of (found_of matches.now))) }
+{
+    match matches.get_str(SAVE_EVERY) {
+        None => Ok(SAVE_SECONDS),
+        Some(_) => number_in(alloc, matches, SAVE_EVERY, MAX_SAVE_SECONDS, NO_SECONDS),
+    }
+}
+
+// Only a live run saves values.
+fn must_be_live(alloc: Global, mode: Mode) -> Result<(), Stop>
+    ensures { OnOk result (mode ≡ Live) }
+{
+    match mode {
+        Mode::Live => Ok(()),
+        Mode::Console | Mode::Ticks(_) => Err(refused(alloc, NO_SAVE)),
+    }
+}
+
+// Returns what is saved.
+fn save_in<'a>(
+    alloc: Global,
+    matches: &ArgMatches<'a>,
+    mode: Mode,
+) -> Result<Option<SaveArgs<'a>>, Stop>
+    ensures { IfOk result (IsSave (rows_of (found_of matches.now)) mode) }
+{
+    let request = matches.get_str(SAVE);
+    let file = matches.get_str(SAVE_TO);
+    let every = matches.get_str(SAVE_EVERY);
+    match (request, file, every) {
+        (None, None, None) => Ok(None),
+        (None, None, Some(_)) => Err(refused(alloc, NO_SECONDS)),
+        (Some(request), Some(file), _) => {
+            must_be_live(alloc, mode)?;
+            let seconds = seconds_in(alloc, matches)?;
+            Ok(Some(SaveArgs {
+                request,
+                file,
+                seconds,
+            }))
+        }
+        _ => Err(refused(alloc, NO_SAVE)),
+    }
+}
+
 // Returns what the matches ask for.
 fn read<'a>(alloc: Global, matches: &ArgMatches<'a>) -> Result<Args<'a>, Stop>
     ensures { IfOk result (IsAskedBy (rows_of (found_of matches.now))) }
@@ -311,6 +414,7 @@ fn read<'a>(alloc: Global, matches: &ArgMatches<'a>) -> Result<Args<'a>, Stop>
     let mode = mode_in(alloc, matches)?;
     let devices = devices_in(alloc, matches, mode)?;
     let workers = number_in(alloc, matches, WORKERS, MAX_WORKERS, NO_WORKERS)?;
+    let save = save_in(alloc, matches, mode)?;
     let macros = macros_in(alloc, matches)?;
     let definitions = definitions_in(alloc, matches)?;
     Ok(Args {
@@ -323,12 +427,15 @@ fn read<'a>(alloc: Global, matches: &ArgMatches<'a>) -> Result<Args<'a>, Stop>
         overwrites: is_given(matches, OVERWRITE),
         seals: is_given(matches, SEAL),
         syncs: is_given(matches, SYNC),
+        save,
+        restore: matches.get_str(RESTORE),
         definitions,
     })
 }
 
 /// Reads the words of a command line, of which the first is the program's name: DB, one of `--ticks N`,
-/// `--console` and `--live`, `--devices KIND`, `--workers W`, `--journal FILE`, `--overwrite`, `--seal`, `--sync`, and definitions of macros, as `NAME=VALUE`, `P=a,R=b`, or with
+/// `--console` and `--live`, `--devices KIND`, `--workers W`, `--journal FILE`, `--overwrite`, `--seal`, `--sync`, `--save FILE.req` with `--save-to FILE` and `--save-every S`,
+/// `--restore FILE`, and definitions of macros, as `NAME=VALUE`, `P=a,R=b`, or with
 /// `-m` before them.
 ///
 /// # Errors

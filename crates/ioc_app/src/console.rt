@@ -219,11 +219,17 @@ impl<E: Write + Drop> Answerer<E> {
         add_named(alloc, said, "late_us", pace.late / 1_000)?;
         let open = counts.told.saturating_sub(self.answered);
         add_named(alloc, said, "asks_open", open)?;
-        let Some(entries) = counts.entries else {
-            return add_count(said, 4);
-        };
-        add_named(alloc, said, "entries", entries)?;
-        add_count(said, 5)
+        let mut count = 4;
+        if let Some(entries) = counts.entries {
+            add_named(alloc, said, "entries", entries)?;
+            count += 1;
+        }
+        if let Some((saves, failed)) = counts.saves {
+            add_named(alloc, said, "saves", saves)?;
+            add_named(alloc, said, "saves_failed", failed)?;
+            count += 2;
+        }
+        add_count(said, count)
     }
 
     // Answers for the device of a record, and appends the reply.

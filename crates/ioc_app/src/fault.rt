@@ -12,6 +12,8 @@ pub enum RunFault {
     Write(Reason),
     /// The journal couldn't be written.
     Journal(Reason),
+    /// The values of channels couldn't be saved at the end.
+    Save(Reason),
     /// Allocation failed before the task began.
     Start,
     /// Allocation failed in the task or afterwards.
@@ -36,6 +38,7 @@ impl fmt::Display for RunFault {
             RunFault::Read(reason) => write!(f, "cannot read the lines: {reason}"),
             RunFault::Write(reason) => write!(f, "cannot write the records: {reason}"),
             RunFault::Journal(reason) => write!(f, "cannot write the journal: {reason}"),
+            RunFault::Save(reason) => write!(f, "cannot save the values: {reason}"),
             RunFault::Start => f.write_str("out of memory while loading"),
             RunFault::Memory => f.write_str("out of memory"),
         }

@@ -5,6 +5,7 @@ use crate::running::PLACES;
 use ioc_command_line::Reason;
 use ioc_engine::{Desk, Device, Engine, EngineName, JournalEntry, Report};
 use ioc_journal_lines::Header;
+use ioc_saved::SavedValue;
 use std::alloc::Global;
 use std::io::Write;
 use std::slice;
@@ -32,19 +33,26 @@ pub struct JournalWriter<J: Write + Drop> {
 }
 
 impl<J: Write + Drop> JournalWriter<J> {
-    /// Creates a writer that has written this header. If more than `most` entries are in memory after
-    /// a tick, it drops them.
+    /// Creates a writer that has written this header, and behind it the values that were restored. If
+    /// more than `most` entries are in memory after a tick, it drops them.
     ///
     /// # Errors
     ///
     /// [`RunFault::Journal`] if a write fails. [`RunFault::Memory`] if allocation fails.
-    pub fn begin(alloc: Global, out: J, header: &Header, most: u64) -> Result<Self, RunFault> {
+    pub fn begin(
+        alloc: Global,
+        out: J,
+        header: &Header,
+        restored: &[SavedValue],
+        most: u64,
+    ) -> Result<Self, RunFault> {
         let mut writer = JournalWriter {
             out,
             text: JournalText::begin(alloc, header)?,
             kept: header.first,
             most,
         };
+        writer.text.add_bases(restored)?;
         writer.flush(false)?;
         Ok(writer)
     }

@@ -7,7 +7,8 @@ use crate::fault::RunFault;
 use ioc_command_line::Reason;
 use ioc_engine::JournalEntry;
 use ioc_journal_file::add_entries;
-use ioc_journal_lines::{Header, Seals, add_end, add_header, add_seal};
+use ioc_journal_lines::{Header, Seals, add_base, add_end, add_header, add_seal};
+use ioc_saved::SavedValue;
 use std::alloc::{AllocError, Global};
 
 // How many entries have a seal behind them at the latest, and those that are written with them.
@@ -23,6 +24,14 @@ pub struct JournalText {
     seals: Option<Seals>,
     // The number of entries behind the last seal.
     unsealed: u64,
+}
+
+// Appends the lines of values that were restored.
+fn add_bases(lines: &mut Vec<u8>, values: &[SavedValue]) -> Result<(), AllocError> {
+    for value in values {
+        add_base(lines, value)?;
+    }
+    Ok(())
 }
 
 impl JournalText {
@@ -48,6 +57,17 @@ impl JournalText {
             seals,
             unsealed: 0,
         })
+    }
+
+    /// Adds the lines of values that were restored before the first entry.
+    ///
+    /// # Errors
+    ///
+    /// [`AllocError`] if allocation fails; some lines may have been added then.
+    pub fn add_bases(&mut self, values: &[SavedValue]) -> Result<(), AllocError>
+        ensures { self.new.place ≡ self.old.place }
+    {
+        add_bases(&mut self.lines, values)
     }
 
     /// Returns the place of the next entry.

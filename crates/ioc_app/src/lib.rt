@@ -19,18 +19,29 @@ mod pattern;
 mod reading;
 mod record_line;
 mod report;
+mod requesting;
+mod restoring;
 mod running;
+mod saved_file;
+mod saving;
 mod streams;
 mod synced;
 mod task;
 
-pub use arguments::{Args, Devices, MAX_TICKS, MAX_WORKERS, Mode, PROGRAM, ioc_args};
+pub use arguments::{
+    Args, Devices, MAX_SAVE_SECONDS, MAX_TICKS, MAX_WORKERS, Mode, PROGRAM, SAVE_SECONDS, SaveArgs,
+    ioc_args,
+};
 pub use asks::{Asks, OutsideDevice};
 pub use console::Console;
 pub use device::{CountingDevice, counting_devices};
 pub use fault::RunFault;
 pub use ioc_journal_lines::{Header, database_hash};
 pub use moment::file_name;
+pub use requesting::Requested;
+pub use restoring::{Restored, saved_values};
 pub use running::{JournalFile, Outputs, Plant, ioc_run};
+pub use saved_file::{ReplaceFiles, SavedPaths};
+pub use saving::{SavedField, Saving};
 pub use synced::SyncedFile;
 pub use task::{Task, Ticks};

@@ -1,6 +1,9 @@
 //! The clock of a run.
+ghost use Rattle.std.specs.Thread.{IsSend};
+
 use crate::fault::RunFault;
 use crate::pace::{next_tick, wait_for};
+use crate::saved_file::ReplaceFiles;
 use crate::streams::Streams;
 use crate::task::{Task, tick};
 use ioc_command_line::Reason;
@@ -10,6 +13,15 @@ use std::io::Write;
 use std::sync::Wait;
 use std::thread::{self, Threads};
 use std::time::{self, Duration, Instant};
+
+/// The desks of the threads beside a task.
+#[derive(Drop)]
+pub struct ClockDesks<B: EngineName<D>, D: Device> {
+    /// That of the thread that walks the periods.
+    pub ticking: Desk<B, D>,
+    /// That of the thread that saves values, if any are saved.
+    pub saving: Option<Desk<B, D>>,
+}
 
 // Returns how many nanoseconds have passed since the start; 0 if the time can't be read.
 fn since<R: time::Clock>(rt: &R, start: &Instant) -> u64 {
@@ -82,8 +94,42 @@ fn do_task<
     worked
 }
 
+// Does a task, while another thread saves values, if any are saved.
+fn do_beside_saving<
+    B: EngineName<D> + Send + Sync,
+    D: Device + Send + Sync,
+    C: Clock + Drop + Send + Sync,
+    T: Task,
+    W: Write + Drop + Send,
+    J: Write + Drop + Send,
+    R: ReplaceFiles + Threads + Wait + Sync,
+>(
+    rt: &R,
+    alloc: Global,
+    engine: &Engine<B, D, C>,
+    desk: &mut Desk<B, D>,
+    saving: Option<Desk<B, D>>,
+    task: &mut T,
+    streams: &Streams<'_, W, J>,
+) -> Result<(), RunFault> {
+    let (Some(values), Some(saver)) = (streams.saving, saving) else {
+        return do_task(rt, alloc, engine, desk, task, streams);
+    };
+    let ((), worked) = thread::join(
+        rt,
+        || values.keep(rt, alloc, engine, saver),
+        || {
+            let worked = do_task(rt, alloc, engine, desk, task, streams);
+            values.end();
+            worked
+        },
+    );
+    worked
+}
+
 /// Does a task by a desk of an engine, while another thread walks the periods once in each tenth of a
-/// second by a second desk, tells what devices outside are asked, and writes the journal.
+/// second by a desk of its own, tells what devices outside are asked, and writes the journal, and a third
+/// one saves values, if any are saved.
 ///
 /// # Errors
 ///
@@ -95,20 +141,23 @@ pub fn beside_clock<
     T: Task,
     W: Write + Drop + Send,
     J: Write + Drop + Send,
-    R: time::Clock + Threads + Wait + Sync,
+    R: ReplaceFiles + time::Clock + Threads + Wait + Sync,
 >(
     rt: &R,
     alloc: Global,
     engine: &Engine<B, D, C>,
     desk: &mut Desk<B, D>,
-    second: Desk<B, D>,
+    clock: ClockDesks<B, D>,
     task: &mut T,
     streams: &Streams<'_, W, J>,
 ) -> Result<(), RunFault> {
+    let ClockDesks { ticking, saving } = clock;
     let (kept, worked) = thread::join(
         rt,
-        || keep_time(rt, alloc, engine, second, streams),
-        || do_task(rt, alloc, engine, desk, task, streams),
+        || keep_time(rt, alloc, engine, ticking, streams),
+        || -> Result<(), RunFault>
+            requires { IsSend B.row × IsSend D.row × IsSend C.row × IsSend W.row × IsSend J.row }
+        { do_beside_saving(rt, alloc, engine, desk, saving, task, streams) },
     );
     worked?;
     kept

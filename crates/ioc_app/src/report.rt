@@ -2,9 +2,10 @@
 use crate::fault::RunFault;
 use crate::journal::JournalWriter;
 use crate::record_line::add_line;
+use crate::saved_file::ReplaceFiles;
 use crate::streams::Streams;
 use ioc_engine::{Device, EngineName, Report, StoppedRecord};
-use ioc_main::tally_line;
+use ioc_main::{LineReply, tally_line};
 use std::alloc::{AllocError, Global};
 use std::io::Write;
 
@@ -16,22 +17,45 @@ fn add_lines<D>(lines: &mut Vec<u8>, records: &[StoppedRecord<D>]) -> Result<(),
     Ok(())
 }
 
-// Returns the lines of the records of a report in the order of their numbers, and the line of the
-// counts.
-fn lines_of<B: EngineName<D>, D: Device>(
+// Returns the records of a report in the order of their numbers.
+fn records_of<B: EngineName<D>, D: Device>(
     alloc: Global,
     report: Report<B, D>,
-) -> Result<Vec<u8>, AllocError> {
-    let tally = report.tally();
+) -> Result<Vec<StoppedRecord<D>>, AllocError> {
+    let mut records = report.into_records(alloc)?;
+    records.sort_unstable_by_key(|stopped| stopped.number.index());
+    Ok(records)
+}
+
+// Returns the line of the counts of a report.
+fn counts_of<B: EngineName<D>, D: Device>(report: &Report<B, D>) -> LineReply {
     let undone = report
         .items_undone()
         .saturating_add(report.requests_dropped());
-    let dropped = report.dropped().saturating_add(undone);
-    let mut records = report.into_records(alloc)?;
-    records.sort_unstable_by_key(|stopped| stopped.number.index());
+    tally_line(&report.tally(), report.dropped().saturating_add(undone))
+}
+
+// Returns the place behind the last entry of a report.
+fn place_of<B: EngineName<D>, D: Device>(report: &Report<B, D>) -> u64 {
+    let mut place = report.first_place();
+    for next in place..u64::MAX {
+        if report.entry_at(next).is_none() {
+            break;
+        }
+        place = next.saturating_add(1);
+    }
+    place
+}
+
+// Returns the lines of these records and of the counts.
+fn lines_of<D>(
+    alloc: Global,
+    records: &[StoppedRecord<D>],
+    counts: &LineReply,
+) -> Result<Vec<u8>, AllocError> {
     let mut lines = Vec::new(alloc);
-    add_lines(&mut lines, &records)?;
-    lines.extend_from_slice(tally_line(&tally, dropped).as_slice())?;
+    add_lines(&mut lines, records)?;
+    lines.extend_from_slice(counts.as_slice())?;
     Ok(lines)
 }
 
@@ -54,16 +78,17 @@ fn write_journal<B: EngineName<D>, D: Device, J: Write + Drop>(
     }
 }
 
-/// Writes what a run leaves: the rest of the journal if it is kept, and, unless the run has ended
-/// early, the journal's end, a line for each record, in the order of the database text, and the line of the counts of
-/// requests.
+/// Writes what a run leaves: the rest of the journal if it is kept, the values that are saved if any are,
+/// and, unless the run has ended early, the journal's end, a line for each record, in the order of the
+/// database text, and the line of the counts of requests.
 ///
 /// # Errors
 ///
-/// Why the run has ended early. [`RunFault::Journal`] or [`RunFault::Write`] if a write fails.
-/// [`RunFault::Memory`] if allocation fails, or has failed for a request of a scan, which was left
-/// out then.
-pub fn end<B: EngineName<D>, D: Device, W: Write + Drop, J: Write + Drop>(
+/// Why the run has ended early. [`RunFault::Journal`], [`RunFault::Write`] or [`RunFault::Save`] if a
+/// write fails. [`RunFault::Memory`] if allocation fails, or has failed for a request of a scan, which
+/// was left out then.
+pub fn end<B: EngineName<D>, D: Device, W: Write + Drop, J: Write + Drop, R: ReplaceFiles>(
+    rt: &R,
     alloc: Global,
     report: Report<B, D>,
     ran: Result<(), RunFault>,
@@ -71,14 +96,24 @@ pub fn end<B: EngineName<D>, D: Device, W: Write + Drop, J: Write + Drop>(
 ) -> Result<(), RunFault> {
     let kept = write_journal(&report, ran, streams.journal());
     let is_complete = report.refused() == 0;
-    let lines = lines_of(alloc, report);
+    let counts = counts_of(&report);
+    let place = match streams.saving {
+        Some(_) => place_of(&report),
+        None => 0,
+    };
+    let records = records_of(alloc, report);
+    let saved = match (&records, streams.saving) {
+        (Ok(records), Some(saving)) => saving.save_last(rt, alloc, records, place),
+        _ => Ok(()),
+    };
     kept?;
     if !is_complete {
         return Err(RunFault::Memory);
     }
-    let lines = lines?;
+    let lines = lines_of(alloc, &records?, &counts)?;
     if let Some(writer) = streams.journal() {
         writer.write_end()?;
     }
-    streams.write_last(&lines)
+    streams.write_last(&lines)?;
+    saved
 }

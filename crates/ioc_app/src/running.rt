@@ -5,12 +5,15 @@ ghost use Rattle.ioc_engine.specs.Named.{IsNamedBy};
 use crate::asks::Asks;
 use crate::fault::RunFault;
 use crate::journal::JournalWriter;
-use crate::live::beside_clock;
+use crate::live::{ClockDesks, beside_clock};
 use crate::report::end;
+use crate::saved_file::ReplaceFiles;
+use crate::saving::Saving;
 use crate::streams::Streams;
 use crate::task::{Task, fault_of};
 use ioc_engine::{Clock, Database, Desk, Device, DeviceName, Engine, EngineName, Limits, Seed};
 use ioc_journal_lines::Header;
+use ioc_saved::SavedValue;
 use std::alloc::Global;
 use std::io::Write;
 use std::marker::Brand;
@@ -37,11 +40,13 @@ pub struct Plant<D: Drop, C: Drop> {
     pub workers: u64,
 }
 
-/// The file of a journal, with its first line.
+/// The file of a journal, with its first lines.
 #[derive(Drop)]
 pub struct JournalFile<J: Write + Drop> {
     pub file: J,
     pub header: Header,
+    /// The values that were restored before the run.
+    pub restored: Vec<SavedValue>,
 }
 
 /// Where a run writes to: lines, and the journal if it is kept.
@@ -51,6 +56,8 @@ pub struct Outputs<'a, W: Write + Drop, J: Write + Drop> {
     pub journal: Option<JournalFile<J>>,
     /// What devices outside are asked, which is told in lines.
     pub asks: &'a Asks,
+    /// What is saved while a live run goes on, if anything is.
+    pub saving: Option<&'a Saving>,
 }
 
 // Serves the requests that wait, until none does or many were served.
@@ -66,7 +73,7 @@ fn serve_waiting<B: EngineName<D>, D: Device, C: Clock + Drop, R: Wait>(
     }
 }
 
-// Does a task, by the clock if there is a second desk, serves the requests that wait then, and closes
+// Does a task, by the clock if there are desks for it, serves the requests that wait then, and closes
 // the engine.
 fn work_and_close<
     B: EngineName<D> + Send + Sync,
@@ -75,19 +82,19 @@ fn work_and_close<
     T: Task,
     W: Write + Drop + Send,
     J: Write + Drop + Send,
-    R: time::Clock + Threads + Wait + Sync,
+    R: ReplaceFiles + time::Clock + Threads + Wait + Sync,
 >(
     rt: &R,
     alloc: Global,
     engine: &Engine<B, D, C>,
     desk: Desk<B, D>,
-    second: Option<Desk<B, D>>,
+    clock: Option<ClockDesks<B, D>>,
     task: &mut T,
     streams: &Streams<'_, W, J>,
 ) -> Result<(), RunFault> {
     let mut desk = desk;
-    let worked = match second {
-        Some(second) => beside_clock(rt, alloc, engine, &mut desk, second, task, streams),
+    let worked = match clock {
+        Some(clock) => beside_clock(rt, alloc, engine, &mut desk, clock, task, streams),
         None => task.work(rt, alloc, engine, &mut desk, streams),
     };
     if worked.is_ok() {
@@ -106,6 +113,25 @@ fn open_desk<B: EngineName<D>, D: Device, C: Clock + Drop, R: Wait>(
         Ok(desk) => Ok(desk),
         Err(refused) => Err(fault_of(refused)),
     }
+}
+
+// Opens the desks of the threads beside a task that has a clock, one of which saves values.
+fn clock_desks<B: EngineName<D>, D: Device, C: Clock + Drop, R: Wait>(
+    rt: &R,
+    engine: &Engine<B, D, C>,
+    has_clock: bool,
+    saves: bool,
+) -> Result<Option<ClockDesks<B, D>>, RunFault> {
+    if !has_clock {
+        return Ok(None);
+    }
+    let ticking = open_desk(rt, engine)?;
+    let saving = if saves {
+        Some(open_desk(rt, engine)?)
+    } else {
+        None
+    };
+    Ok(Some(ClockDesks { ticking, saving }))
 }
 
 // Opens this many desks.
@@ -159,7 +185,7 @@ fn in_threads<
     T: Task,
     W: Write + Drop + Send,
     J: Write + Drop + Send,
-    R: time::Clock + Threads + Wait + Sync,
+    R: ReplaceFiles + time::Clock + Threads + Wait + Sync,
 >(
     rt: &R,
     alloc: Global,
@@ -169,18 +195,14 @@ fn in_threads<
     streams: &Streams<'_, W, J>,
 ) -> Result<(), RunFault> {
     let desk = open_desk(rt, engine)?;
-    let second = if task.has_clock() {
-        Some(open_desk(rt, engine)?)
-    } else {
-        None
-    };
+    let clock = clock_desks(rt, engine, task.has_clock(), streams.saving.is_some())?;
     let workers = desks(rt, alloc, engine, workers)?;
     let (served, worked) = thread::join(
         rt,
         || serve_all(rt, engine, workers),
         || -> Result<(), RunFault>
             requires { IsSend B.row × IsSend D.row × IsSend C.row × IsSend W.row × IsSend J.row }
-        { work_and_close(rt, alloc, engine, desk, second, task, streams) },
+        { work_and_close(rt, alloc, engine, desk, clock, task, streams) },
     );
     worked?;
     served
@@ -192,11 +214,18 @@ fn writer_of<J: Write + Drop>(
     journal: Option<JournalFile<J>>,
     is_endless: bool,
 ) -> Result<Option<JournalWriter<J>>, RunFault> {
-    let Some(JournalFile { file, header }) = journal else {
+    let Some(
+        JournalFile {
+            file,
+            header,
+            restored,
+        },
+    ) = journal
+    else {
         return Ok(None);
     };
     let most = if is_endless { KEPT } else { PLACES / 4 };
-    let writer = JournalWriter::begin(alloc, file, &header, most)?;
+    let writer = JournalWriter::begin(alloc, file, &header, &restored, most)?;
     Ok(Some(writer))
 }
 
@@ -229,7 +258,7 @@ fn work<
     T: Task,
     W: Write + Drop + Send,
     J: Write + Drop + Send,
-    R: time::Clock + Threads + Wait + Sync,
+    R: ReplaceFiles + time::Clock + Threads + Wait + Sync,
 >(
     rt: &R,
     alloc: Global,
@@ -246,7 +275,7 @@ fn work<
         return Err(RunFault::Start);
     };
     let ran = in_threads(rt, alloc, &engine, workers, task, streams);
-    end(alloc, engine.stop(rt), ran, streams)
+    end(rt, alloc, engine.stop(rt), ran, streams)
 }
 
 // Runs an engine, and returns what it leaves.
@@ -256,7 +285,7 @@ fn run<
     T: Task,
     W: Write + Drop + Send,
     J: Write + Drop + Send,
-    R: time::Clock + Threads + Wait + Sync,
+    R: ReplaceFiles + time::Clock + Threads + Wait + Sync,
 >(
     rt: &R,
     alloc: Global,
@@ -272,20 +301,22 @@ fn run<
 /// Does a task with the records of a database, while as many threads serve the requests that wait.
 /// Then it writes a line for each record, in the order of the database text, and the line of the
 /// counts of requests. If the journal is kept, each of its entries is a line of its file, behind its
-/// header, and its end is the last line if the run ends well.
+/// header, and its end is the last line if the run ends well. If values are saved, they are saved once
+/// more at the end.
 ///
 /// # Errors
 ///
 /// [`RunFault::Start`] if allocation fails before the task begins, and [`RunFault::Memory`] if it
 /// fails later. [`RunFault::Journal`] or [`RunFault::Write`] if a write fails, and
-/// [`RunFault::Read`] if a read of the task fails.
+/// [`RunFault::Read`] if a read of the task fails. [`RunFault::Save`] if values can't be saved at the
+/// end.
 pub fn ioc_run<
     D: Device + Send + Sync,
     C: Clock + Drop + Send + Sync,
     T: Task,
     W: Write + Drop + Send,
     J: Write + Drop + Send,
-    R: time::Clock + Threads + Wait + Sync,
+    R: ReplaceFiles + time::Clock + Threads + Wait + Sync,
 >(
     rt: &R,
     alloc: Global,
@@ -303,9 +334,10 @@ pub fn ioc_run<
         lines,
         journal,
         asks,
+        saving,
     } = outputs;
     let writer = writer_of(alloc, journal, task.is_endless())?;
-    let mut streams = Streams::new(lines, writer, asks);
+    let mut streams = Streams::new(lines, writer, asks, saving);
     let Ok(seed) = Seed::new(alloc, database, devices) else {
         return Err(RunFault::Start);
     };

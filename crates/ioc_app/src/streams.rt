@@ -4,6 +4,7 @@ use crate::caller::LineFault;
 use crate::fault::RunFault;
 use crate::journal::JournalWriter;
 use crate::pace::{Next, Pace};
+use crate::saving::Saving;
 use ioc_command_line::Reason;
 use ioc_engine::{Desk, Device, Engine, EngineName, IocError};
 use std::alloc::Global;
@@ -18,6 +19,8 @@ pub struct Counts {
     pub entries: Option<u64>,
     /// How many asks devices outside were told.
     pub told: u64,
+    /// How many files of values were saved, and how many couldn't be, if values are saved.
+    pub saves: Option<(u64, u64)>,
 }
 
 /// What the threads of a run write, under one lock: lines, and the journal if it is kept. No line is
@@ -27,6 +30,8 @@ pub struct Counts {
 pub struct Streams<'a, W: Write + Drop, J: Write + Drop> {
     written: Mutex<Written<W, J>>,
     pub asks: &'a Asks,
+    /// What is saved, if anything is.
+    pub saving: Option<&'a Saving>,
 }
 
 // What is written under the lock.
@@ -125,7 +130,12 @@ impl<W: Write + Drop, J: Write + Drop> Written<W, J> {
 
 impl<'a, W: Write + Drop, J: Write + Drop> Streams<'a, W, J> {
     /// Takes what is written to.
-    pub fn new(lines: W, journal: Option<JournalWriter<J>>, asks: &'a Asks) -> Self {
+    pub fn new(
+        lines: W,
+        journal: Option<JournalWriter<J>>,
+        asks: &'a Asks,
+        saving: Option<&'a Saving>,
+    ) -> Self {
         Streams {
             written: Mutex::new(Written {
                 lines,
@@ -135,6 +145,7 @@ impl<'a, W: Write + Drop, J: Write + Drop> Streams<'a, W, J> {
                 fault: None,
             }),
             asks,
+            saving,
         }
     }
 
@@ -211,6 +222,10 @@ impl<'a, W: Write + Drop, J: Write + Drop> Streams<'a, W, J> {
                 None => None,
             },
             told: written.told,
+            saves: match self.saving {
+                Some(saving) => Some(saving.counts()),
+                None => None,
+            },
         }
     }
 

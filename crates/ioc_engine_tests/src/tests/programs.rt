@@ -61,8 +61,10 @@ fn run<R: Clock + Threads + Wait + Sync>(
                 is_sealed: true,
                 first: 0,
             },
+            restored: Vec::new(alloc),
         }),
         asks: &asks,
+        saving: None,
     };
     match ioc_run(rt, alloc, plant, &mut Ticks(100), outputs) {
         Ok(()) => Ok(()),

@@ -12,5 +12,7 @@ returns c = record {
   overwrites = c.is_given.ensures;
   seals = c.is_given-2.ensures;
   syncs = c.is_given-3.ensures;
+  save = c.in_ok-save.ensures;
+  restore = first_is c.args.matches.now (codes "restore") c.get_str-3.result c.get_str-3.ensures;
   macros = c.in_ok-macros.ensures.ok;
 }
