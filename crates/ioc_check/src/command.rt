@@ -17,6 +17,8 @@ A DB whose name ends in .substitutions, .subs or .sub is a substitution file. A 
     standard output, or to standard error beside --sets and --dot, and how many \
     there are to standard error.
 
+With --calc no DB is read: EXPRESSION is run on the inputs that words as A=6 and VAL=1 give.
+
 With --write fields that EPICS has and this project leaves out are dropped with a warning, and OUT \
     is written only if there is no error.
 
@@ -39,6 +41,8 @@ const WRITE: &str = "write";
 
 const DROP_TYPES: &str = "drop-types";
 
+const CALC: &str = "calc";
+
 /// What a command line asks for.
 #[derive(Drop)]
 pub struct Words<'a> {
@@ -54,6 +58,8 @@ pub struct Words<'a> {
     /// The path of the file to which all records are written as one text.
     pub output: Option<&'a str>,
     pub left_out_types: LeftOutTypes,
+    /// The expression that is tried on numbers, in place of all else.
+    pub expression: Option<&'a str>,
 }
 
 // Returns the command of the program, without what a run shows and writes.
@@ -63,7 +69,7 @@ fn command<'a>(alloc: Global) -> Result<Command<'a>, AllocError> {
         .arg(
             Arg::new(alloc, FILES)
                 .num_args(1..)
-                .required(true)
+                .required_unless_present(CALC)?
                 .action(ArgAction::Append)
                 .help("the database files, and definitions NAME=VALUE of macros"),
         )?
@@ -109,6 +115,14 @@ fn with_outputs<'a>(alloc: Global, command: Command<'a>) -> Result<Command<'a>, 
                 .action(ArgAction::SetTrue)
                 .requires_arg(WRITE)?
                 .help("drops records of the types of EPICS that are left out here, with a warning"),
+        )?
+        .arg(
+            Arg::new(alloc, CALC)
+                .long(CALC)
+                .value_name("EXPRESSION")
+                .help(
+                    "prints what the expression of a calc record gives, with A to L from words as A=6",
+                ),
         )
 }
 
@@ -167,11 +181,16 @@ impl<'a> Words<'a> {
             } else {
                 LeftOutTypes::Keep
             },
+            expression: matches.get_str(CALC),
         };
         said.add(alloc, &matches)?;
-        if said.paths.is_empty() {
-            return Err(Stop::Usage(UsageFault::NoArgument));
+        match (said.expression, said.paths.first()) {
+            (None, None) => Err(Stop::Usage(UsageFault::NoArgument)),
+            (Some(_), Some(path)) => {
+                let text = String::from_utf8_lossy(alloc, path)?;
+                Err(Stop::Usage(UsageFault::NoDefinition(text)))
+            }
+            _ => Ok(said),
         }
-        Ok(said)
     }
 }

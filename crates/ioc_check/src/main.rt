@@ -2,6 +2,7 @@
 //! them and what in them is worth a look.
 #![tactic(auto)]
 
+mod calc;
 mod command;
 mod disk;
 mod left_out;
@@ -10,6 +11,7 @@ mod printing;
 mod tests;
 mod writing;
 
+use crate::calc::{NAMES, Tried, tried};
 use crate::command::{PROGRAM, Words};
 use crate::disk::Disk;
 use crate::printing::{Counts, add_findings};
@@ -86,20 +88,47 @@ fn examine<R: Files + Alloc<A = Global>>(rt: &R, words: &Words<'_>) -> Result<Pr
     })
 }
 
+// Tries an expression on the numbers that the words give.
+fn calculated(alloc: Global, words: &Words<'_>, text: &str) -> Result<Printed, Stop> {
+    let mut all = Vec::new(alloc);
+    let mut output = Vec::new(alloc);
+    match tried(alloc, text.as_bytes(), &words.definitions)? {
+        Tried::Gives(lines) => output = lines,
+        Tried::Fault(finding) => all.push(finding).map_err(AllocError::from)?,
+    }
+    let mut files = Vec::new(alloc);
+    for name in NAMES {
+        files.push(name.to_vec(alloc)?).map_err(AllocError::from)?;
+    }
+    let mut errors = Vec::new(alloc);
+    add_findings(alloc, &files, &all, &mut errors)?;
+    Ok(Printed {
+        output,
+        errors,
+        counts: Counts::of(&all),
+        database: None,
+    })
+}
+
 // Does what the words of the command line ask for, and returns how the program ends.
 fn work(rt: &HostRuntime) -> Result<Ending, Stop> {
     let alloc = rt.alloc();
     let all = given(alloc, env::args(rt))?;
     let words = Words::from_words(alloc, all.as_slice())?;
-    let mut printed = examine(rt, &words)?;
+    let mut printed = match words.expression {
+        Some(text) => calculated(alloc, &words, text)?,
+        None => examine(rt, &words)?,
+    };
     if let Err(e) = io::writer(rt).write_all(printed.output.as_slice()) {
         return Err(Stop::Write(Reason::of(&e)));
     }
     if let (Some(path), Some(text)) = (words.output, &printed.database) {
         save(rt, path, text.as_slice())?;
     }
-    let line = printed.counts.line(alloc)?;
-    printed.errors.extend_from_slice(line.as_bytes())?;
+    if words.expression.is_none() {
+        let line = printed.counts.line(alloc)?;
+        printed.errors.extend_from_slice(line.as_bytes())?;
+    }
     let text = String::from_utf8_lossy(alloc, printed.errors.as_slice())?;
     Ok(Ending {
         program: PROGRAM.name,
