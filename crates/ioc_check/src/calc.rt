@@ -135,7 +135,11 @@ fn add_number(out: &mut Vec<u8>, number: Double) -> Result<(), AllocError> {
 /// # Errors
 ///
 /// [`AllocError`] if allocation fails.
-pub fn tried(alloc: Global, text: &[u8], definitions: &[Definition]) -> Result<Tried, AllocError> {
+pub fn calculate(
+    alloc: Global,
+    text: &[u8],
+    definitions: &[Definition],
+) -> Result<Tried, AllocError> {
     let mut inputs = Inputs::new();
     for (line, definition) in (1u32..).zip(definitions) {
         if let Some(said) = inputs.set(alloc, definition)? {

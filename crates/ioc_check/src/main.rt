@@ -11,7 +11,7 @@ mod printing;
 mod tests;
 mod writing;
 
-use crate::calc::{NAMES, Tried, tried};
+use crate::calc::{NAMES, Tried, calculate};
 use crate::command::{PROGRAM, Words};
 use crate::disk::Disk;
 use crate::printing::{Counts, add_findings};
@@ -90,9 +90,9 @@ fn examine<R: Files + Alloc<A = Global>>(rt: &R, words: &Words<'_>) -> Result<Pr
 
 // Tries an expression on the numbers that the words give.
 fn calculated(alloc: Global, words: &Words<'_>, text: &str) -> Result<Printed, Stop> {
-    let mut all = Vec::new(alloc);
     let mut output = Vec::new(alloc);
-    match tried(alloc, text.as_bytes(), &words.definitions)? {
+    let mut all = Vec::new(alloc);
+    match calculate(alloc, text.as_bytes(), &words.definitions)? {
         Tried::Gives(lines) => output = lines,
         Tried::Fault(finding) => all.push(finding).map_err(AllocError::from)?,
     }
@@ -100,11 +100,10 @@ fn calculated(alloc: Global, words: &Words<'_>, text: &str) -> Result<Printed, S
     for name in NAMES {
         files.push(name.to_vec(alloc)?).map_err(AllocError::from)?;
     }
-    let mut errors = Vec::new(alloc);
-    add_findings(alloc, &files, &all, &mut errors)?;
+    add_findings(alloc, &files, &all, &mut output)?;
     Ok(Printed {
         output,
-        errors,
+        errors: Vec::new(alloc),
         counts: Counts::of(&all),
         database: None,
     })
