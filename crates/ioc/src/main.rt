@@ -304,6 +304,7 @@ fn do_task<
 
 // Runs a database with these devices, and writes its journal if it is kept.
 fn run_with<
+    'a,
     F: Write + OpenFile + Drop + Send,
     R: Alloc<A = Global> + Clock + Files<File = F> + ReplaceFiles + Print + Threads + Wait + Sync,
     D: Device + Send + Sync,
@@ -314,7 +315,8 @@ fn run_with<
     args: &Args<'_>,
     loaded: HashedDatabase,
     devices: Vec<(DeviceName, D)>,
-    asks: &Asks,
+    asks: &'a Asks,
+    saving: Option<&'a Saving>,
     terminal: Terminal<I, E>,
 ) -> Result<(), Stop> {
     let alloc = rt.alloc();
@@ -323,8 +325,6 @@ fn run_with<
         hash,
         restored,
     } = loaded;
-    let mut terminal = terminal;
-    let saving = saving_of(rt, args, &database, &mut terminal.errors)?;
     let console = console_of(alloc, &database, terminal)?;
     let plant = Plant {
         devices,
@@ -338,7 +338,7 @@ fn run_with<
             lines: io::writer(rt),
             journal: None::<JournalFile<SyncedFile<'_, F, R>>>,
             asks,
-            saving: saving.as_ref(),
+            saving,
         };
         let done = do_task(rt, alloc, plant, args.mode, console, outputs);
         return ran(alloc, args, done, "");
@@ -354,7 +354,7 @@ fn run_with<
         lines: io::writer(rt),
         journal: Some(journal),
         asks,
-        saving: saving.as_ref(),
+        saving,
     };
     let done = do_task(rt, alloc, plant, args.mode, console, outputs);
     let synced = sync(alloc, handle, path.as_str());
@@ -385,15 +385,18 @@ fn work<
     let alloc = rt.alloc();
     let mut terminal = terminal;
     let loaded = loaded(rt, args, &mut terminal.errors)?;
+    let saving = saving_of(rt, args, &loaded.database, &mut terminal.errors)?;
+    let saving = saving.as_ref();
     match args.devices {
         Devices::Counting => {
             let devices = counting_devices(alloc, &loaded.database)?;
-            run_with(rt, args, loaded, devices, &Asks::none(alloc)?, terminal)
+            let asks = Asks::none(alloc)?;
+            run_with(rt, args, loaded, devices, &asks, saving, terminal)
         }
         Devices::Outside => {
             let asks = Asks::new(alloc, &loaded.database)?;
             let devices = asks.devices(rt, alloc)?;
-            run_with(rt, args, loaded, devices, &asks, terminal)
+            run_with(rt, args, loaded, devices, &asks, saving, terminal)
         }
     }
 }
