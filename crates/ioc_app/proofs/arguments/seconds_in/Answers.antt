@@ -1,4 +1,4 @@
-use Rattle.std.proofs.Common.{codes, refl, ◌∙◌, ap, inl, inr}
+use Rattle.std.proofs.Common.{codes, refl, ◌∙◌, ap, inr}
 use Rattle.ioc_app.proofs.Asking.{first_is, text_of}
 use Rattle.ioc_app.proofs.arguments.seconds_in.Goals as goal
 
