@@ -114,7 +114,7 @@ fn with_outputs<'a>(alloc: Global, command: Command<'a>) -> Result<Command<'a>, 
                 .long(DROP_TYPES)
                 .action(ArgAction::SetTrue)
                 .requires_arg(WRITE)?
-                .help("drops records of the types of EPICS that are left out here, with a warning"),
+                .help("drops records of types that are left out here or unknown, with a warning"),
         )?
         .arg(
             Arg::new(alloc, CALC)

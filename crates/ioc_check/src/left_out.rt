@@ -40,10 +40,18 @@ impl Sieve {
         Ok(self.kept.dropped.push(finding)?)
     }
 
-    // Returns whether the type of a record is one to leave out.
-    fn drops_type(&self, record: &RecordText) -> bool {
-        self.left_out_types == LeftOutTypes::Drop
-            && is_left_out_type(record.record_type.text.as_slice())
+    // Returns why a record is left out for its type, if it is.
+    fn reason_for(&self, record: &RecordText) -> Option<Reason> {
+        let name = record.record_type.text.as_slice();
+        if self.left_out_types == LeftOutTypes::Keep || name == b"*".as_slice() {
+            None
+        } else if is_left_out_type(name) {
+            Some(Reason::LeftOutType)
+        } else if RecordType::from_name(name).is_none() {
+            Some(Reason::UnknownType)
+        } else {
+            None
+        }
     }
 
     // Returns the entries of a record of this type that are kept.
@@ -66,15 +74,11 @@ impl Sieve {
 
     // Adds a record, without what is left out of it.
     fn add_record(&mut self, record: RecordText) -> Result<(), AllocError> {
-        let is_dropped = self.drops_type(&record);
+        let reason = self.reason_for(&record);
         let mut record = record;
-        match self.types.enter(&record, is_dropped)? {
+        match self.types.enter(&record, reason.is_some())? {
             Some(Standing::Dropped) => {
-                let reason = if is_dropped {
-                    Reason::LeftOutType
-                } else {
-                    Reason::OfDropped
-                };
+                let reason = reason.unwrap_or(Reason::OfDropped);
                 return self.drop_named("record", &record.name, reason);
             }
             Some(Standing::Kept(record_type)) => {

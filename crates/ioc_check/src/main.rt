@@ -19,7 +19,7 @@ use crate::writing::{database_of, prepared, refuse_overwriting, save};
 use ioc_command_line::{Ending, Reason, Stop, Stream, given, show};
 use ioc_site::Reading;
 use ioc_site_reader::{Request, read_files};
-use ioc_site_rules::{add_picture, add_sets, check, put_in_order};
+use ioc_site_rules::{add_picture, add_sets, check, put_in_order, told_once};
 use std::alloc::{Alloc, AllocError, Global};
 use std::env;
 use std::fs::Files;
@@ -71,6 +71,7 @@ fn examine<R: Files + Alloc<A = Global>>(rt: &R, words: &Words<'_>) -> Result<Pr
     all.append(&mut checked).map_err(AllocError::from)?;
     let database = database_of(alloc, words, statements.as_slice(), &mut all)?;
     put_in_order(alloc, &mut all)?;
+    let all = told_once(alloc, all)?;
     let mut lines = Vec::new(alloc);
     add_findings(alloc, files.as_slice(), all.as_slice(), &mut lines)?;
     let counts = Counts::of(all.as_slice());

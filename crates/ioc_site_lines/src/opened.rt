@@ -172,6 +172,12 @@ fn fault_text(alloc: Global, written: &[u8]) -> Result<Vec<u8>, AllocError> {
             &[b"the text that begins here isn't closed; put '\"' at its end, on this line"],
         );
     }
+    if written.starts_with(b"/*") || written.starts_with(b"//") {
+        return joined(
+            alloc,
+            &[b"no comment begins here; a comment begins with '#'"],
+        );
+    }
     joined(
         alloc,
         &[

@@ -127,7 +127,7 @@ fn entry(words: &mut Words, kind: EntryKind) -> Result<Option<Entry>, AllocError
     let Some(value) = words.expect_value()? else {
         return Ok(None);
     };
-    if !words.expect(b')')? {
+    if !words.expect_close(&value)? {
         return Ok(None);
     }
     Ok(Some(Entry { kind, name, value }))

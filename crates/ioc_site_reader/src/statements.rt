@@ -30,13 +30,39 @@ fn near_statement(alloc: Global, text: &[u8]) -> Result<Option<&'static str>, Al
     nearest(alloc, text, known)
 }
 
+/// Words that begin lines of other files of a site: substitution files and startup scripts.
+const SUBSTITUTIONS: [&[u8]; 2] = [b"file", b"global"];
+
+const STARTUP: [&[u8]; 6] = [
+    b"dbLoadDatabase",
+    b"dbLoadRecords",
+    b"dbLoadTemplate",
+    b"epicsEnvSet",
+    b"iocInit",
+    b"cd",
+];
+
+/// Returns what is said of a word that is no statement and not near to one.
+fn remedy_for(word: &[u8]) -> &'static [u8] {
+    if SUBSTITUTIONS.contains(&word) {
+        b"' is a statement of substitution files; give this file a name that ends in .substitutions"
+    } else if STARTUP.contains(&word) {
+        b"' is a command of startup scripts; name the database files that this one loads"
+    } else {
+        b"' is no statement; begin one with record, alias or include"
+    }
+}
+
 /// Returns what a word begins that is no statement: what is near to it. That it is none is
 /// reported.
 fn near_keyword(words: &mut Words, token: &Token) -> Result<Option<Keyword>, AllocError> {
     let text = token.text.as_slice();
     let Some(name) = near_statement(words.stream.alloc, text)? else {
-        let remedy = b"' is no statement; begin one with record, alias or include";
-        words.report(token.place, &[b"'", text, remedy])?;
+        let mut said = Vec::new(words.stream.alloc);
+        said.push(b'\'')?;
+        said.extend_from_slice(text)?;
+        said.extend_from_slice(remedy_for(text))?;
+        words.stream.findings.report_text(token.place, said)?;
         return Ok(None);
     };
     words.report_misspelt(token, "statement", name)?;

@@ -257,6 +257,33 @@ impl Words {
         Ok(Some((front, back)))
     }
 
+    // Returns whether a word stands behind a value on its line, and begins nothing of its own.
+    fn goes_on(&self, value: &Word) -> bool {
+        let is_same_line = |place: Place| (place.file, place.line)
+            == (value.place.file, value.place.line);
+        match &self.stream.ahead {
+            Some(token) => {
+                token.kind == Kind::Word && token.heading().is_none() && is_same_line(token.place)
+            }
+            None => false,
+        }
+    }
+
+    /// Takes the bracket behind a value. Returns whether it is there; if not, that is reported.
+    ///
+    /// # Errors
+    ///
+    /// [`AllocError`] if allocation fails.
+    pub fn expect_close(&mut self, value: &Word) -> Result<bool, AllocError> {
+        self.stream.look()?;
+        if value.quoted || !self.goes_on(value) {
+            return self.expect(b')');
+        }
+        let text = b"a value with spaces stands in double quotes; put '\"' before and behind it";
+        self.report(value.place, &[text])?;
+        Ok(false)
+    }
+
     /// Takes a value: a word, a text between quotes or JSON. What is missing is reported.
     ///
     /// # Errors

@@ -7,6 +7,20 @@ use crate::scanning::check_devices;
 use ioc_site::{Finding, Place, Reading};
 use std::alloc::{AllocError, Global};
 
+// Warns of files that have no record, though nothing is wrong with their text.
+fn check_emptiness(reading: &Reading, report: &mut Report) -> Result<(), AllocError> {
+    if !reading.statements.is_empty() || !reading.findings.is_empty() {
+        return Ok(());
+    }
+    let place = Place {
+        file: 0,
+        line: 1,
+        column: 1,
+    };
+    let text = String::from_str(report.alloc, "there is no record in the database")?;
+    report.warning(place, text)
+}
+
 /// Returns what the statements get wrong by the rules of this project, and what in them is worth a
 /// look. What is wrong with the text itself is in [`Reading::findings`].
 ///
@@ -16,6 +30,7 @@ use std::alloc::{AllocError, Global};
 pub fn check(alloc: Global, reading: &Reading) -> Result<Vec<Finding>, AllocError> {
     let mut report = Report::new(alloc, reading)?;
     let site = gather(reading, &mut report)?;
+    check_emptiness(reading, &mut report)?;
     check_devices(&site, &mut report)?;
     let leads = follow_links(&site, &mut report)?;
     check_cycles(&site, leads.as_slice(), &mut report)?;

@@ -5,6 +5,7 @@
 mod chains;
 mod checking;
 mod gathering;
+mod instances;
 mod known;
 mod link_texts;
 mod links;
@@ -21,6 +22,7 @@ mod values;
 mod wording;
 
 pub use checking::{check, put_in_order};
+pub use instances::told_once;
 pub use known::{is_left_out_field, is_left_out_type};
 pub use picture::add_picture;
 pub use sets::add_sets;

@@ -12,8 +12,12 @@ pub enum Reason {
     LeftOutType,
     /// It belongs to a record that is left out.
     OfDropped,
+    /// EPICS doesn't have the type of the record either.
+    UnknownType,
     /// A text in it would begin a macro.
     BeginsMacro,
+    /// A text in it has a byte 0, which EPICS ends texts by.
+    HasZero,
     /// A database text can't have it.
     Refused(BadDbKind),
 }
@@ -24,7 +28,9 @@ fn words_for(reason: Reason) -> &'static str {
         Reason::LeftOut => "known to EPICS and left out here",
         Reason::LeftOutType => "its type is known to EPICS and left out here",
         Reason::OfDropped => "its record is dropped",
+        Reason::UnknownType => "its type is unknown",
         Reason::BeginsMacro => "its text begins a macro",
+        Reason::HasZero => "its text has a byte that is 0",
         Reason::Refused(kind) => kind.words(),
     }
 }

@@ -39,6 +39,8 @@ fn fault_of(entry: &Entry) -> Option<Reason> {
     let (name, value) = (entry.name.text.as_slice(), entry.value.text.as_slice());
     if begins_macro(name) || begins_macro(value) {
         Some(Reason::BeginsMacro)
+    } else if value.contains(&0) {
+        Some(Reason::HasZero)
     } else {
         None
     }
