@@ -62,6 +62,7 @@ fn run<R: Clock + Threads + Wait + Sync>(
                 first: 0,
             },
             restored: Vec::new(alloc),
+            sizes: None,
         }),
         asks: &asks,
         saving: None,
