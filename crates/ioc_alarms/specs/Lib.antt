@@ -1,4 +1,3 @@
 pub mod Alarms
 pub mod Limits
 pub mod Severities
-pub mod Order

@@ -4,7 +4,6 @@ ghost use Rattle.ioc_engine.specs.Named.{IsNamedBy};
 
 use crate::asks::Asks;
 use crate::fault::RunFault;
-use crate::going_on::Sizes;
 use crate::journal::JournalWriter;
 use crate::live::{ClockDesks, beside_clock};
 use crate::report::end;
@@ -48,9 +47,6 @@ pub struct JournalFile<J: Write + Drop> {
     pub header: Header,
     /// The values that were restored before the run.
     pub restored: Vec<SavedValue>,
-    /// If the journal goes on in other files, when it does. Each of them begins with a header, which is
-    /// written to `file` at once with the lines behind it.
-    pub sizes: Option<Sizes>,
 }
 
 /// Where a run writes to: lines, and the journal if it is kept.
@@ -223,14 +219,13 @@ fn writer_of<J: Write + Drop>(
             file,
             header,
             restored,
-            sizes,
         },
     ) = journal
     else {
         return Ok(None);
     };
     let most = if is_endless { KEPT } else { PLACES / 4 };
-    let writer = JournalWriter::begin(alloc, file, &header, &restored, most, sizes)?;
+    let writer = JournalWriter::begin(alloc, file, &header, &restored, most)?;
     Ok(Some(writer))
 }
 

@@ -165,10 +165,10 @@ impl<'a> Words<'a> {
         })
     }
 
-    /// Returns how many entries of a file are checked at most, of which the first one has this place.
-    pub fn most(&self, first: u64) -> u64 {
+    /// Returns how many entries are checked at most.
+    pub fn most(&self) -> u64 {
         match self.at {
-            Some(place) => place.saturating_add(1).saturating_sub(first),
+            Some(place) => place.saturating_add(1),
             None => u64::MAX,
         }
     }

@@ -128,36 +128,19 @@ fn add_seals(out: &mut String, frame: &Frame) -> Result<(), AllocError> {
     Ok(())
 }
 
-// Appends how a file ends.
-fn add_tail(alloc: Global, out: &mut String, frame: &Frame) -> Result<(), AllocError> {
-    if let (Tail::GoesOn, Some(next)) = (frame.tail, &frame.next) {
-        let name = String::from_utf8_lossy(alloc, next.name.as_slice())?;
-        return write!(out, ", and the journal goes on in {name}\n");
-    }
-    out.push_str(match frame.tail {
-        Tail::Running => ", and the run did not end\n",
-        Tail::Unsealed => ", and the last seal is missing\n",
-        Tail::Ended | Tail::GoesOn | Tail::Unknown | Tail::NotSeen => "\n",
-    })
-}
-
 // Appends how many entries agree, and whether the line behind them is cut off or missing.
-fn add_count(
-    alloc: Global,
-    out: &mut String,
-    frame: &Frame,
-    is_cut_off: bool,
-) -> Result<(), AllocError> {
+fn add_count(out: &mut String, frame: &Frame, is_cut_off: bool) -> Result<(), AllocError> {
     if is_cut_off {
         let line = frame.entries.saturating_add(frame.others).saturating_add(1);
         write!(out, "line {line} is cut off; ")?;
     }
     add_number(out, frame.entries, "entry agrees", "entries agree")?;
-    if frame.first > 0 {
-        write!(out, " from place {} on", frame.first)?;
-    }
     add_seals(out, frame)?;
-    add_tail(alloc, out, frame)
+    out.push_str(match frame.tail {
+        Tail::Running => ", and the run did not end\n",
+        Tail::Unsealed => ", and the last seal is missing\n",
+        Tail::Ended | Tail::Unknown | Tail::NotSeen => "\n",
+    })
 }
 
 /// Appends the lines of what was asked for, and how many entries agree.
@@ -185,6 +168,6 @@ pub fn add_shown(
         add_sets(alloc, map.records(), out)?;
     }
     let mut text = String::new(alloc);
-    add_count(alloc, &mut text, frame, is_cut_off)?;
+    add_count(&mut text, frame, is_cut_off)?;
     out.extend_from_slice(text.as_bytes())
 }

@@ -11,4 +11,3 @@ pub mod Source
 pub mod Raw
 pub mod Waits
 pub mod Wants
-pub mod Constant

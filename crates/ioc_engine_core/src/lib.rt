@@ -31,7 +31,6 @@ mod sending;
 pub mod serving;
 pub mod spare_parts;
 pub mod starting;
-mod watching;
 
 pub use clock::{Clock, FixedClock};
 pub use desk::Desk;

@@ -14,6 +14,5 @@ mod sessions;
 mod steps;
 mod timer;
 mod walk;
-mod watched;
 mod worked;
 mod workers;

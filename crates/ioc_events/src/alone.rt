@@ -26,26 +26,18 @@ use ioc_store::store::Store;
 use ioc_store::trace_step::TraceStep;
 use ioc_values::{Finished, IocError};
 
-// Returns whether VAL is process-passive: it is tested by the type alone, without its row.
-#[tactic(auto, unfolding(ioc_fields::specs::Table::is_process_passive, ioc_fields::specs::Table::row_of, ioc_fields::specs::Table::own_row, ioc_fields::specs::Table::numeric_input_row, ioc_fields::specs::Table::numeric_output_row, ioc_fields::specs::Table::output_row, ioc_fields::specs::Table::numeric_row, ioc_fields::specs::Table::bi_row, ioc_fields::specs::Table::bo_row, ioc_fields::specs::Table::two_state_row, ioc_fields::specs::Table::mbbi_row, ioc_fields::specs::Table::mbbo_row, ioc_fields::specs::Table::multi_state_row, ioc_fields::specs::Table::text_row, ioc_fields::specs::Table::text_input_row, ioc_fields::specs::Table::stringout_row, ioc_fields::specs::Table::fanout_row, ioc_fields::specs::Table::analog_row, ioc_fields::specs::Table::scale_row, ioc_fields::specs::Table::ai_row, ioc_fields::specs::Table::ao_row))]
-fn val_is_passive(record_type: RecordType) -> bool
-    ensures { result ≡ is_process_passive record_type (Own Val) }
+// VAL is process-passive in each record type.
+#[tactic(auto, unfolding(ioc_fields::specs::Table::is_process_passive, ioc_fields::specs::Table::row_of, ioc_fields::specs::Table::own_row, ioc_fields::specs::Table::numeric_input_row, ioc_fields::specs::Table::numeric_output_row, ioc_fields::specs::Table::output_row, ioc_fields::specs::Table::numeric_row, ioc_fields::specs::Table::bi_row, ioc_fields::specs::Table::bo_row, ioc_fields::specs::Table::two_state_row, ioc_fields::specs::Table::mbbi_row, ioc_fields::specs::Table::mbbo_row, ioc_fields::specs::Table::multi_state_row, ioc_fields::specs::Table::text_row, ioc_fields::specs::Table::text_input_row, ioc_fields::specs::Table::stringout_row, ioc_fields::specs::Table::fanout_row))]
+fn val_is_passive(record_type: RecordType)
+    ensures { is_process_passive record_type (Own Val) ≡ true }
 {
     match record_type {
-        RecordType::Longin
-        | RecordType::Longout
-        | RecordType::Int64in
-        | RecordType::Int64out
-        | RecordType::Bi
-        | RecordType::Bo
-        | RecordType::Mbbi
-        | RecordType::Mbbo
-        | RecordType::Stringin
-        | RecordType::Stringout
-        | RecordType::Fanout
-        | RecordType::Event
-        | RecordType::Ai
-        | RecordType::Ao => true,
+        RecordType::Longin | RecordType::Longout => {}
+        RecordType::Int64in | RecordType::Int64out => {}
+        RecordType::Bi | RecordType::Bo => {}
+        RecordType::Mbbi | RecordType::Mbbo => {}
+        RecordType::Stringin | RecordType::Stringout => {}
+        RecordType::Fanout | RecordType::Event => {}
     }
 }
 
@@ -55,7 +47,10 @@ fn is_passive_field<K: RecordKind>(record: &K, field: FieldNo) -> bool
     ensures { result ≡ is_process_passive (K.rules.record_type record.now) field }
 {
     match field {
-        FieldNo::Own(OwnField::Val) => val_is_passive(record.record_type()),
+        FieldNo::Own(OwnField::Val) => {
+            val_is_passive(record.record_type());
+            true
+        }
         _ => is_process_passive(record.record_type(), field),
     }
 }

@@ -11,5 +11,3 @@ mod Comparing
 mod Checking
 mod Reading
 mod Basing
-mod Itemizing
-mod Restarting

@@ -7,5 +7,3 @@ pub mod Legal
 pub mod Audit
 pub mod Journal
 pub mod Bases
-pub mod BaseItems
-pub mod Resuming

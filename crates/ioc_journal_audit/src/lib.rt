@@ -8,12 +8,10 @@ mod changes;
 mod counts;
 mod difference;
 mod file;
-mod items;
 mod journal;
 mod laws;
 mod played_map;
 mod redo;
-mod resuming;
 mod same;
 mod sets;
 

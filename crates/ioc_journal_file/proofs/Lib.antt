@@ -7,5 +7,4 @@ mod RepliesAgain
 mod LinksAgain
 mod CallsAgain
 mod Lines
-mod BasesAgain
 mod Breaks

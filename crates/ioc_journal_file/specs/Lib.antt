@@ -10,5 +10,3 @@ pub mod Fits
 pub mod Lines
 pub mod Breaks
 pub mod Entries
-pub mod Bases
-pub mod BaseReading

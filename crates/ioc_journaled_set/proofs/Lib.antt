@@ -33,6 +33,3 @@ pub mod Devices
 pub mod Kept
 pub mod Keys
 pub mod Replaced
-mod Fresh
-mod SameSets
-mod Watches

@@ -14,4 +14,3 @@ pub mod PutsViewCode
 pub mod SameDevice
 pub mod Sent
 pub mod Sets
-pub mod Watching

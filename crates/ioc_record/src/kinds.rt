@@ -16,7 +16,6 @@ pub fn held_by(kind: FieldKind, states: &[Text]) -> Kind<'_>
 {
     match kind {
         FieldKind::Number(range) => Kind::Number(range),
-        FieldKind::Double => Kind::Double,
         FieldKind::Text | FieldKind::Link(_) => Kind::Text,
         FieldKind::Menu(menu) => Kind::Menu(choices(menu)),
         FieldKind::State => Kind::State(states),
@@ -30,7 +29,6 @@ pub fn taken_by(kind: InputKind) -> Kind<'static>
 {
     match kind {
         InputKind::Number(range) => Kind::Number(range),
-        InputKind::Double => Kind::Double,
         InputKind::Text => Kind::Text,
     }
 }

@@ -30,4 +30,3 @@ mod Recounts
 mod Counted
 mod Fewer
 pub mod Gathered
-mod Began

@@ -25,4 +25,3 @@ mod Seen
 mod Sides
 mod Slotted
 mod Twins
-mod Marked

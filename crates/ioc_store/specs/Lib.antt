@@ -18,4 +18,3 @@ pub mod NotifyLaws
 pub mod StepFrames
 pub mod Named
 pub mod Freeing
-pub mod Showing

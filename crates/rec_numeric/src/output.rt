@@ -38,11 +38,11 @@ pub type Int64out = NumericOutput<i64>;
 // Returns the value, or the limit that it exceeds.
 #[tactic(auto, unfolding(crate::specs::Output::within))]
 fn within<N: Number>(value: N, low: N, high: N) -> N
-    ensures { result ≡ within N.order value low high }
+    ensures { result ≡ within N.whole value low high }
 {
-    if value.is_less(low) {
+    if value.wide() < low.wide() {
         low
-    } else if high.is_less(value) {
+    } else if high.wide() < value.wide() {
         high
     } else {
         value
@@ -53,9 +53,9 @@ impl<N: Number> NumericOutput<N> {
     // Returns VAL within the drive limits, which only apply if DRVH is greater than DRVL.
     #[tactic(auto, unfolding(crate::specs::Output::limited_value))]
     fn limited_value(&self) -> N
-        ensures { result ≡ limited_value N.order self.now }
+        ensures { result ≡ limited_value N.whole self.now }
     {
-        if self.drive_low.is_less(self.drive_high) {
+        if self.drive_low.wide() < self.drive_high.wide() {
             within(self.numbers.value, self.drive_low, self.drive_high)
         } else {
             self.numbers.value
@@ -66,7 +66,7 @@ impl<N: Number> NumericOutput<N> {
     #[tactic(auto, unfolding(crate::specs::Output::worked))]
     fn work(&mut self, condition: &mut Condition, got: &Got)
         ensures { record { body = self.new; condition = condition.new }
-            ≡ worked N.number N.order (record { body = self.old; condition = condition.old }) got.now }
+            ≡ worked N.number N.whole (record { body = self.old; condition = condition.old }) got.now }
     {
         match got {
             Got::Value(value) => {
@@ -90,7 +90,7 @@ impl<N: Number> Fresh for NumericOutput<N> {
     #[tactic(auto, unfolding(crate::specs::Output::new_output))]
     fn fresh() -> Self
         ensures value { result ≡ new_output N.number }
-        ensures defaults { IsNewBody (numeric_output N.number N.order) result }
+        ensures defaults { IsNewBody (numeric_output N.number N.whole) result }
     {
         NumericOutput {
             numbers: Numeric::new(),
@@ -105,11 +105,11 @@ impl<N: Number> Fresh for NumericOutput<N> {
 impl<N: Number> Storing<N> for NumericOutput<N> {
     ghost use Rattle.rec_numeric.specs.Stored.{output_with, output_put};
 
-    ghost rules = { numeric_output N.number N.order };
+    ghost rules = { numeric_output N.number N.whole };
 
     ghost with = { output_with };
 
-    ghost stored_as = { output_put N.number N.order };
+    ghost stored_as = { output_put N.number N.whole };
 
     fn put_value(&mut self, condition: &mut Condition, value: N) {
         self.numbers.value = value;
@@ -135,9 +135,9 @@ impl<N: Number> Storing<N> for NumericOutput<N> {
 impl<N: Number> RecordBody for NumericOutput<N> {
     ghost use Rattle.rec_numeric.specs.OutputLaws.{output_lawful};
 
-    ghost rules = { numeric_output N.number N.order };
+    ghost rules = { numeric_output N.number N.whole };
 
-    ghost lawful = { output_lawful N.number N.order N.lawful };
+    ghost lawful = { output_lawful N.number N.whole N.lawful };
 
     fn record_type(&self) -> RecordType {
         N::output_type()
@@ -216,8 +216,6 @@ impl<N: Number> RecordBody for NumericOutput<N> {
             false
         }
     }
-
-    fn post(&mut self) {}
 
     fn constant_kind(&self, _condition: &Condition, field: OwnField) -> Option<InputKind> {
         match field {

@@ -128,8 +128,6 @@ impl RecordBody for Stringout {
         }
     }
 
-    fn post(&mut self) {}
-
     fn constant_kind(&self, _condition: &Condition, field: OwnField) -> Option<InputKind> {
         match field {
             OwnField::Dol => Some(InputKind::Text),

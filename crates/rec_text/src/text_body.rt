@@ -115,8 +115,6 @@ impl<K: TextKind> RecordBody for TextBody<K> {
         K::take(&mut self.text, condition, got, output)
     }
 
-    fn post(&mut self) {}
-
     fn constant_kind(&self, _condition: &Condition, field: OwnField) -> Option<InputKind> {
         match field {
             OwnField::Inp => Some(InputKind::Text),

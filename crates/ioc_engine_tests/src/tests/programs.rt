@@ -62,7 +62,6 @@ fn run<R: Clock + Threads + Wait + Sync>(
                 first: 0,
             },
             restored: Vec::new(alloc),
-            sizes: None,
         }),
         asks: &asks,
         saving: None,

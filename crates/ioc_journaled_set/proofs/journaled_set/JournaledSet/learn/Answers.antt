@@ -32,7 +32,6 @@ invariant_of-self g c =
         devices = held.devices;
       },
       c.self.invariant.1,
-      c.self.invariant.2,
     )
 
 pub tell_both-requires : goal.tell_both-requires

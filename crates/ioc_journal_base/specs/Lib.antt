@@ -1,3 +1,0 @@
-pub mod States
-pub mod Items
-pub mod Whole
