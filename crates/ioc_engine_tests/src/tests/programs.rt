@@ -1,6 +1,7 @@
 //! A run of the program `ioc`.
 use ioc_app::{
-    Asks, Header, JournalFile, Outputs, Plant, RunFault, Ticks, counting_devices, ioc_run,
+    Asks, Header, JournalFile, Outputs, Plant, ReplaceFiles, RunFault, Ticks, counting_devices,
+    ioc_run,
 };
 use ioc_engine::{CountingClock, LoadError, Macros, load};
 use ioc_values::Short;
@@ -31,7 +32,7 @@ enum NoRun {
 }
 
 // Runs the plant for 100 ticks with four workers, and appends what is written.
-fn run<R: Clock + Threads + Wait + Sync>(
+fn run<R: Clock + ReplaceFiles + Threads + Wait + Sync>(
     rt: &R,
     alloc: Global,
     lines: &mut Vec<u8>,
