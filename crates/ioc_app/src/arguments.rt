@@ -434,9 +434,9 @@ fn read<'a>(alloc: Global, matches: &ArgMatches<'a>) -> Result<Args<'a>, Stop>
 }
 
 /// Reads the words of a command line, of which the first is the program's name: DB, one of `--ticks N`,
-/// `--console` and `--live`, `--devices KIND`, `--workers W`, `--journal FILE`, `--overwrite`, `--seal`, `--sync`, `--save FILE.req` with `--save-to FILE` and `--save-every S`,
-/// `--restore FILE`, and definitions of macros, as `NAME=VALUE`, `P=a,R=b`, or with
-/// `-m` before them.
+/// `--console` and `--live`, `--devices KIND`, `--workers W`, `--journal FILE`, `--overwrite`, `--seal`,
+/// `--sync`, `--save FILE.req` with `--save-to FILE` and `--save-every S`, `--restore FILE`, and
+/// definitions of macros, as `NAME=VALUE`, `P=a,R=b`, or with `-m` before them.
 ///
 /// # Errors
 ///

@@ -17,9 +17,9 @@ use std::time::{self, Duration, Instant};
 /// The desks of the threads beside a task.
 #[derive(Drop)]
 pub struct ClockDesks<B: EngineName<D>, D: Device> {
-    /// That of the thread that walks the periods.
+    /// The desk by which a thread walks the periods.
     pub ticking: Desk<B, D>,
-    /// That of the thread that saves values, if any are saved.
+    /// The desk by which another thread saves values, or `None` if no values are saved.
     pub saving: Option<Desk<B, D>>,
 }
 

@@ -34,7 +34,7 @@ pub trait ReplaceFiles {
     ///
     /// # Errors
     ///
-    /// That of the call that fails.
+    /// The error of the system if a file can't be written, linked, removed or renamed.
     fn replace(&self, paths: &SavedPaths, text: &[u8]) -> io::Result<()>;
 }
 

@@ -6,7 +6,7 @@ use std::fmt::Write;
 /// The most names of records that one finding tells.
 const MOST_NAMES: usize = 8;
 
-/// A finding with the records that it is told of.
+/// A finding, and the records that have the same mistake at its place.
 #[derive(Drop)]
 struct Told {
     finding: Finding,
