@@ -14,6 +14,8 @@ DRIVE = " OUT DOL OMSL IVOA IVOV"
 BINARY = "VAL RVAL MASK ZNAM ONAM ZSV OSV COSV LALM"
 STATES = [state + part for state in "ZR ON TW TH FR FV SX SV EI NI TE EL TV TT FT FF".split() for part in ("VL", "ST", "SV")]
 MULTI = "VAL RVAL MASK SHFT NOBT UNSV COSV LALM " + " ".join(STATES)
+ANALOG = ("VAL PREC EGU HOPR LOPR HIHI LOLO HIGH LOW HHSV LLSV HSV LSV HYST MDEL ADEL LALM MLST ALST LINR EGUF EGUL ESLO EOFF ASLO AOFF"
+          " ROFF RVAL")
 SLOTS = ["LNK" + digit for digit in "0123456789ABCDEF"]
 TYPES = {
     kind: f"{COMMON} {own}".split()
@@ -22,10 +24,11 @@ TYPES = {
         "int64in": LIMITS + " INP", "int64out": LIMITS + DRIVE + " DRVH DRVL",
         "bi": BINARY + " INP", "bo": BINARY + DRIVE, "mbbi": MULTI + " INP", "mbbo": MULTI + DRIVE,
         "stringin": "VAL INP", "stringout": "VAL" + DRIVE, "event": "VAL INP", "fanout": "VAL SELM SELN SELL OFFS SHFT " + " ".join(SLOTS),
+        "ai": ANALOG + " INP SMOO INIT", "ao": ANALOG + DRIVE + " DRVH DRVL OIF OROC OVAL PVAL",
     }.items()
 }
 LINKS = {"INP", "OUT", "DOL", "SDIS", "SELL", "FLNK", *SLOTS}
-FIXED = set("NAME STAT NSTA SEVR NSEV LCNT PACT PUTF RPRO TIME LALM".split())
+FIXED = set("NAME STAT NSTA SEVR NSEV LCNT PACT PUTF RPRO TIME LALM MLST ALST INIT OVAL PVAL".split())
 EVERY_FIELD = sorted({name for names in TYPES.values() for name in names}) + ["NOPE", "val", ""]
 SCANS = ["Passive", "Event", "I/O Intr", "10 second", "5 second", "2 second", "1 second", ".5 second", ".2 second", ".1 second"]
 EVENTS = ["go", " go ", "stop", "0", "", "e" * 39]
@@ -41,12 +44,15 @@ VALUES = {
     "ulong": ["0", "1", "2", "3", "0xFF", "4294967295"],
     "bits": ["0", "1", "2", "4", "31", "32"],
     "flag": ["0", "0", "0", "1"],
+    "digits": ["0", "1", "2", "3", "8", "9", "15"],
+    "double": ["0", "1", "-1", "2.5", "-2.5", "0.1", "1e-3", "100", "1e10", "-3e9", "1e300", "5e-324", "-0", "nan", "inf", "-inf", "0x10"],
     "state": ["0", "1"],
 }
 BY_NAME = {
     "DTYP": ["Soft Channel", "Raw Soft Channel", "Raw Soft Channel", ""], "SCAN": SCANS + ["Passive"] * 14, "PINI": ["NO", "YES", "1"],
     "EVNT": EVENTS, "TSE": ["0"], "PRIO": ["LOW", "MEDIUM", "HIGH", "2"], "OMSL": ["supervisory", "closed_loop", "closed_loop", "1"],
     "IVOA": ["Continue normally", "Don't drive outputs", "Set output to IVOV", "2"], "SELM": ["All", "Specified", "Mask"],
+    "LINR": ["NO CONVERSION", "SLOPE", "LINEAR", "1"], "OIF": ["Full", "Incremental", "0"],
     "DISV": ["1", "1", "0", "7"], "DISA": ["0", "0", "0", "1", "7"], "PROC": ["0", "1", "255"], "DISP": ["0", "0", "0", "0", "1"],
 }
 BAD_VALUES = ["1x", "9" * 25, "x" * 45, " 5 ", "65536", "-1", "4294967296", "Passive", "MINOR", "closed_loop", "@d0", "2.5", ""]
@@ -81,6 +87,8 @@ def holds(kind: str, name: str) -> str:
         return "text"
     if name in ("DISS", "UDFS") or name.endswith("SV"):
         return "severity"
+    if kind in ("ai", "ao") and name in ANALOG.split() + ["SMOO", "DRVH", "DRVL", "OROC", "IVOV"]:
+        return {"PREC": "digits", "ROFF": "ulong", "RVAL": "long"}.get(name, "double")
     if name in ("VAL", "IVOV") and kind in ("stringin", "stringout", "event"):
         return "text"
     if name == "VAL" and kind in ("bi", "bo", "mbbi", "mbbo"):

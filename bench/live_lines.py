@@ -3,8 +3,8 @@
 
     bench/live_lines.py [RUNS [SEED]]
 
-Each run ends with status 0, its journal agrees by `ioc-audit --whole`, and the asks of each device have the numbers 1, 2, 3 and so on. It prints each run
-that doesn't, by its seed, and ends with status 1 then.
+Each run ends with status 0, its journal agrees by `ioc-audit --whole`, the asks of each device have the numbers 1, 2, 3 and so on, and of each watched field
+TIME never goes back, nothing is told twice, and the first line has all. It prints each run that doesn't, by its seed, and ends with status 1 then.
 """
 import collections
 import pathlib
@@ -27,8 +27,9 @@ FORMS = [
     "process {record}", "put {record} {value}", "notify {record} {value}", "done {record} {number} {value}", "done {record} {number} a\\tb",
     "fault {record} {number}", "get {record}.STAT", "event ev", "io card", "status", "read {record} VAL SEVR#", "scan .1 second", "put {record}.DISA {bit}",
     "link c.INP {record}", "cancel {number}", "sets", "tick", "done {record} {number} \\q", "", "# a comment", "done {record}", "checkpoint",
-    "put# {record} {bit}", "notify# {record} {bit}",
+    "put# {record} {bit}", "notify# {record} {bit}", "watch {record}.VAL", "watch {record}.VAL#", "watch {record}.SEVR", "unwatch {record}.VAL",
 ]  # fmt: skip
+MASKS = ["vla", "v", "l", "a", "vl", "va", "la"]
 
 
 def drawn(chance):
@@ -55,6 +56,16 @@ def faults(folder, seed):
             asked[record] += 1
             if int(number) != asked[record]:
                 yield f"ask {asked[record]} of {record}: {line}"
+    told = {}
+    for line in ran.stdout.splitlines():
+        if line.startswith("! "):
+            _, word, mask, status, severity, moment, value = line.split(" ", 6)
+            now = status, severity, int(moment), value
+            if mask not in (MASKS if word in told else MASKS[:1]):
+                yield f"a mask: {line}"
+            if word in told and (told[word][2] > now[2] or mask != "vla" and told[word] == now):
+                yield f"a watch: {line} behind {told[word]}"
+            told[word] = now
 
 
 def main():

@@ -9,7 +9,7 @@ from typing import Callable, Mapping, NamedTuple, Optional, Protocol, Tuple, Uni
 
 # The fields that give a value its units, limits and the texts of its states, as far as a record has them.
 STATE_TEXTS = tuple(f"{prefix}ST" for prefix in "ZR ON TW TH FR FV SX SV EI NI TE EL TV TT FT FF".split())
-PROPERTIES = (*"EGU HOPR LOPR HIHI HIGH LOW LOLO HHSV HSV LSV LLSV DRVH DRVL ZNAM ONAM".split(), *STATE_TEXTS)
+PROPERTIES = (*"EGU PREC HOPR LOPR HIHI HIGH LOW LOLO HHSV HSV LSV LLSV DRVH DRVL ZNAM ONAM".split(), *STATE_TEXTS)
 
 # The bits of a monitor's mask.
 VALUE, LOG, ALARM, PROPERTY = 1, 2, 4, 8
@@ -26,7 +26,7 @@ def is_record_name(name: bytes) -> bool:
 class Kind(enum.Enum):
     """What a field holds."""
 
-    LONG, ULONG, SHORT, USHORT, UCHAR, INT64, TEXT, LINK, STATES, MENU = range(10)
+    LONG, ULONG, SHORT, USHORT, UCHAR, INT64, DOUBLE, TEXT, LINK, STATES, MENU = range(11)
 
 
 @dataclasses.dataclass(frozen=True, eq=False)
@@ -64,11 +64,16 @@ class Reading(NamedTuple):
     """
 
     text: bytes
-    number: Optional[int]
+    number: Optional[float]
     status: int
     severity: int
     time: int
     properties: Mapping[str, bytes]
+
+
+def number_of(text: bytes) -> float:
+    """Returns the number that a text of the IOC has: a whole one if it is written as one."""
+    return int(text) if text.lstrip(b"-").isdigit() else float(text)
 
 
 def state_texts(properties: Mapping[str, bytes]) -> Tuple[bytes, ...]:
@@ -81,8 +86,8 @@ def state_texts(properties: Mapping[str, bytes]) -> Tuple[bytes, ...]:
     return tuple(texts)
 
 
-# What is put: a text, or the number of a number, state or menu.
-Given = Union[bytes, int]
+# What is put: a text, a double, or the number of another number, a state or a menu.
+Given = Union[bytes, int, float]
 # Is told None where a put was done, or the words of its refusal, and the place of the call in the journal if it has one.
 Done = Callable[[Optional[str], Optional[int]], None]
 GotReading = Callable[[Optional[Reading]], None]

@@ -6,7 +6,7 @@ import math
 import struct
 from typing import Dict, Mapping, NamedTuple, Tuple
 
-from .interface import Extent, Field, Given, Kind, Reading, Record, state_texts
+from .interface import Extent, Field, Given, Kind, Reading, Record, number_of, state_texts
 from .protocol import CLASS_NAME, STSACK_STRING, WITH_ALARM, WITH_CONTROL, WITH_TIME, WITH_UNITS, Base
 
 EPICS_EPOCH = 631152000
@@ -17,17 +17,10 @@ NO_VALUE = (ValueError, OverflowError, struct.error)
 
 # What a field of a kind is served as.
 DBF: Dict[Kind, Base] = {
-    Kind.LONG: Base.LONG,
-    Kind.ULONG: Base.DOUBLE,
-    Kind.SHORT: Base.SHORT,
-    Kind.USHORT: Base.LONG,
-    Kind.UCHAR: Base.CHAR,
-    Kind.INT64: Base.DOUBLE,
-    Kind.TEXT: Base.STRING,
-    Kind.LINK: Base.STRING,
-    Kind.STATES: Base.ENUM,
-    Kind.MENU: Base.ENUM,
-}
+    Kind.SHORT: Base.SHORT, Kind.LONG: Base.LONG, Kind.USHORT: Base.LONG, Kind.UCHAR: Base.CHAR,
+    Kind.ULONG: Base.DOUBLE, Kind.INT64: Base.DOUBLE, Kind.DOUBLE: Base.DOUBLE,
+    Kind.TEXT: Base.STRING, Kind.LINK: Base.STRING, Kind.STATES: Base.ENUM, Kind.MENU: Base.ENUM,
+}  # fmt: skip
 
 
 class _Format(NamedTuple):
@@ -50,7 +43,8 @@ FORMATS: Dict[Base, _Format] = {
 }
 
 # The fields whose values have the record's units and limits.
-_LIMITED = frozenset("VAL HIHI HIGH LOW LOLO LALM DRVH DRVL HOPR LOPR IVOV".split())
+_LIMITED = frozenset("VAL HIHI HIGH LOW LOLO LALM MLST ALST OVAL PVAL DRVH DRVL HOPR LOPR IVOV".split())
+_BOUNDS = "HIHI HIGH LOW LOLO HOPR LOPR DRVH DRVL".split()
 _ALARM_LIMITS = (("HIHI", "HHSV"), ("HIGH", "HSV"), ("LOW", "LSV"), ("LOLO", "LLSV"))
 
 
@@ -100,13 +94,9 @@ def _limits(channel: Served, properties: Mapping[str, bytes], is_whole: bool) ->
     """Returns limits in the order of the protocol: display high and low, alarm HIHI, HIGH, LOW, LOLO, control high and low."""
     if channel.field.name not in _LIMITED or "HOPR" not in properties:
         return (0,) * 8
-
-    def number(name: str) -> int:
-        return int(properties.get(name, b"0"))
-
-    none = 0 if is_whole else math.nan
-    alarm = [number(limit) if properties[severity] != b"NO_ALARM" else none for limit, severity in _ALARM_LIMITS]
-    display, control = (number("HOPR"), number("LOPR")), (number("DRVH"), number("DRVL"))
+    none, numbers = 0 if is_whole else math.nan, {name: number_of(properties.get(name, b"0")) for name in _BOUNDS}
+    alarm = [numbers[limit] if properties[severity] != b"NO_ALARM" else none for limit, severity in _ALARM_LIMITS]
+    display, control = (numbers["HOPR"], numbers["LOPR"]), (numbers["DRVH"], numbers["DRVL"])
     return (*display, *alarm, *(control if control[0] > control[1] else display))
 
 
@@ -118,7 +108,8 @@ def _graphic(channel: Served, reading: Reading, form: int, base: Base) -> bytes:
     is_whole = FORMATS[base].bits > 0
     units = reading.properties.get("EGU", b"") if channel.field.name in _LIMITED else b""
     limits = _limits(channel, reading.properties, is_whole)[: 6 if form < WITH_CONTROL else 8]
-    precision, padding = b"" if is_whole else bytes(4), b"\0" if base is Base.CHAR else b""
+    digits = int(reading.properties.get("PREC", b"0")) if channel.field.kind is Kind.DOUBLE else 0
+    precision, padding = b"" if is_whole else struct.pack(">hxx", digits), b"\0" if base is Base.CHAR else b""
     return precision + units[:7].ljust(8, b"\0") + b"".join(_packed(limit, base) for limit in limits) + padding
 
 
@@ -163,6 +154,8 @@ def given_value(channel: Served, form: int, count: int, body: bytes) -> Given:
         return body[:count].split(b"\0", 1)[0]
     base = Base(form)
     value = struct.unpack_from(">" + FORMATS[base].letter, body)[0]
+    if channel.field.kind is Kind.DOUBLE:
+        return float(value)
     if DBF[channel.field.kind] is not Base.STRING:
         return int(value)  # what is behind the point is dropped, as in C; nan and inf raise
     return b"%d" % value if FORMATS[base].bits else (b"%.7g" if base is Base.FLOAT else b"%.15g") % float(value)

@@ -13,7 +13,7 @@ import random
 import re
 
 FIELDS = f"{os.path.dirname(__file__)}/../crates/ioc_fields"
-BITS = 9
+BITS = 10
 NONE = 255
 GROUPS = ("common_name", "own_name")
 

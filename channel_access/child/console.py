@@ -3,6 +3,7 @@
 `read` shows fields of one moment. Watched fields are read ten times a second. What devices are asked comes at any time, for the drivers.
 """
 import asyncio
+import math
 import re
 import sys
 from collections import deque
@@ -11,7 +12,7 @@ from typing import Callable, Deque, Dict, Iterator, List, Mapping, NamedTuple, O
 from ..drivers import Desk, Driver
 from ..interface import (
     ALARM, LOG, PROPERTIES, PROPERTY, VALUE, Ask, DeviceAnswers, Done, Extent, Field, Given, GotReading, Ioc, Kind, PutCallback, Reading,
-    Record, Told, Watch, is_record_name,
+    Record, Told, Watch, is_record_name, number_of,
 )  # fmt: skip
 from .survey import ChildError
 from .texts import escaped, unescaped
@@ -24,6 +25,8 @@ _MOST_LOOKUPS = 1000
 _MOST_NAMES = 100_000
 _MOST_BATCHES = 10_000
 _DEADBANDS = ("MDEL", "ADEL")
+# The kinds of fields that show a text and have a number behind it.
+_NUMBERED = (Kind.DOUBLE, Kind.STATES, Kind.MENU)
 # What the console writes on standard error for a refusal, which its reply has told.
 _TOLD = re.compile(rb"line \d+: (E\d+ \w+|bad)\Z")
 # What stands behind the reply to a put: its place in the journal.
@@ -39,7 +42,7 @@ class _Known(NamedTuple):
     """What was read last of a record: the texts of its properties, and its deadbands."""
 
     properties: Mapping[str, bytes]
-    deadbands: Mapping[str, int]
+    deadbands: Mapping[str, float]
 
 
 class _Batch(NamedTuple):
@@ -53,11 +56,11 @@ class _Watch(Watch):
     """A watch, with what was read last and the numbers that were told last by each deadband."""
 
     last: Optional[Reading] = None
-    told_value: Optional[int] = None
-    told_log: Optional[int] = None
+    told_value: Optional[float] = None
+    told_log: Optional[float] = None
     has_ended = False
 
-    def due(self, now: Reading, deadbands: Mapping[str, int]) -> int:
+    def due(self, now: Reading, deadbands: Mapping[str, float]) -> int:
         """Returns which monitors hear of a reading, and keeps it."""
         last, self.last = self.last, now
         if last is None:
@@ -67,7 +70,7 @@ class _Watch(Watch):
         if now.properties is not last.properties:
             mask |= PROPERTY
         if self.field.name != "VAL" or not deadbands:
-            return mask | (VALUE | LOG if now.text != last.text else 0)
+            return mask | (VALUE | LOG if (now.text, str(now.number)) != (last.text, str(last.number)) else 0)
         if _is_beyond(now, last, self.told_value, deadbands["MDEL"]):
             mask, self.told_value = mask | VALUE, now.number
         if _is_beyond(now, last, self.told_log, deadbands["ADEL"]):
@@ -75,38 +78,32 @@ class _Watch(Watch):
         return mask
 
 
-def _is_beyond(now: Reading, last: Reading, told: Optional[int], deadband: int) -> bool:
+def _is_beyond(now: Reading, last: Reading, told: Optional[float], deadband: float) -> bool:
     """Returns whether a number has left its deadband; a negative one is left whenever the record is processed."""
     if now.number is None or told is None:
         return True
-    return abs(now.number - told) > deadband if deadband >= 0 else now.time != last.time or now.number != told
+    change = abs(now.number - told) if math.isfinite(now.number) and math.isfinite(told) else 0 if str(now.number) == str(told) else math.inf
+    return now.time != last.time or change > 0 if deadband < 0 else change > deadband
 
 
 def _is_known(field: str) -> bool:
     return field in PROPERTIES or field in _DEADBANDS
 
 
-def _asked(field: Field) -> str:
-    """The field that is asked for this one: RTYP is no field of the IOC."""
-    return field.name if field.name != "RTYP" else "NAME"
-
-
 def _reading(record: Record, field: Field, values: Iterator[bytes], status: int, severity: int, time: int, properties: Mapping[str, bytes]) -> Reading:
-    """The reading of a field of which the next value is the text, and the one behind it the number of a state or choice."""
+    """The reading of a field of which the next value is the text, and the one behind it the number of a state or choice, or all digits of a double."""
     text, number = next(values), None
     if field.name == "RTYP":
         text = record.type.encode()
-    elif field.kind in (Kind.STATES, Kind.MENU):
-        number = int(next(values))
     elif field.kind not in (Kind.TEXT, Kind.LINK):
-        number = int(text)
+        number = number_of(next(values) if field.kind in _NUMBERED else text)
     return Reading(text, number, status, severity, time, properties)
 
 
 def _names(field: Field) -> Tuple[str, ...]:
-    """The words that ask for a field."""
-    name = _asked(field)
-    return (name, name + "#") if field.kind in (Kind.STATES, Kind.MENU) else (name,)
+    """The words that ask for a field. For RTYP, which is no field of the IOC, any is asked."""
+    name = field.name if field.name != "RTYP" else "NAME"
+    return (name, name + "#") if field.kind in _NUMBERED else (name,)
 
 
 class Console(Ioc, DeviceAnswers, asyncio.SubprocessProtocol):
@@ -257,7 +254,8 @@ class Console(Ioc, DeviceAnswers, asyncio.SubprocessProtocol):
             if len(self._batches) >= _MOST_BATCHES:
                 self._batches.clear()
             known = ("NAME", *(name for name in record.fields if _is_known(name))) if with_properties else ()
-            names = ("STAT#", "SEVR#", "TIME", *known, *(name for field in fields for name in _names(field)))
+            exact = (name + "#" * (name != "NAME" and record.fields[name].kind is Kind.DOUBLE) for name in known)
+            names = ("STAT#", "SEVR#", "TIME", *exact, *(name for field in fields for name in _names(field)))
             batch = self._batches[key] = _Batch(b"read \0 %b\n" % " ".join(names).encode(), known)
         return batch
 
@@ -267,7 +265,7 @@ class Console(Ioc, DeviceAnswers, asyncio.SubprocessProtocol):
         last = self._known.get(record.name)
         if last is not None and last.properties == properties:
             properties = last.properties
-        self._known[record.name] = _Known(properties, {name: int(texts[name]) for name in _DEADBANDS if name in texts})
+        self._known[record.name] = _Known(properties, {name: number_of(texts[name]) for name in _DEADBANDS if name in texts})
 
     def read(self, record: Record, field: Field, extent: Extent, done: GotReading) -> None:
         wants_all = extent is Extent.PROPERTIES
@@ -279,7 +277,7 @@ class Console(Ioc, DeviceAnswers, asyncio.SubprocessProtocol):
         """Sends a put; `replied` is told the reply and its place in the journal, or why the value can't stand in a line."""
         # A link has a verb of its own, and a state or menu is put by a number in the lines for programs alone.
         is_plain = isinstance(given, bytes) and field.kind in (Kind.LINK, Kind.STATES, Kind.MENU)
-        text = b"%d" % given if isinstance(given, int) else given if is_plain else escaped(given)
+        text = (given if is_plain else escaped(given)) if isinstance(given, bytes) else repr(given).encode()
         if b"\n" in text or len(text) > _MOST_TEXT:
             self._loop.call_soon(replied, "a line feed, or too long", None)
             return

@@ -37,6 +37,8 @@ record(stringin, "si") { field(VAL, "a text") }
 record(stringout, "so") { field(VAL, "17") }
 record(event, "ev") { field(VAL, "tea") }
 record(fanout, "fan") { field(VAL, "3") field(LNK1, "copy") }
+record(ai, "ai") { field(VAL, "-2.5") field(PREC, 2) field(EGU, "C") field(HOPR, 10.25) field(LOPR, -1e-3) field(HIGH, 8.5) field(HSV, MINOR) }
+record(ao, "ao") { field(DRVH, 7.5) field(DRVL, 0.125) field(PREC, 1) field(MDEL, 0.5) field(ADEL, 1) }
 record(longin, "scan") { field(INP, "@d") field(SCAN, ".1 second") }
 record(longin, "locked") { field(DISP, 1) }
 record(longout, "deadband") { field(MDEL, 5) field(ADEL, 10) }

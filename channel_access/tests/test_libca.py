@@ -45,6 +45,8 @@ RECORDS: Dict[str, Tuple[List[Value], Tuple[int, int], int]] = {
     "so": (text("17"), (17, 0), STRING),
     "ev": (text("tea"), (17, 0), STRING),
     "fan": (numbers(3), (17, 0), LONG),
+    "ai": (["-2.50", -2, -2.5, 65534, 254, -2, -2.5], (17, 0), DOUBLE),
+    "ao": (["0.0", 0, 0.0, 0, 0, 0, 0.0], (17, 3), DOUBLE),
 }
 
 
@@ -96,7 +98,7 @@ class WithLibrary(unittest.TestCase):
 
     def test_12_class_names(self) -> None:
         types = {"li": "longin", "lo": "longout", "i6": "int64in", "o6": "int64out", "b": "bi", "bo": "bo", "mi": "mbbi", "mo": "mbbo"}
-        types.update({"si": "stringin", "so": "stringout", "ev": "event", "fan": "fanout"})
+        types.update({"si": "stringin", "so": "stringout", "ev": "event", "fan": "fanout", "ai": "ai", "ao": "ao"})
         for name, record_type in types.items():
             self.assertEqual((self.ca.read(name, 38), self.ca.read(name + ".RTYP")), (record_type, record_type))
 
@@ -118,6 +120,13 @@ class WithLibrary(unittest.TestCase):
         data = self.ca.get(self.ca.channel("o6"), 28 + DOUBLE)
         assert data is not None
         self.assertEqual(struct.unpack_from("<2d", data, 16 + 48), (80, -80))
+
+        for name, digits, wants in (("ai", 2, (10.25, -1e-3, 8.5)), ("ai.HIGH", 2, (10.25, -1e-3, 8.5)), ("ao.OVAL", 1, (0, 0))):
+            data = self.ca.get(self.ca.channel(name), 28 + DOUBLE)
+            assert data is not None
+            got = struct.unpack_from("<8d", data, 16)
+            self.assertEqual((struct.unpack_from("<h", data, 4)[0], (*got[:2], got[3])[: len(wants)]), (digits, wants))
+            self.assertEqual(got[6:], (7.5, 0.125) if name == "ao.OVAL" else (10.25, -1e-3))
 
     def test_14_texts_of_states(self) -> None:
         for name, texts in (("mi", ["Zero", "One", "Two"]), ("b", ["Off", "On"]), ("li.SEVR", ["NO_ALARM", "MINOR", "MAJOR", "INVALID"])):
@@ -173,6 +182,12 @@ class WithLibrary(unittest.TestCase):
         self.assertEqual(self.ca.put_callback(self.ca.channel("n1"), DOUBLE, struct.pack("<d", 3.9)), NORMAL)
         self.assertEqual(self.ca.read("n1", LONG), 3)
 
+        for base, letter, value in ((DOUBLE, "<d", 0.1 + 0.2), (FLOAT, "<f", 2.5), (LONG, "<i", 3), (DOUBLE, "<d", 1e-300), (DOUBLE, "<d", float("inf"))):
+            self.assertEqual(self.ca.put_callback(self.ca.channel("ai"), base, struct.pack(letter, value)), NORMAL)
+            self.assertEqual(self.ca.read("ai", DOUBLE), value)
+        self.assertEqual((self.ca.put_text("ai", "1.005"), self.ca.read("ai"), self.ca.read("ai", DOUBLE)), (NORMAL, "1.00", 1.005))
+        self.assertEqual(self.ca.put_text("ai", "1.5 C"), PUT_FAILED)
+
     def test_22_puts_that_fail(self) -> None:
         self.assertEqual([self.ca.put_text("lo", value) for value in ("abc", "9999999999", "1\n2", "")], [PUT_FAILED] * 4)
         for value in (float("nan"), float("inf"), 1e300):
@@ -202,7 +217,7 @@ class WithLibrary(unittest.TestCase):
     def values(self, seen: List[Any], form: int) -> List[Value]:
         return [self.ca.value(form, data) for data in seen]
 
-    def puts(self, name: str, *values: int) -> None:
+    def puts(self, name: str, *values: float) -> None:
         """Puts, each when the one before has been seen: by a monitor of the time stamp, which is read together with other fields."""
         stamps: List[Any] = []
         self.ca.monitor(name + ".TIME", STRING, VALUE, stamps.append)
@@ -247,6 +262,12 @@ class WithLibrary(unittest.TestCase):
         self.assertEqual(self.values(logs, LONG), [0, 11])
         self.puts("always", 0, 0)
         self.assertEqual(len(always), 3)
+        told: Dict[int, List[Any]] = {VALUE: [], LOG: []}
+        for mask, seen in told.items():
+            self.ca.monitor("ao", DOUBLE, mask, seen.append)
+        self.assertTrue(self.ca.until(lambda: all(told.values())))
+        self.puts("ao", 0.5, 0.625, 1.5, 2.25)
+        self.assertEqual([self.values(seen, DOUBLE) for seen in told.values()], [[0, 0.625, 1.5, 2.25], [0, 1.5]])
 
     def test_33_scanned_values_and_cancel(self) -> None:
         seen: List[Any] = []

@@ -5,9 +5,9 @@
 #![tactic(auto)]
 
 use ioc_app::{
-    Args, Asks, Console, Devices, Header, JournalFile, Mode, Outputs, PROGRAM, Plant, ReplaceFiles,
-    Requested, Restored, RunFault, Saving, SyncedFile, Ticks, counting_devices, database_hash,
-    file_name, ioc_args, ioc_run, saved_values,
+    Args, Asks, Console, CreateFiles, Devices, FileSeries, Header, JournalFile, Mode, Outputs,
+    PROGRAM, Plant, ReplaceFiles, Requested, Restored, RunFault, Saving, Sizes, Ticks,
+    counting_devices, database_hash, file_name, ioc_args, ioc_run, path_of, saved_values,
 };
 use ioc_command_line::{
     Ending, FileRole, Reason, Stage, Stop, bad_database, given, read_whole, show,
@@ -172,6 +172,21 @@ fn new_file_in<R: Files + Alloc<A = Global>>(
     Err(exists(rt.alloc(), folder))
 }
 
+// Returns the file of a journal, unless the journal is to go on in a second one that is there already.
+fn alone<R: Files + Alloc<A = Global>>(
+    rt: &R,
+    args: &Args<'_>,
+    path: &str,
+) -> Result<NewFile<R::File>, Stop> {
+    if args.journal_size.is_some() && !args.overwrites {
+        let second = path_of(rt.alloc(), path, 2)?;
+        if File::open(rt, second.as_str()).is_ok() {
+            return Err(exists(rt.alloc(), second.as_str()));
+        }
+    }
+    new_file(rt, path, args.overwrites)
+}
+
 // Creates the file of the journal, if it is kept.
 fn journal_of<R: Files + Alloc<A = Global>>(
     rt: &R,
@@ -181,7 +196,7 @@ fn journal_of<R: Files + Alloc<A = Global>>(
     match args.journal {
         None => Ok(None),
         Some(path) if path.ends_with('/') => Ok(Some(new_file_in(rt, path, now)?)),
-        Some(path) => Ok(Some(new_file(rt, path, args.overwrites)?)),
+        Some(path) => Ok(Some(alone(rt, args, path)?)),
     }
 }
 
@@ -195,35 +210,38 @@ fn header_of(args: &Args<'_>, hash: [u8; 32]) -> Header {
     }
 }
 
-// Returns another handle of a file whose last bytes are to reach the disk.
-fn handle_of<F: OpenFile + Drop>(
-    alloc: Global,
-    created: &NewFile<F>,
-    args: &Args<'_>,
-) -> Result<Option<F>, Stop> {
-    if !args.syncs {
-        return Ok(None);
-    }
-    match created.file.try_clone() {
-        Ok(handle) => Ok(Some(handle)),
-        Err(error) => Err(unwritable(
-            alloc,
-            FileRole::Journal,
-            created.path.as_str(),
-            Reason::of(&error),
-        )),
-    }
+// Returns when a journal whose first file has this path goes on in another one, if it does.
+fn sizes_of(args: &Args<'_>, path: &str) -> Option<Sizes> {
+    let most = args.journal_size?;
+    let name = match path.rsplit_once('/') {
+        Some((_folder, name)) => name,
+        None => path,
+    };
+    Some(Sizes {
+        most,
+        name: Short::cut(name.as_bytes()),
+    })
 }
 
-// Brings the last bytes of a file to the disk.
-fn sync<F: OpenFile + Drop>(alloc: Global, handle: Option<F>, path: &str) -> Result<(), Stop> {
-    let Some(file) = handle else {
+// Brings the last bytes of the files of a journal to the disk, of which the first one has this path.
+fn sync<R: Files + Alloc<A = Global>>(rt: &R, args: &Args<'_>, path: &str) -> Result<(), Stop> {
+    if !args.syncs {
         return Ok(());
-    };
-    match file.sync_all() {
-        Ok(()) => Ok(()),
-        Err(error) => Err(unwritable(alloc, FileRole::Journal, path, Reason::of(&error))),
     }
+    let mut name = String::from_str(rt.alloc(), path)?;
+    for number in 2..u64::MAX {
+        let Ok(file) = File::open(rt, name.as_str()) else {
+            break;
+        };
+        if let Err(error) = file.sync_all() {
+            return Err(unwritable(rt.alloc(), FileRole::Journal, path, Reason::of(&error)));
+        }
+        if args.journal_size.is_none() {
+            break;
+        }
+        name = path_of(rt.alloc(), path, number)?;
+    }
+    Ok(())
 }
 
 // Returns why the program stops if the journal's file is there already.
@@ -306,7 +324,15 @@ fn do_task<
 fn run_with<
     'a,
     F: Write + OpenFile + Drop + Send,
-    R: Alloc<A = Global> + Clock + Files<File = F> + ReplaceFiles + Print + Threads + Wait + Sync,
+    R: Alloc<A = Global>
+        + Clock
+        + Files<File = F>
+        + CreateFiles<F>
+        + ReplaceFiles
+        + Print
+        + Threads
+        + Wait
+        + Sync,
     D: Device + Send + Sync,
     I: Read + Drop,
     E: Write + Drop,
@@ -336,19 +362,20 @@ fn run_with<
     let Some(created) = created else {
         let outputs = Outputs {
             lines: io::writer(rt),
-            journal: None::<JournalFile<SyncedFile<'_, F, R>>>,
+            journal: None::<JournalFile<FileSeries<'_, F, R>>>,
             asks,
             saving,
         };
         let done = do_task(rt, alloc, plant, args.mode, console, outputs);
         return ran(alloc, args, done, "");
     };
-    let handle = handle_of(alloc, &created, args)?;
     let NewFile { path, file } = created;
+    let series = String::from_str(alloc, path.as_str())?;
     let journal = JournalFile {
-        file: SyncedFile::new(rt, file, args.syncs),
+        file: FileSeries::new(rt, alloc, series, file, args.overwrites, args.syncs),
         header: header_of(args, hash),
         restored,
+        sizes: sizes_of(args, path.as_str()),
     };
     let outputs = Outputs {
         lines: io::writer(rt),
@@ -357,7 +384,7 @@ fn run_with<
         saving,
     };
     let done = do_task(rt, alloc, plant, args.mode, console, outputs);
-    let synced = sync(alloc, handle, path.as_str());
+    let synced = sync(rt, args, path.as_str());
     ran(alloc, args, done, path.as_str())?;
     synced
 }
@@ -378,7 +405,15 @@ fn ran(
 // Runs what the words of the command line ask for.
 fn work<
     F: Write + OpenFile + Drop + Send,
-    R: Alloc<A = Global> + Clock + Files<File = F> + ReplaceFiles + Print + Threads + Wait + Sync,
+    R: Alloc<A = Global>
+        + Clock
+        + Files<File = F>
+        + CreateFiles<F>
+        + ReplaceFiles
+        + Print
+        + Threads
+        + Wait
+        + Sync,
     I: Read + Drop,
     E: Write + Drop,
 >(rt: &R, args: &Args<'_>, terminal: Terminal<I, E>) -> Result<(), Stop> {
@@ -404,7 +439,15 @@ fn work<
 // Does what the words of the command line ask for.
 fn run<
     F: Write + OpenFile + Drop + Send,
-    R: Alloc<A = Global> + Clock + Files<File = F> + ReplaceFiles + Print + Threads + Wait + Sync,
+    R: Alloc<A = Global>
+        + Clock
+        + Files<File = F>
+        + CreateFiles<F>
+        + ReplaceFiles
+        + Print
+        + Threads
+        + Wait
+        + Sync,
     I: Read + Drop,
     E: Write + Drop,
 >(rt: &R, words: io::Result<env::Args>, terminal: Terminal<I, E>) -> Result<(), Stop> {

@@ -1,3 +1,4 @@
 pub mod Alarms
 pub mod Limits
 pub mod Severities
+pub mod Order

@@ -1,7 +1,7 @@
 //! The alarm fields of a record, and the operations on them.
 ghost use Rattle.std.specs.Prelude.{◌≡◌};
 
-use crate::limits::{AlarmLimits, WholeNumber};
+use crate::limits::{AlarmLimits, LimitNumber};
 use ioc_links::Mode;
 use ioc_menus::{Severity, Status};
 
@@ -69,14 +69,14 @@ impl Alarms {
     /// HIGH, LOW, and returns the new LALM. That is the limit if the alarm took effect, the old
     /// LALM if it didn't, and the value if no limit is reached. Record Reference Manual, "Alarm
     /// Parameters" of longin.
-    pub fn limits<N: WholeNumber>(
+    pub fn limits<N: LimitNumber>(
         &mut self,
         value: N,
         last_alarmed: N,
         limits: &AlarmLimits<N>,
     ) -> N
-        ensures alarms { self.new ≡ (limited N.whole value last_alarmed limits.now self.old).0 }
-        ensures last_alarmed { result ≡ (limited N.whole value last_alarmed limits.now self.old).1 }
+        ensures alarms { self.new ≡ (limited N.order value last_alarmed limits.now self.old).0 }
+        ensures last_alarmed { result ≡ (limited N.order value last_alarmed limits.now self.old).1 }
     {
         let Some(reached) = limits.first_reached(value, last_alarmed) else {
             return value;

@@ -6,4 +6,4 @@ pub mod alarms;
 pub mod limits;
 
 pub use alarms::Alarms;
-pub use limits::{AlarmLimits, ReachedLimit, WholeNumber};
+pub use limits::{AlarmLimits, LimitNumber, ReachedLimit};

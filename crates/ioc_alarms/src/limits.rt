@@ -1,31 +1,112 @@
 //! The limits of a value.
 ghost use Rattle.std.specs.Prelude.{◌≡◌, ℤ, ◌-ℤ◌, ◌+ℤ◌, int_le};
+ghost use Rattle.ioc_alarms.specs.Order.{LimitOrder};
 ghost use Rattle.ioc_alarms.specs.Severities.{is_alarm};
 
 use ioc_menus::{Severity, Status};
+use ioc_values::Double;
 
-/// A type of a record's value and limits: integers of at most 64 bits.
-pub trait WholeNumber: Copy {
-    ghost whole: { Self → ℤ };
+/// A type of a record's value and limits.
+pub trait LimitNumber: Copy {
+    ghost order: { LimitOrder Self };
 
-    /// Returns the number in 64 bits.
-    fn wide(self) -> i64
-        ensures { result ≡ whole self };
+    /// Returns whether the number is less than another.
+    fn is_less(self, other: Self) -> bool
+        ensures { result ≡ order.is_less self other };
+
+    /// Returns whether the number is at most another.
+    fn is_at_most(self, other: Self) -> bool
+        ensures { result ≡ order.is_at_most self other };
+
+    /// Returns whether two numbers are the same limit.
+    fn is_same(self, other: Self) -> bool
+        ensures { result ≡ order.is_same self other };
+
+    /// Returns whether the value is at least the limit minus the hysteresis.
+    fn keeps_high(limit: Self, hysteresis: Self, value: Self) -> bool
+        ensures { result ≡ order.keeps_high limit hysteresis value };
+
+    /// Returns whether the value is at most the limit plus the hysteresis.
+    fn keeps_low(limit: Self, hysteresis: Self, value: Self) -> bool
+        ensures { result ≡ order.keeps_low limit hysteresis value };
 }
 
-impl WholeNumber for i32 {
-    ghost whole = { λ z. z };
+impl LimitNumber for i32 {
+    ghost use Rattle.ioc_alarms.specs.Order.{whole_order};
 
-    fn wide(self) -> i64 {
-        i64::from(self)
+    ghost order = { whole_order };
+
+    fn is_less(self, other: Self) -> bool {
+        self < other
+    }
+
+    fn is_at_most(self, other: Self) -> bool {
+        self <= other
+    }
+
+    fn is_same(self, other: Self) -> bool {
+        self == other
+    }
+
+    fn keeps_high(limit: Self, hysteresis: Self, value: Self) -> bool {
+        is_from_below(i64::from(limit), i64::from(hysteresis), i64::from(value))
+    }
+
+    fn keeps_low(limit: Self, hysteresis: Self, value: Self) -> bool {
+        is_to_above(i64::from(limit), i64::from(hysteresis), i64::from(value))
     }
 }
 
-impl WholeNumber for i64 {
-    ghost whole = { λ z. z };
+impl LimitNumber for i64 {
+    ghost use Rattle.ioc_alarms.specs.Order.{whole_order};
 
-    fn wide(self) -> i64 {
-        self
+    ghost order = { whole_order };
+
+    fn is_less(self, other: Self) -> bool {
+        self < other
+    }
+
+    fn is_at_most(self, other: Self) -> bool {
+        self <= other
+    }
+
+    fn is_same(self, other: Self) -> bool {
+        self == other
+    }
+
+    fn keeps_high(limit: Self, hysteresis: Self, value: Self) -> bool {
+        is_from_below(limit, hysteresis, value)
+    }
+
+    fn keeps_low(limit: Self, hysteresis: Self, value: Self) -> bool {
+        is_to_above(limit, hysteresis, value)
+    }
+}
+
+/// Comparisons are those of IEEE 754: NaN is no limit and reaches none, and -0 and 0 are one limit.
+impl LimitNumber for Double {
+    ghost use Rattle.ioc_alarms.specs.Order.{double_order};
+
+    ghost order = { double_order };
+
+    fn is_less(self, other: Self) -> bool {
+        self.number() < other.number()
+    }
+
+    fn is_at_most(self, other: Self) -> bool {
+        self.number() <= other.number()
+    }
+
+    fn is_same(self, other: Self) -> bool {
+        self.number() == other.number()
+    }
+
+    fn keeps_high(limit: Self, hysteresis: Self, value: Self) -> bool {
+        limit.number() - hysteresis.number() <= value.number()
+    }
+
+    fn keeps_low(limit: Self, hysteresis: Self, value: Self) -> bool {
+        value.number() <= limit.number() + hysteresis.number()
     }
 }
 
@@ -75,31 +156,29 @@ impl<N> ReachedLimit<N> {
 }
 
 #[tactic(auto, unfolding(crate::specs::Limits::is_high, crate::specs::Limits::is_low))]
-impl<N: WholeNumber> AlarmLimits<N> {
+impl<N: LimitNumber> AlarmLimits<N> {
     ghost use Rattle.ioc_alarms.specs.Limits.{is_high, is_low, first_reached};
 
     // Returns whether a high limit is reached.
     fn is_high(&self, limit: N, value: N, last_alarmed: N) -> bool
-        ensures { result ≡ is_high (N.whole limit) (N.whole self.now.hysteresis) (N.whole value) (N.whole last_alarmed) }
+        ensures { result ≡ is_high N.order self.now.hysteresis value last_alarmed limit }
     {
-        let (limit, value) = (limit.wide(), value.wide());
-        let is_last = last_alarmed.wide() == limit;
-        value >= limit || (is_last && is_from_below(limit, self.hysteresis.wide(), value))
+        limit.is_at_most(value)
+            || (last_alarmed.is_same(limit) && N::keeps_high(limit, self.hysteresis, value))
     }
 
     // Returns whether a low limit is reached.
     fn is_low(&self, limit: N, value: N, last_alarmed: N) -> bool
-        ensures { result ≡ is_low (N.whole limit) (N.whole self.now.hysteresis) (N.whole value) (N.whole last_alarmed) }
+        ensures { result ≡ is_low N.order self.now.hysteresis value last_alarmed limit }
     {
-        let (limit, value) = (limit.wide(), value.wide());
-        let is_last = last_alarmed.wide() == limit;
-        value <= limit || (is_last && is_to_above(limit, self.hysteresis.wide(), value))
+        value.is_at_most(limit)
+            || (last_alarmed.is_same(limit) && N::keeps_low(limit, self.hysteresis, value))
     }
 
     /// Returns the first limit that is reached, in the order HIHI, LOLO, HIGH, LOW.
     #[tactic(auto, unfolding(crate::specs::Limits::first_reached))]
     pub fn first_reached(&self, value: N, last_alarmed: N) -> Option<ReachedLimit<N>>
-        ensures { result ≡ first_reached N.whole value last_alarmed self.now }
+        ensures { result ≡ first_reached N.order value last_alarmed self.now }
     {
         if is_alarm(self.hihi_severity) && self.is_high(self.hihi, value, last_alarmed) {
             return Some(ReachedLimit::new(Status::Hihi, self.hihi_severity, self.hihi));

@@ -26,10 +26,11 @@ word_rule name = record (new_rule name) { long = Some name; value_names = 1 }
 unfoldable pub ioc_words : App
 ioc_words =
     with_rule (with_rule (with_rule (with_rule (with_rule (with_rule (with_rule (with_rule (with_rule (with_rule (with_rule (with_rule
-    (with_rule (with_rule (with_rule (with_rule (program_app (codes "ioc"))
+    (with_rule (with_rule (with_rule (with_rule (with_rule (program_app (codes "ioc"))
     (file_rule (codes "DB"))) (number_rule (codes "ticks") 1000000)) (flag_rule (codes "console"))) (flag_rule (codes "live")))
     (word_rule (codes "devices"))) (number_rule (codes "workers") 64))
-    (word_rule (codes "journal"))) (flag_rule (codes "overwrite"))) (flag_rule (codes "seal"))) (flag_rule (codes "sync")))
+    (word_rule (codes "journal"))) (number_rule (codes "journal-size") 1000000000000)) (flag_rule (codes "overwrite")))
+    (flag_rule (codes "seal"))) (flag_rule (codes "sync")))
     (word_rule (codes "save"))) (word_rule (codes "save-to"))) (number_rule (codes "save-every") 86400)) (word_rule (codes "restore")))
     definitions_rule) macros_rule
 
@@ -40,6 +41,11 @@ pub record IsNumber (rows : List Row) (id : Text) (most : ℕ) (number : ℕ) : 
   pub value : digits_value 10 (without_leading_plus word) ≡ number
   pub least : 1 ≤ number
   pub largest : number ≤ most
+
+-- The same of an option that may be missing.
+abbrev pub IsOptionalNumber : List Row → Text → ℕ → Option ℕ → Type 0
+IsOptionalNumber rows id most None = first_of id rows ≡ None
+IsOptionalNumber rows id most (Some number) = IsNumber rows id most number
 
 -- Whether a flag is given.
 abbrev pub has : List Row → Text → Bool
@@ -87,6 +93,7 @@ pub record IsAskedBy (rows : List Row) (args : Args) : Type 0 where
   pub devices : devices_named args.mode (first_of (codes "devices") rows) ≡ Some args.devices
   pub workers : IsNumber rows (codes "workers") 64 args.workers
   pub journal : first_of (codes "journal") rows ≡ option_map (λ s. s.now) args.journal
+  pub journal_size : IsOptionalNumber rows (codes "journal-size") 1000000000000 args.journal_size
   pub overwrites : args.overwrites ≡ is_true (first_of (codes "overwrite") rows)
   pub seals : args.seals ≡ is_true (first_of (codes "seal") rows)
   pub syncs : args.syncs ≡ is_true (first_of (codes "sync") rows)

@@ -1,9 +1,8 @@
 //! The command line of the program `ioc`.
-ghost use Rattle.std.specs.Prelude.{◌≡◌, ◌≤◌, ℕ, Some, true, false, map, codes, option_map, IfOk, IfErr, OnOk};
+ghost use Rattle.std.specs.Prelude.{◌≡◌, ◌≤◌, ℕ, Some, true, false, map, codes, option_map, IfOk, OnOk};
 ghost use Rattle.std.specs.String.{string_bytes};
 ghost use Rattle.clap.specs.Words.{app_of, first_of, found_of, rows_of, rule_of};
-ghost use Rattle.ioc_command_line.specs.CommandLine.{program_app};
-ghost use Rattle.ioc_app.specs.Arguments.{IsNumber, IsMode, IsSave, IsSeconds, IsAskedBy, IsAskedByWords, devices_named, ioc_words, number_rule, usual_devices, with_lines, word_rule};
+ghost use Rattle.ioc_app.specs.Arguments.{IsNumber, IsOptionalNumber, IsMode, IsSave, IsSeconds, IsAskedBy, IsAskedByWords, devices_named, ioc_words, number_rule, usual_devices, with_lines, word_rule};
 ghost use Rattle.ioc_app.specs.declared.arguments.Mode.TheVariants.{Live, Ticks};
 
 use clap::builder::ValueParser;
@@ -49,6 +48,8 @@ pub const MAX_SAVE_SECONDS: u64 = 86_400;
 
 /// The number of seconds between two saves if the command line doesn't say it.
 pub const SAVE_SECONDS: u64 = 30;
+/// The largest size of a journal's file, in bytes.
+pub const MAX_JOURNAL_SIZE: u64 = 1_000_000_000_000;
 
 // The names of the arguments.
 const DATABASE: &str = "DB";
@@ -64,6 +65,8 @@ const LIVE: &str = "live";
 const DEVICES: &str = "devices";
 
 const JOURNAL: &str = "journal";
+
+const JOURNAL_SIZE: &str = "journal-size";
 
 const OVERWRITE: &str = "overwrite";
 
@@ -130,6 +133,9 @@ pub struct Args<'a> {
     /// The path of the file to which the journal is written, or of the folder, with `/` at its end, in
     /// which it is a new file.
     pub journal: Option<&'a str>,
+    /// How many bytes the entries of a file of the journal have before it goes on in another one, from 1
+    /// to [`MAX_JOURNAL_SIZE`], if it does.
+    pub journal_size: Option<u64>,
     /// Whether a file that is there already may be written over.
     pub overwrites: bool,
     /// Whether the journal has seals.
@@ -198,6 +204,16 @@ fn save_every_option<'a>(alloc: Global) -> Arg<'a>
     number_option(alloc, SAVE_EVERY, MAX_SAVE_SECONDS, help)
 }
 
+// Returns the option of the size of a journal's files.
+fn size_option<'a>(alloc: Global) -> Arg<'a>
+    ensures rule { rule_of result ≡ number_rule (codes "journal-size") 1000000000000 }
+    ensures local { result.global ≡ false }
+{
+    let help =
+        "the journal goes on in FILE.2, FILE.3 and so on, each with so many bytes of entries";
+    number_option(alloc, JOURNAL_SIZE, MAX_JOURNAL_SIZE, help)
+}
+
 // Returns an option with a word, of which help shows this name.
 fn word_option<'a>(alloc: Global, name: &'a str, shown: &'a str, help: &'a str) -> Arg<'a>
     ensures rule { rule_of result ≡ word_rule name.entry.now }
@@ -241,6 +257,7 @@ fn command<'a>(alloc: Global) -> Result<Command<'a>, AllocError>
             "FILE",
             "the journal is written to this new file, or to a new one in this folder if it ends with /",
         ))?
+        .arg(size_option(alloc))?
         .arg(flag(alloc, OVERWRITE, "the journal's file may be there already"))?
         .arg(flag(
             alloc,
@@ -291,6 +308,21 @@ fn number_in(
     match text.parse::<u64>() {
         Ok(number) if 1 <= number && number <= most => Ok(number),
         _ => Err(Stop::Usage(UsageFault::NoArgument)),
+    }
+}
+
+// Returns the number of an option that may be missing.
+fn optional_number_in(
+    alloc: Global,
+    matches: &ArgMatches<'_>,
+    id: &str,
+    most: u64,
+) -> Result<Option<u64>, Stop>
+    ensures { IfOk result (IsOptionalNumber (rows_of (found_of matches.now)) id.now most) }
+{
+    match matches.get_str(id) {
+        None => Ok(None),
+        Some(_) => Ok(Some(number_in(alloc, matches, id, most, id)?)),
     }
 }
 
@@ -415,6 +447,7 @@ fn read<'a>(alloc: Global, matches: &ArgMatches<'a>) -> Result<Args<'a>, Stop>
     let devices = devices_in(alloc, matches, mode)?;
     let workers = number_in(alloc, matches, WORKERS, MAX_WORKERS, NO_WORKERS)?;
     let save = save_in(alloc, matches, mode)?;
+    let journal_size = optional_number_in(alloc, matches, JOURNAL_SIZE, MAX_JOURNAL_SIZE)?;
     let macros = macros_in(alloc, matches)?;
     let definitions = definitions_in(alloc, matches)?;
     Ok(Args {
@@ -424,6 +457,7 @@ fn read<'a>(alloc: Global, matches: &ArgMatches<'a>) -> Result<Args<'a>, Stop>
         devices,
         workers,
         journal: matches.get_str(JOURNAL),
+        journal_size,
         overwrites: is_given(matches, OVERWRITE),
         seals: is_given(matches, SEAL),
         syncs: is_given(matches, SYNC),
@@ -434,9 +468,10 @@ fn read<'a>(alloc: Global, matches: &ArgMatches<'a>) -> Result<Args<'a>, Stop>
 }
 
 /// Reads the words of a command line, of which the first is the program's name: DB, one of `--ticks N`,
-/// `--console` and `--live`, `--devices KIND`, `--workers W`, `--journal FILE`, `--overwrite`, `--seal`,
-/// `--sync`, `--save FILE.req` with `--save-to FILE` and `--save-every S`, `--restore FILE`, and
-/// definitions of macros, as `NAME=VALUE`, `P=a,R=b`, or with `-m` before them.
+/// `--console` and `--live`, `--devices KIND`, `--workers W`, `--journal FILE`, `--journal-size BYTES`,
+/// `--overwrite`, `--seal`, `--sync`, `--save FILE.req` with `--save-to FILE` and `--save-every S`,
+/// `--restore FILE`, and definitions of macros, as `NAME=VALUE`, `P=a,R=b`, or with
+/// `-m` before them.
 ///
 /// # Errors
 ///

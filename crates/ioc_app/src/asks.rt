@@ -96,9 +96,13 @@ impl<R: Wait> Device for OutsideDevice<'_, R> {
     }
 }
 
-// Appends a value as programs read it: the number of a state or a choice, a double with all its
-// digits, or a text with escapes.
-fn add_value(out: &mut Vec<u8>, value: Value) -> Result<(), AllocError> {
+/// Appends a value as programs read it: the number of a state or a choice, a double with all its
+/// digits, or a text with escapes.
+///
+/// # Errors
+///
+/// [`AllocError`] if allocation fails; a part may have been appended then.
+pub fn add_value(out: &mut Vec<u8>, value: Value) -> Result<(), AllocError> {
     match &value {
         Value::Text(text) => add_escaped_text(out, text.as_slice()),
         Value::Double(number) => out.extend_from_slice(exact_double_text(*number).as_slice()),

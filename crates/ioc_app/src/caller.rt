@@ -7,9 +7,11 @@ use ioc_engine::{
     IocError, NotifyId, Reply,
 };
 use ioc_fields::{FieldNo, name_of};
+use ioc_names::RecordNo;
 use ioc_scan::Period;
 use ioc_scan::period::choice_of;
 use ioc_values::ByteBuffer;
+use ioc_watches::{Watch, WatchWord};
 use std::alloc::{AllocError, Global};
 use std::io::Write;
 use std::sync::Wait;
@@ -166,6 +168,36 @@ impl<'e, B: EngineName<D>, D: Device, C: Clock + Drop, R: Wait> Caller<'e, B, D,
         streams: &Streams<'_, W, J>,
     ) -> Result<(), RunFault> {
         streams.write_new(self.rt, self.alloc, self.engine, self.desk)
+    }
+
+    /// Watches a field of a record from now on, and writes the line of what it is now.
+    ///
+    /// # Errors
+    ///
+    /// As [`Streams::watch`].
+    pub fn watch<W: Write + Drop, J: Write + Drop>(
+        &mut self,
+        streams: &Streams<'_, W, J>,
+        number: RecordNo,
+        watch: Watch,
+    ) -> Result<(), LineFault> {
+        streams.watch(self.rt, self.alloc, self.engine, self.desk, number, watch)
+    }
+
+    /// Watches a field no more, which this word watches.
+    ///
+    /// # Errors
+    ///
+    /// A refusal with [`IocError::NoField`] if the word watches nothing.
+    pub fn unwatch<W: Write + Drop, J: Write + Drop>(
+        &self,
+        streams: &Streams<'_, W, J>,
+        word: &[u8],
+    ) -> Result<(), LineFault> {
+        match self.engine.record(WatchWord::of(word).record) {
+            Ok(number) => streams.unwatch(self.rt, self.engine, number, word),
+            Err(_) => Err(LineFault::Refused(IocError::NoField)),
+        }
     }
 
     /// Completes a record with the late answer of its device.

@@ -14,8 +14,9 @@ use ioc_engine::{
     Text, Value,
 };
 use ioc_fields::field_list::fields;
-use ioc_fields::{RecordType, row_of};
+use ioc_fields::{RecordType, field, row_of};
 use ioc_main::{PROMPT, PendingOutput, ScriptFault, Session, ended_line, run_script};
+use ioc_watches::{Watch, WatchWord, rule_of};
 use std::alloc::{AllocError, Global};
 use std::io::{Read, Write};
 use std::sync::Wait;
@@ -217,9 +218,10 @@ impl<E: Write + Drop> Answerer<E> {
         add_named(alloc, said, "ticks", self.tick.saturating_add(pace.ticks))?;
         add_named(alloc, said, "ticks_missed", pace.missed)?;
         add_named(alloc, said, "late_us", pace.late / 1_000)?;
+        add_named(alloc, said, "watches", counts.watches)?;
         let open = counts.told.saturating_sub(self.answered);
         add_named(alloc, said, "asks_open", open)?;
-        let mut count = 4;
+        let mut count = 5;
         if let Some(entries) = counts.entries {
             add_named(alloc, said, "entries", entries)?;
             count += 1;
@@ -443,7 +445,57 @@ impl<E: Write + Drop> Answerer<E> {
         };
         let wanted = Wanted::of(caller.alloc, record_type, words)?;
         let shown = caller.look(name, wanted.fields.as_slice())?;
-        Ok(wanted.add_line(caller.alloc, said, shown.as_slice())?)
+        Ok(wanted.add_line(said, shown.as_slice())?)
+    }
+
+    // Watches the field that a word names. The line of what it is now is written at once.
+    fn watch<
+        B: EngineName<D>,
+        D: Device,
+        C: Clock + Drop,
+        W: Write + Drop,
+        J: Write + Drop,
+        R: Wait,
+    >(
+        &self,
+        caller: &mut Caller<'_, B, D, C, R>,
+        word: &[u8],
+        streams: &Streams<'_, W, J>,
+    ) -> Result<(), LineFault> {
+        let parts = WatchWord::of(word);
+        let number = caller.engine.record(parts.record)?;
+        let Some(record_type) = self.records.record_type(number) else {
+            return Err(LineFault::Refused(IocError::NoRecord));
+        };
+        let Some(field) = field(record_type, parts.field) else {
+            return Err(LineFault::Refused(IocError::NoField));
+        };
+        let rule = rule_of(record_type, field);
+        let watch = Watch::new(caller.alloc, word, field, parts.is_number, rule)?;
+        caller.watch(streams, number, watch)
+    }
+
+    // Does what a line of watches asks for, and appends its reply.
+    fn do_watch<
+        B: EngineName<D>,
+        D: Device,
+        C: Clock + Drop,
+        W: Write + Drop,
+        J: Write + Drop,
+        R: Wait,
+    >(
+        &self,
+        caller: &mut Caller<'_, B, D, C, R>,
+        request: &Request<'_>,
+        said: &mut Vec<u8>,
+        streams: &Streams<'_, W, J>,
+    ) -> Result<(), LineFault> {
+        match *request {
+            Request::Watch(word) => self.watch(caller, word, streams)?,
+            Request::Unwatch(word) => caller.unwatch(streams, word)?,
+            _ => {}
+        }
+        Ok(add_reply(said, &Reply::Plain)?)
     }
 
     // Appends what programs ask about records, record types and menus.
@@ -512,6 +564,9 @@ impl<E: Write + Drop> Answerer<E> {
             Request::Read(name, words) => { self.read(caller, name, words, &mut answer.reply)? }
             Request::Records | Request::Fields(_) | Request::Choices(_) => {
                 self.describe(caller.alloc, &request, &mut answer.reply)?
+            }
+            Request::Watch(_) | Request::Unwatch(_) => {
+                self.do_watch(caller, &request, &mut answer.reply, streams)?
             }
             Request::Status => {
                 self.add_status(caller.rt, caller.alloc, streams, &mut answer.reply)?

@@ -1,9 +1,11 @@
 //! The journal's file.
 use crate::fault::RunFault;
+use crate::going_on::{Progress, Sizes, base_of};
 use crate::journal_text::JournalText;
 use crate::running::PLACES;
 use ioc_command_line::Reason;
-use ioc_engine::{Desk, Device, Engine, EngineName, JournalEntry, Report};
+use ioc_engine::{Desk, Device, Engine, EngineName, IocError, JournalEntry, Report};
+use ioc_journal_file::NextFile;
 use ioc_journal_lines::Header;
 use ioc_saved::SavedValue;
 use std::alloc::Global;
@@ -30,11 +32,16 @@ pub struct JournalWriter<J: Write + Drop> {
     kept: u64,
     // The largest number of entries that stay in memory after a tick.
     most: u64,
+    // The header of the current file.
+    header: Header,
+    progress: Progress,
+    alloc: Global,
 }
 
 impl<J: Write + Drop> JournalWriter<J> {
     /// Creates a writer that has written this header, and behind it the values that were restored. If
-    /// more than `most` entries are in memory after a tick, it drops them.
+    /// more than `most` entries are in memory after a tick, it drops them. If there are sizes, the journal
+    /// goes on in another file where one is full.
     ///
     /// # Errors
     ///
@@ -45,12 +52,16 @@ impl<J: Write + Drop> JournalWriter<J> {
         header: &Header,
         restored: &[SavedValue],
         most: u64,
+        sizes: Option<Sizes>,
     ) -> Result<Self, RunFault> {
         let mut writer = JournalWriter {
             out,
             text: JournalText::begin(alloc, header)?,
             kept: header.first,
             most,
+            header: *header,
+            progress: Progress::new(sizes),
+            alloc,
         };
         writer.text.add_bases(restored)?;
         writer.flush(false)?;
@@ -89,7 +100,10 @@ impl<J: Write + Drop> JournalWriter<J> {
 
     // Adds the lines of these entries, which follow those before, or none of them.
     fn add(&mut self, first: u64, entries: &[JournalEntry]) -> Result<(), RunFault> {
+        let before = self.text.lines().len();
         self.text.add(first, entries)?;
+        let after = self.text.lines().len();
+        self.progress.count(after.saturating_sub(before));
         self.flush_many()
     }
 
@@ -161,7 +175,63 @@ impl<J: Write + Drop> JournalWriter<J> {
         if self.text.place().saturating_sub(self.kept) > self.most {
             self.checkpoint(rt, engine, desk)?;
         }
+        if self.progress.is_full() {
+            self.go_on(rt, engine, desk)?;
+        }
         Ok(())
+    }
+
+    // Adds the lines of the entries before this place. Returns whether the journal had them all.
+    fn add_before<B: EngineName<D>, D: Device, C: Drop, R: Wait>(
+        &mut self,
+        rt: &R,
+        engine: &Engine<B, D, C>,
+        desk: &mut Desk<B, D>,
+        place: u64,
+    ) -> Result<bool, RunFault> {
+        for _ in 0..COPIES {
+            let left = place.saturating_sub(self.text.place());
+            if left == 0 {
+                break;
+            }
+            let count = left.min(ENTRIES_AT_ONCE as u64) as usize;
+            let excerpt = engine.entries(rt, desk, self.text.place(), count)?;
+            self.add(excerpt.first, &excerpt.entries)?;
+            if excerpt.entries.is_empty() {
+                break;
+            }
+        }
+        Ok(self.text.place() == place)
+    }
+
+    // Goes on in the next file, which begins with all records as they are at one place. The current file
+    // has the entries before that place then, and names the next one.
+    fn go_on<B: EngineName<D>, D: Device, C: Drop, R: Wait>(
+        &mut self,
+        rt: &R,
+        engine: &Engine<B, D, C>,
+        desk: &mut Desk<B, D>,
+    ) -> Result<(), RunFault> {
+        let copies = match engine.copy_records(rt, desk) {
+            Ok(copies) => copies,
+            Err(IocError::NoMemory) => return Err(RunFault::Memory),
+            Err(_) => return Ok(()),
+        };
+        let place = copies.place;
+        if !self.add_before(rt, engine, desk, place)? {
+            return Ok(());
+        }
+        let Ok(base) = base_of(self.alloc, copies, self.text.calls()) else {
+            return Err(RunFault::Memory);
+        };
+        let name = self.progress.next_name(self.alloc)?;
+        self.text.next(&NextFile { name, place })?;
+        self.flush(true)?;
+        self.header.first = place;
+        self.text = JournalText::begin(self.alloc, &self.header)?;
+        self.text.add_base(self.alloc, base)?;
+        self.progress.go_on();
+        self.flush(false)
     }
 
     /// Writes the entries of a report beyond those before, as many as there is memory for.

@@ -1,13 +1,18 @@
 //! The lines of a journal that aren't written yet.
 ghost use Rattle.std.specs.Prelude.{◌≡◌, ◌<◌, ◌+◌, ◌^◌, ◌++◌, length, IfOk, OnOk, OnErr};
+ghost use Rattle.std.specs.List.{flat_map};
 ghost use Rattle.ioc_journal_file.specs.Entries.{entry_lines};
+ghost use Rattle.ioc_journal_file.specs.Bases.{item_line, next_line};
+ghost use Rattle.ioc_journal_base.specs.Whole.{base_items};
 ghost use Rattle.ioc_journal_lines.specs.Lines.{header_line};
 
 use crate::fault::RunFault;
+use crate::going_on::count_calls;
 use ioc_command_line::Reason;
 use ioc_engine::JournalEntry;
-use ioc_journal_file::add_entries;
-use ioc_journal_lines::{Header, Seals, add_base, add_end, add_header, add_seal};
+use ioc_journal_base::{Base, DeskCalls, add_base};
+use ioc_journal_file::{NextFile, add_entries, add_next};
+use ioc_journal_lines::{Header, Seals, add_end, add_header, add_seal};
 use ioc_saved::SavedValue;
 use std::alloc::{AllocError, Global};
 
@@ -24,12 +29,14 @@ pub struct JournalText {
     seals: Option<Seals>,
     // The number of entries behind the last seal.
     unsealed: u64,
+    // How many calls each desk has made.
+    calls: Vec<DeskCalls>,
 }
 
 // Appends the lines of values that were restored.
 fn add_bases(lines: &mut Vec<u8>, values: &[SavedValue]) -> Result<(), AllocError> {
     for value in values {
-        add_base(lines, value)?;
+        ioc_journal_lines::add_base(lines, value)?;
     }
     Ok(())
 }
@@ -56,6 +63,7 @@ impl JournalText {
             place: header.first,
             seals,
             unsealed: 0,
+            calls: Vec::new(alloc),
         })
     }
 
@@ -68,6 +76,38 @@ impl JournalText {
         ensures { self.new.place ≡ self.old.place }
     {
         add_bases(&mut self.lines, values)
+    }
+
+    /// Adds the lines of a base, with which a file begins behind its header, and takes its counts of
+    /// calls.
+    ///
+    /// # Errors
+    ///
+    /// [`AllocError`] if allocation fails.
+    pub fn add_base(&mut self, alloc: Global, base: Base) -> Result<(), AllocError>
+        ensures lines { OnOk result (self.new.lines.items ≡ self.old.lines.items ++ flat_map item_line (base_items base)) }
+        ensures place { self.new.place ≡ self.old.place }
+    {
+        add_base(alloc, &mut self.lines, &base)?;
+        let Base { desks, .. } = base;
+        self.calls = desks;
+        Ok(())
+    }
+
+    /// Returns how many calls each desk has made.
+    pub fn calls(&self) -> &[DeskCalls] {
+        &self.calls
+    }
+
+    /// Adds the line that names the file in which the journal goes on.
+    ///
+    /// # Errors
+    ///
+    /// [`AllocError`] if allocation fails.
+    pub fn next(&mut self, next: &NextFile) -> Result<(), AllocError>
+        ensures lines { OnOk result (self.new.lines.items ≡ self.old.lines.items ++ next_line next.now) }
+    {
+        add_next(&mut self.lines, next)
     }
 
     /// Returns the place of the next entry.
@@ -100,6 +140,7 @@ impl JournalText {
         if first != self.place {
             return Err(RunFault::Journal(Reason::Gap));
         }
+        count_calls(&mut self.calls, entries)?;
         let before = self.lines.len();
         let place = match add_entries(&mut self.lines, first, entries) {
             Ok(place) => place,

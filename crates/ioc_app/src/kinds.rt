@@ -9,7 +9,7 @@ use ioc_values::{Input, IocError, Range, Value};
 use std::alloc::{AllocError, Global};
 
 // The menus with the names that EPICS has for them.
-static MENUS: [(Menu, &str); 8] = [
+static MENUS: [(Menu, &str); 10] = [
     (Menu::Severity, "menuAlarmSevr"),
     (Menu::Status, "menuAlarmStat"),
     (Menu::Scan, "menuScan"),
@@ -18,6 +18,8 @@ static MENUS: [(Menu, &str); 8] = [
     (Menu::Omsl, "menuOmsl"),
     (Menu::Ivoa, "menuIvoa"),
     (Menu::Selm, "fanoutSELM"),
+    (Menu::Linr, "menuConvert"),
+    (Menu::Oif, "aoOIF"),
 ];
 
 // Returns the name of a menu.
@@ -56,6 +58,7 @@ fn number_word(range: Range) -> &'static str {
 fn add_kind(said: &mut Vec<u8>, kind: FieldKind) -> Result<(), AllocError> {
     match kind {
         FieldKind::Number(range) => said.extend_from_slice(number_word(range).as_bytes()),
+        FieldKind::Double => said.extend_from_slice(b"double"),
         FieldKind::Text => said.extend_from_slice(b"text"),
         FieldKind::State => said.extend_from_slice(b"states"),
         FieldKind::Link(_) => said.extend_from_slice(b"link"),

@@ -8,6 +8,8 @@ mod caller;
 mod console;
 mod device;
 mod fault;
+mod file_series;
+mod going_on;
 mod journal;
 mod journal_text;
 mod kinds;
@@ -27,6 +29,7 @@ mod saving;
 mod streams;
 mod synced;
 mod task;
+mod watching;
 
 pub use arguments::{
     Args, Devices, MAX_SAVE_SECONDS, MAX_TICKS, MAX_WORKERS, Mode, PROGRAM, SAVE_SECONDS, SaveArgs,
@@ -36,6 +39,8 @@ pub use asks::{Asks, OutsideDevice};
 pub use console::Console;
 pub use device::{CountingDevice, counting_devices};
 pub use fault::RunFault;
+pub use file_series::{CreateFiles, FileSeries, path_of};
+pub use going_on::Sizes;
 pub use ioc_journal_lines::{Header, database_hash};
 pub use moment::file_name;
 pub use requesting::Requested;

@@ -1,8 +1,9 @@
 //! Fields of a record as programs read them.
+use crate::asks::add_value;
 use ioc_commands::add_escaped_text;
 use ioc_engine::FieldSeen;
 use ioc_fields::{FieldNo, RecordType, field};
-use ioc_values::{IocError, Value};
+use ioc_values::IocError;
 use std::alloc::{AllocError, Global};
 
 /// The fields that a line reads, in its order.
@@ -16,7 +17,7 @@ pub struct Wanted {
 
 impl Wanted {
     /// Finds the fields that words name, with a space between each two. Behind a name, `#` asks for
-    /// the number of a state or a choice.
+    /// the number of a state or a choice, or for all digits of a double.
     ///
     /// # Errors
     ///
@@ -46,20 +47,12 @@ impl Wanted {
     /// # Errors
     ///
     /// [`AllocError`] if allocation fails.
-    pub fn add_line(
-        &self,
-        alloc: Global,
-        said: &mut Vec<u8>,
-        shown: &[FieldSeen],
-    ) -> Result<(), AllocError> {
+    pub fn add_line(&self, said: &mut Vec<u8>, shown: &[FieldSeen]) -> Result<(), AllocError> {
         said.push(b'=')?;
         for (seen, as_number) in shown.iter().zip(self.as_numbers.iter()) {
             said.push(b'\t')?;
             match seen.value {
-                Some(Value::Enum(number)) if *as_number => {
-                    let digits = format!(in alloc; "{number}")?;
-                    said.extend_from_slice(digits.as_bytes())?;
-                }
+                Some(value) if *as_number => add_value(said, value)?,
                 _ => add_escaped_text(said, seen.text.as_slice())?,
             }
         }

@@ -4,6 +4,7 @@ ghost use Rattle.ioc_engine.specs.Named.{IsNamedBy};
 
 use crate::asks::Asks;
 use crate::fault::RunFault;
+use crate::going_on::Sizes;
 use crate::journal::JournalWriter;
 use crate::live::{ClockDesks, beside_clock};
 use crate::report::end;
@@ -47,6 +48,9 @@ pub struct JournalFile<J: Write + Drop> {
     pub header: Header,
     /// The values that were restored before the run.
     pub restored: Vec<SavedValue>,
+    /// If the journal goes on in other files, when it does. Each of them begins with a header, which is
+    /// written to `file` at once with the lines behind it.
+    pub sizes: Option<Sizes>,
 }
 
 /// Where a run writes to: lines, and the journal if it is kept.
@@ -219,13 +223,14 @@ fn writer_of<J: Write + Drop>(
             file,
             header,
             restored,
+            sizes,
         },
     ) = journal
     else {
         return Ok(None);
     };
     let most = if is_endless { KEPT } else { PLACES / 4 };
-    let writer = JournalWriter::begin(alloc, file, &header, &restored, most)?;
+    let writer = JournalWriter::begin(alloc, file, &header, &restored, most, sizes)?;
     Ok(Some(writer))
 }
 
@@ -337,7 +342,7 @@ pub fn ioc_run<
         saving,
     } = outputs;
     let writer = writer_of(alloc, journal, task.is_endless())?;
-    let mut streams = Streams::new(lines, writer, asks, saving);
+    let mut streams = Streams::new(alloc, lines, writer, asks, saving);
     let Ok(seed) = Seed::new(alloc, database, devices) else {
         return Err(RunFault::Start);
     };

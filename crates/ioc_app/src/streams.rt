@@ -5,8 +5,11 @@ use crate::fault::RunFault;
 use crate::journal::JournalWriter;
 use crate::pace::{Next, Pace};
 use crate::saving::Saving;
+use crate::watching::{add_changes, add_marked};
 use ioc_command_line::Reason;
 use ioc_engine::{Desk, Device, Engine, EngineName, IocError};
+use ioc_names::RecordNo;
+use ioc_watches::{Removal, Watch, Watches};
 use std::alloc::Global;
 use std::io::{self, ErrorKind, Write};
 use std::sync::{Mutex, Wait};
@@ -19,6 +22,8 @@ pub struct Counts {
     pub entries: Option<u64>,
     /// How many asks devices outside were told.
     pub told: u64,
+    /// How many words watch fields.
+    pub watches: u64,
     /// How many files of values were saved, and how many couldn't be, if values are saved.
     pub saves: Option<(u64, u64)>,
 }
@@ -41,6 +46,7 @@ struct Written<W: Write + Drop, J: Write + Drop> {
     journal: Option<JournalWriter<J>>,
     pace: Pace,
     told: u64,
+    watches: Watches,
     fault: Option<RunFault>,
 }
 
@@ -102,7 +108,28 @@ impl<W: Write + Drop, J: Write + Drop> Written<W, J> {
         }
     }
 
-    // Writes what is new: the entries, and what devices are asked in them.
+    // Appends a line for each device outside that was asked something, once the call is done in which it
+    // was.
+    fn add_asks<B: EngineName<D>, D: Device, C: Drop, R: Wait>(
+        &mut self,
+        rt: &R,
+        alloc: Global,
+        engine: &Engine<B, D, C>,
+        desk: &mut Desk<B, D>,
+        asks: &Asks,
+        lines: &mut Vec<u8>,
+    ) -> Result<(), RunFault> {
+        let all = asks.take(rt, alloc)?;
+        for asked in &all {
+            settle(rt, engine, desk, asks, asked)?;
+            asks.add_line(alloc, lines, asked)?;
+        }
+        self.told = self.told.saturating_add(all.len() as u64);
+        Ok(())
+    }
+
+    // Writes what is new: the entries, what devices are asked in them, and what has changed by them of
+    // the watched fields.
     fn write_new<B: EngineName<D>, D: Device, C: Drop, R: Wait>(
         &mut self,
         rt: &R,
@@ -111,26 +138,46 @@ impl<W: Write + Drop, J: Write + Drop> Written<W, J> {
         desk: &mut Desk<B, D>,
         asks: &Asks,
     ) -> Result<(), RunFault> {
-        let all = asks.take(rt, alloc)?;
-        for asked in &all {
-            settle(rt, engine, desk, asks, asked)?;
-        }
-        self.write_entries(rt, engine, desk)?;
         let mut text = Vec::new(alloc);
-        for asked in &all {
-            asks.add_line(alloc, &mut text, asked)?;
-        }
-        self.told = self.told.saturating_add(all.len() as u64);
+        self.add_asks(rt, alloc, engine, desk, asks, &mut text)?;
+        add_marked(rt, alloc, engine, desk, &mut self.watches, &mut text)?;
+        self.write_entries(rt, engine, desk)?;
         if text.is_empty() {
             return Ok(());
         }
         self.write_text(&text)
     }
+
+    // Takes a watched field, and writes its first line, behind the entries that it tells of.
+    fn watch<B: EngineName<D>, D: Device, C: Drop, R: Wait>(
+        &mut self,
+        rt: &R,
+        alloc: Global,
+        engine: &Engine<B, D, C>,
+        desk: &mut Desk<B, D>,
+        number: RecordNo,
+        watch: Watch,
+    ) -> Result<(), RunFault> {
+        self.watches.add(alloc, number, watch)?;
+        let mut text = Vec::new(alloc);
+        add_changes(
+            rt,
+            alloc,
+            engine,
+            desk,
+            number,
+            &mut self.watches,
+            &mut text,
+        )?;
+        self.write_entries(rt, engine, desk)?;
+        self.write_text(&text)
+    }
 }
 
 impl<'a, W: Write + Drop, J: Write + Drop> Streams<'a, W, J> {
-    /// Takes what is written to.
+    /// Takes what is written to. No field is watched yet.
     pub fn new(
+        alloc: Global,
         lines: W,
         journal: Option<JournalWriter<J>>,
         asks: &'a Asks,
@@ -142,6 +189,7 @@ impl<'a, W: Write + Drop, J: Write + Drop> Streams<'a, W, J> {
                 journal,
                 pace: Pace::new(),
                 told: 0,
+                watches: Watches::new(alloc),
                 fault: None,
             }),
             asks,
@@ -163,7 +211,7 @@ impl<'a, W: Write + Drop, J: Write + Drop> Streams<'a, W, J> {
     }
 
     /// Writes what is new in the journal, if it is kept, then a line for each device outside that was
-    /// asked something.
+    /// asked something, and for each watched field whose change is due.
     ///
     /// # Errors
     ///
@@ -181,6 +229,49 @@ impl<'a, W: Write + Drop, J: Write + Drop> Streams<'a, W, J> {
         written.check()?;
         let done = written.write_new(rt, alloc, engine, desk, self.asks);
         written.keep(done)
+    }
+
+    /// Watches a field of a record from now on, and writes the line of what it is now.
+    ///
+    /// # Errors
+    ///
+    /// As [`Engine::watch`] and [`Streams::write_new`].
+    pub fn watch<B: EngineName<D>, D: Device, C: Drop, R: Wait>(
+        &self,
+        rt: &R,
+        alloc: Global,
+        engine: &Engine<B, D, C>,
+        desk: &mut Desk<B, D>,
+        number: RecordNo,
+        watch: Watch,
+    ) -> Result<(), LineFault> {
+        let mut guard = self.written.lock(rt);
+        let written = &mut *guard;
+        written.check()?;
+        engine.watch(rt, number)?;
+        let done = written.watch(rt, alloc, engine, desk, number, watch);
+        Ok(written.keep(done)?)
+    }
+
+    /// Watches a field of a record no more, which this word watches.
+    ///
+    /// # Errors
+    ///
+    /// A refusal with [`IocError::NoField`] if the word watches nothing.
+    pub fn unwatch<B: EngineName<D>, D: Device, C: Drop, R: Wait>(
+        &self,
+        rt: &R,
+        engine: &Engine<B, D, C>,
+        number: RecordNo,
+        word: &[u8],
+    ) -> Result<(), LineFault> {
+        let mut guard = self.written.lock(rt);
+        let written = &mut *guard;
+        match written.watches.remove(number, word) {
+            Removal::NotWatched => Err(LineFault::Refused(IocError::NoField)),
+            Removal::OneOfMany => Ok(()),
+            Removal::LastOfRecord => Ok(engine.unwatch(rt, number)?),
+        }
     }
 
     /// Makes a checkpoint. If the journal is kept, the entries that leave memory are written.
@@ -222,6 +313,7 @@ impl<'a, W: Write + Drop, J: Write + Drop> Streams<'a, W, J> {
                 None => None,
             },
             told: written.told,
+            watches: written.watches.len(),
             saves: match self.saving {
                 Some(saving) => Some(saving.counts()),
                 None => None,

@@ -33,6 +33,8 @@ const SHOW: &str = "show";
 
 const TRACE: &str = "trace";
 
+const WATCH: &str = "watch";
+
 const SETS: &str = "sets";
 
 const WHOLE: &str = "whole";
@@ -53,6 +55,9 @@ pub struct Words<'a> {
     pub shown: Vec<&'a str>,
     /// The names of the records whose changes are shown.
     pub traced: Vec<&'a str>,
+    /// The fields that are watched, each as `REC.F`, as `REC.F#` for the number behind it, or as `REC` for
+    /// its field VAL.
+    pub watched: Vec<&'a str>,
     /// Whether the lock sets are shown.
     pub sets: bool,
     /// Whether the run has to have ended.
@@ -63,16 +68,9 @@ pub struct Words<'a> {
     pub definitions: Vec<u8>,
 }
 
-// Returns the options of the command.
-fn with_options<'a>(alloc: Global, command: Command<'a>) -> Result<Command<'a>, AllocError> {
+// Adds the options of what is shown.
+fn with_shown<'a>(alloc: Global, command: Command<'a>) -> Result<Command<'a>, AllocError> {
     command
-        .arg(
-            Arg::new(alloc, AT)
-                .long(AT)
-                .value_name("PLACE")
-                .value_parser(value_parser!(u64))
-                .help("stops after the entry at this place"),
-        )?
         .arg(
             Arg::new(alloc, SHOW)
                 .long(SHOW)
@@ -88,11 +86,25 @@ fn with_options<'a>(alloc: Global, command: Command<'a>) -> Result<Command<'a>, 
                 .help("shows each entry that changes the record REC, and what it changes"),
         )?
         .arg(
+            Arg::new(alloc, WATCH)
+                .long(WATCH)
+                .value_name("REC.F")
+                .action(ArgAction::Append)
+                .help(
+                    "shows the field F of the record REC at the start and at each change that is due, as ioc tells a watched one",
+                ),
+        )?
+        .arg(
             Arg::new(alloc, SETS)
                 .long(SETS)
                 .action(ArgAction::SetTrue)
                 .help("shows the lock sets at the end"),
-        )?
+        )
+}
+
+// Adds the options of which journals are taken.
+fn with_taken<'a>(alloc: Global, command: Command<'a>) -> Result<Command<'a>, AllocError> {
+    command
         .arg(
             Arg::new(alloc, WHOLE)
                 .long(WHOLE)
@@ -107,6 +119,18 @@ fn with_options<'a>(alloc: Global, command: Command<'a>) -> Result<Command<'a>, 
                 .action(ArgAction::SetTrue)
                 .help("takes a journal only if it has seals"),
         )
+}
+
+// Adds the options of the command.
+fn with_options<'a>(alloc: Global, command: Command<'a>) -> Result<Command<'a>, AllocError> {
+    let command = command.arg(
+        Arg::new(alloc, AT)
+            .long(AT)
+            .value_name("PLACE")
+            .value_parser(value_parser!(u64))
+            .help("stops after the entry at this place"),
+    )?;
+    with_taken(alloc, with_shown(alloc, command)?)
 }
 
 // Returns the command of the program.
@@ -158,6 +182,7 @@ impl<'a> Words<'a> {
             at: matches.get_one::<u64>(AT),
             shown: all_of(alloc, &matches, SHOW)?,
             traced: all_of(alloc, &matches, TRACE)?,
+            watched: all_of(alloc, &matches, WATCH)?,
             sets: matches.get_flag(SETS),
             whole: matches.get_flag(WHOLE),
             sealed: matches.get_flag(SEALED),
@@ -165,10 +190,10 @@ impl<'a> Words<'a> {
         })
     }
 
-    /// Returns how many entries are checked at most.
-    pub fn most(&self) -> u64 {
+    /// Returns how many entries of a file are checked at most, of which the first one has this place.
+    pub fn most(&self, first: u64) -> u64 {
         match self.at {
-            Some(place) => place.saturating_add(1),
+            Some(place) => place.saturating_add(1).saturating_sub(first),
             None => u64::MAX,
         }
     }

@@ -8,16 +8,19 @@ mod showing;
 mod telling;
 #[cfg(test)]
 mod tests;
+mod watching;
 
 use crate::command::{PROGRAM, Words};
 use crate::restoring::{Restored, restore};
 use crate::showing::{Found, add_shown, found_in};
-use crate::telling::{Telling, told_of, told_of_base};
+use crate::telling::{Telling, told_of, told_of_base, told_of_no_base};
+use crate::watching::begin_trace;
 use ioc_command_line::{
     Ending, FileRole, Reason, Stage, Stop, bad_database, given, open, read_whole, show, unreadable,
 };
 use ioc_dbfile::{Database, load};
-use ioc_journal_audit::{AuditFault, Auditor, FileBegun, FileFound, Trace, audit_file, begin_file};
+use ioc_journal_audit::{AuditFault, Auditor, FileBegun, FileFound, audit_file, begin_file};
+use ioc_journal_base::base_of;
 use ioc_journal_lines::database_hash;
 use ioc_values::LoadError;
 use std::alloc::Global;
@@ -64,15 +67,44 @@ fn audited<R: BufRead, W: Write>(
     journal: &mut R,
     out: &mut W,
 ) -> Result<FileFound, Stop> {
-    let mut trace = match found.traced.as_slice() {
-        [] => None,
-        numbers => Some(Trace::new(alloc, auditor.map(), numbers)?),
+    let mut trace = if begun.is_found() {
+        None
+    } else {
+        begin_trace(alloc, words, found, auditor.map(), out)?
     };
-    let most = words.most();
+    let most = words.most(begun.first());
     match audit_file(alloc, auditor, begun, journal, most, &mut trace, out) {
         Ok(audited) => Ok(audited),
         Err(fault) => Err(stop_of(alloc, fault, words.journal)),
     }
+}
+
+// Returns the auditor of a journal's file: of the database with the saved values that the run has taken,
+// or of the base with which the file begins. Returns what is said if there is none. If no entries are to
+// be checked, it is one of the database.
+fn auditor_of(
+    alloc: Global,
+    words: &Words<'_>,
+    text: &[u8],
+    database: Database,
+    begun: &FileBegun,
+) -> Result<Result<Auditor, Telling>, Stop> {
+    if begun.first() == 0 || begun.is_found() {
+        let database = match restore(alloc, words, text, database, begun.bases.as_slice())? {
+            Restored::Database(database) => database,
+            Restored::Fault(line, fault) => {
+                return Ok(Err(told_of_base(alloc, words, line, fault)?));
+            }
+        };
+        let Database { records, .. } = database;
+        return Ok(Ok(Auditor::new(alloc, records)?));
+    }
+    if let Some(base) = base_of(alloc, database.records.as_slice(), begun.items.as_slice())?
+        && let Some(auditor) = Auditor::resume(alloc, base, begun.first())?
+    {
+        return Ok(Ok(auditor));
+    }
+    Ok(Err(told_of_no_base(alloc, words)?))
 }
 
 // Audits a journal on the database of a text, with the saved values that its run has taken, and writes
@@ -91,12 +123,10 @@ fn run<R: BufRead, W: Write>(
         Ok(begun) => begun,
         Err(fault) => return Err(stop_of(alloc, fault, words.journal)),
     };
-    let database = match restore(alloc, words, text, database, begun.bases.as_slice())? {
-        Restored::Database(database) => database,
-        Restored::Fault(line, fault) => return Ok(told_of_base(alloc, words, line, fault)?),
+    let mut auditor = match auditor_of(alloc, words, text, database, &begun)? {
+        Ok(auditor) => auditor,
+        Err(told) => return Ok(told),
     };
-    let Database { records, .. } = database;
-    let mut auditor = Auditor::new(alloc, records)?;
     let audited = audited(alloc, words, &found, &mut auditor, begun, journal, out)?;
     let mut said = Vec::new(alloc);
     add_shown(alloc, words, &found, auditor.map(), &audited, &mut said)?;

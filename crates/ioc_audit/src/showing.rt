@@ -1,15 +1,17 @@
 //! What is shown of a database after its last entry.
 use crate::command::{PROGRAM, Words};
+use crate::watching::Watched;
 use ioc_command_line::Stop;
 use ioc_commands::add_shown_text;
 use ioc_dbfile::Database;
 use ioc_dblex::split_at_byte;
-use ioc_fields::{FieldNo, field};
+use ioc_fields::{FieldNo, RecordType, field};
 use ioc_journal_audit::{Audited, FileFound, Frame, PlayedMap, Tail, add_sets};
 use ioc_names::RecordNo;
 use ioc_record::{RecordKind, text_of};
 use ioc_store::Store;
 use ioc_values::IocError;
+use ioc_watches::WatchWord;
 use rec_types::Record;
 use std::alloc::{AllocError, Global};
 use std::fmt::Write;
@@ -18,6 +20,7 @@ use std::fmt::Write;
 #[derive(Clone, Copy)]
 pub struct Place {
     pub record: RecordNo,
+    pub record_type: RecordType,
     pub field: FieldNo,
 }
 
@@ -26,6 +29,7 @@ pub struct Place {
 pub struct Found {
     pub shown: Vec<Place>,
     pub traced: Vec<RecordNo>,
+    pub watched: Vec<Watched>,
 }
 
 // Returns the fault of a word that names nothing.
@@ -46,24 +50,56 @@ fn record_in(database: &Database, name: &[u8]) -> Result<RecordNo, IocError> {
     }
 }
 
-// Finds the field that REC.F names; REC alone is its field VAL.
-fn place_in(database: &Database, word: &str) -> Result<Place, IocError> {
-    let (name, rest) = split_at_byte(b'.', word.as_bytes());
+// Finds a field of the record with this name.
+fn place_in(database: &Database, name: &[u8], field_name: &[u8]) -> Result<Place, IocError> {
     let number = record_in(database, name)?;
     let Some(record) = database.records.get(number.index()) else {
         return Err(IocError::NoRecord);
     };
-    let name = match rest {
-        [] => b"VAL".as_slice(),
-        [_, name @ ..] => name,
-    };
-    match field(record.record_type(), name) {
+    let record_type = record.record_type();
+    match field(record_type, field_name) {
         Some(field) => Ok(Place {
             record: number,
+            record_type,
             field,
         }),
         None => Err(IocError::NoField),
     }
+}
+
+// Finds the field that REC.F names; REC alone is its field VAL.
+fn shown_in(database: &Database, word: &str) -> Result<Place, IocError> {
+    let (name, rest) = split_at_byte(b'.', word.as_bytes());
+    let field_name = match rest {
+        [] => b"VAL".as_slice(),
+        [_, field_name @ ..] => field_name,
+    };
+    place_in(database, name, field_name)
+}
+
+// Finds the field that a word watches.
+fn watched_in(database: &Database, word: &str) -> Result<Watched, IocError> {
+    let parts = WatchWord::of(word.as_bytes());
+    Ok(Watched {
+        place: place_in(database, parts.record, parts.field)?,
+        is_number: parts.is_number,
+    })
+}
+
+// Finds the fields that are watched.
+fn all_watched_in(
+    alloc: Global,
+    database: &Database,
+    words: &Words<'_>,
+) -> Result<Vec<Watched>, Stop> {
+    let mut all = Vec::new(alloc);
+    for word in words.watched.as_slice() {
+        match watched_in(database, word) {
+            Ok(watched) => all.push(watched).map_err(AllocError::from)?,
+            Err(error) => return Err(refused(alloc, "watch", word, error)),
+        }
+    }
+    Ok(all)
 }
 
 /// Finds what the words of a command line name.
@@ -74,7 +110,7 @@ fn place_in(database: &Database, word: &str) -> Result<Place, IocError> {
 pub fn found_in(alloc: Global, database: &Database, words: &Words<'_>) -> Result<Found, Stop> {
     let mut shown = Vec::new(alloc);
     for word in words.shown.as_slice() {
-        match place_in(database, word) {
+        match shown_in(database, word) {
             Ok(place) => shown.push(place).map_err(AllocError::from)?,
             Err(error) => return Err(refused(alloc, "show", word, error)),
         }
@@ -86,7 +122,12 @@ pub fn found_in(alloc: Global, database: &Database, words: &Words<'_>) -> Result
             Err(error) => return Err(refused(alloc, "trace", name, error)),
         }
     }
-    Ok(Found { shown, traced })
+    let watched = all_watched_in(alloc, database, words)?;
+    Ok(Found {
+        shown,
+        traced,
+        watched,
+    })
 }
 
 // Appends the line of a field.
@@ -128,19 +169,36 @@ fn add_seals(out: &mut String, frame: &Frame) -> Result<(), AllocError> {
     Ok(())
 }
 
+// Appends how a file ends.
+fn add_tail(alloc: Global, out: &mut String, frame: &Frame) -> Result<(), AllocError> {
+    if let (Tail::GoesOn, Some(next)) = (frame.tail, &frame.next) {
+        let name = String::from_utf8_lossy(alloc, next.name.as_slice())?;
+        return write!(out, ", and the journal goes on in {name}\n");
+    }
+    out.push_str(match frame.tail {
+        Tail::Running => ", and the run did not end\n",
+        Tail::Unsealed => ", and the last seal is missing\n",
+        Tail::Ended | Tail::GoesOn | Tail::Unknown | Tail::NotSeen => "\n",
+    })
+}
+
 // Appends how many entries agree, and whether the line behind them is cut off or missing.
-fn add_count(out: &mut String, frame: &Frame, is_cut_off: bool) -> Result<(), AllocError> {
+fn add_count(
+    alloc: Global,
+    out: &mut String,
+    frame: &Frame,
+    is_cut_off: bool,
+) -> Result<(), AllocError> {
     if is_cut_off {
         let line = frame.entries.saturating_add(frame.others).saturating_add(1);
         write!(out, "line {line} is cut off; ")?;
     }
     add_number(out, frame.entries, "entry agrees", "entries agree")?;
+    if frame.first > 0 {
+        write!(out, " from place {} on", frame.first)?;
+    }
     add_seals(out, frame)?;
-    out.push_str(match frame.tail {
-        Tail::Running => ", and the run did not end\n",
-        Tail::Unsealed => ", and the last seal is missing\n",
-        Tail::Ended | Tail::Unknown | Tail::NotSeen => "\n",
-    })
+    add_tail(alloc, out, frame)
 }
 
 /// Appends the lines of what was asked for, and how many entries agree.
@@ -168,6 +226,6 @@ pub fn add_shown(
         add_sets(alloc, map.records(), out)?;
     }
     let mut text = String::new(alloc);
-    add_count(&mut text, frame, is_cut_off)?;
+    add_count(alloc, &mut text, frame, is_cut_off)?;
     out.extend_from_slice(text.as_bytes())
 }

@@ -94,7 +94,7 @@ fn lack_of(audited: &Audited, frame: &Frame) -> Option<&'static str> {
         (_, Tail::Running) => Some("the run did not end"),
         (_, Tail::Unsealed) => Some("its last seal is missing"),
         (_, Tail::Unknown) => Some("it has no header"),
-        (_, Tail::Ended | Tail::NotSeen) => None,
+        (_, Tail::Ended | Tail::GoesOn | Tail::NotSeen) => None,
     }
 }
 
@@ -116,7 +116,7 @@ fn agreement(
         return Ok(Telling::Fault(text));
     }
     if let Some(place) = words.at {
-        if frame.entries <= place {
+        if place < frame.first || frame.place() <= place {
             let text = format!(in alloc;
                 "{name}: journal '{journal}' has no entry at place {place}\n"
             )?;
@@ -155,6 +155,19 @@ pub fn told_of_base(
             kind.words()
         )?,
     }
+    Ok(Telling::Fault(text))
+}
+
+/// Returns what is said of a file that doesn't begin with a base of the database.
+///
+/// # Errors
+///
+/// [`AllocError`] if allocation fails.
+pub fn told_of_no_base(alloc: Global, words: &Words<'_>) -> Result<Telling, AllocError> {
+    let (name, journal) = (PROGRAM.name, words.journal);
+    let text = format!(in alloc;
+        "{name}: journal '{journal}' line 2: what follows is no base of this database\n"
+    )?;
     Ok(Telling::Fault(text))
 }
 

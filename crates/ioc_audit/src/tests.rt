@@ -74,6 +74,7 @@ fn audit_tells(alloc: Global, case: &Case<'_>, said: &[u8], fault: &str) -> Resu
         at: None,
         shown: Vec::new(alloc),
         traced: Vec::new(alloc),
+        watched: Vec::new(alloc),
         sets: false,
         whole: false,
         sealed: false,

@@ -27,6 +27,7 @@ reason_of kind.PermissionDenied = reason.PermissionDenied
 reason_of kind.NotADirectory = reason.NotADirectory
 reason_of kind.IsADirectory = reason.IsADirectory
 reason_of kind.StorageFull = reason.StorageFull
+reason_of kind.FileTooLarge = reason.FileTooLarge
 reason_of kind.BrokenPipe = reason.BrokenPipe
 reason_of _ = reason.Other
 
@@ -37,6 +38,7 @@ reason_text reason.PermissionDenied = codes "Permission denied"
 reason_text reason.NotADirectory = codes "Not a directory"
 reason_text reason.IsADirectory = codes "Is a directory"
 reason_text reason.StorageFull = codes "No space left on device"
+reason_text reason.FileTooLarge = codes "File too large"
 reason_text reason.BrokenPipe = codes "Broken pipe"
 reason_text reason.Gap = codes "Entries are missing"
 reason_text reason.Other = codes "Input/output error"

@@ -13,6 +13,7 @@ pub enum Reason {
     NotADirectory,
     IsADirectory,
     StorageFull,
+    FileTooLarge,
     /// Nobody reads what is written.
     BrokenPipe,
     /// Lines that were to be written before are missing.
@@ -31,6 +32,7 @@ impl Reason {
             io::ErrorKind::NotADirectory => Reason::NotADirectory,
             io::ErrorKind::IsADirectory => Reason::IsADirectory,
             io::ErrorKind::StorageFull => Reason::StorageFull,
+            io::ErrorKind::FileTooLarge => Reason::FileTooLarge,
             io::ErrorKind::BrokenPipe => Reason::BrokenPipe,
             _ => Reason::Other,
         }
@@ -51,6 +53,7 @@ impl fmt::Display for Reason {
             Reason::NotADirectory => "Not a directory",
             Reason::IsADirectory => "Is a directory",
             Reason::StorageFull => "No space left on device",
+            Reason::FileTooLarge => "File too large",
             Reason::BrokenPipe => "Broken pipe",
             Reason::Gap => "Entries are missing",
             Reason::Other => "Input/output error",

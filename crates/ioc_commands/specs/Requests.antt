@@ -1,5 +1,6 @@
 -- What the lines of a user or a program ask for: those of a script, and `tick N`, `checkpoint`, `dbl TYPE PATTERN`, `dbpr REC`,
--- `put# REC.F TEXT`, `notify# REC.F TEXT`, `read REC F..`, `records`, `fields TYPE`, `menu NAME`, `status`, `help`, `exit`.
+-- `put# REC.F TEXT`, `notify# REC.F TEXT`, `read REC F..`, `records`, `fields TYPE`, `menu NAME`, `watch REC.F`, `unwatch REC.F`,
+-- `status`, `help`, `exit`.
 -- Application Developer's Guide, "IOC Test Facilities".
 use Rattle.std.specs.Prelude.{ℕ, ◌^◌, List, [], ◌∷◌, length, codes, nat_lt, ◌==◌, ◌&&◌, if◌then◌else◌, Bool, true, false, Option, Some, None, option_map, unwrap_or}
 use Rattle.ioc_values.specs.Number.{numeral, below}
@@ -29,6 +30,9 @@ pub data Request : Type 0 where
   Records : Request
   Fields : (record-type : List ℕ) → Request
   Choices : (menu : List ℕ) → Request
+  -- A word that names a field, or the number behind it.
+  Watch : (word : List ℕ) → Request
+  Unwatch : (word : List ℕ) → Request
   Status : Request
   Help : Request
   Exit : Request
@@ -73,6 +77,12 @@ fields_of words = of_word Fields (one_word words)
 
 abbrev pub choices_of : Option (List ℕ) → Request
 choices_of words = of_word Choices (one_word words)
+
+abbrev pub watch_of : Option (List ℕ) → Request
+watch_of words = of_word Watch (one_word words)
+
+abbrev pub unwatch_of : Option (List ℕ) → Request
+unwatch_of words = of_word Unwatch (one_word words)
 
 -- One word or two, or `*`.
 abbrev pub listed_at : List ℕ → Option (List ℕ) → Request
@@ -120,6 +130,8 @@ asked_by verbs.Read words = read_of words
 asked_by verbs.Records words = alone words Records
 asked_by verbs.Fields words = fields_of words
 asked_by verbs.Choices words = choices_of words
+asked_by verbs.Watch words = watch_of words
+asked_by verbs.Unwatch words = unwatch_of words
 asked_by verbs.Status words = alone words Status
 asked_by verbs.Checkpoint words = alone words Checkpoint
 asked_by verbs.Help words = alone words Help
@@ -154,6 +166,8 @@ seen (code.Read name fields) = Read name.now fields.now
 seen code.Records = Records
 seen (code.Fields record-type) = Fields record-type.now
 seen (code.Choices menu) = Choices menu.now
+seen (code.Watch word) = Watch word.now
+seen (code.Unwatch word) = Unwatch word.now
 seen code.Status = Status
 seen code.Help = Help
 seen code.Exit = Exit

@@ -16,8 +16,10 @@ program_verb_named word =
     else (if pointwise nat_eq word (codes "records") then Some verb.Records
     else (if pointwise nat_eq word (codes "fields") then Some verb.Fields
     else (if pointwise nat_eq word (codes "menu") then Some verb.Choices
+    else (if pointwise nat_eq word (codes "watch") then Some verb.Watch
+    else (if pointwise nat_eq word (codes "unwatch") then Some verb.Unwatch
     else (if pointwise nat_eq word (codes "status") then Some verb.Status
-    else None))))))
+    else None))))))))
 
 -- The first words that no script has, by their spelling.
 abbrev pub user_verb_named : List ℕ → Option Verb
@@ -92,6 +94,8 @@ knows dialect verb.Read = of_consoles dialect
 knows dialect verb.Records = of_consoles dialect
 knows dialect verb.Fields = of_consoles dialect
 knows dialect verb.Choices = of_consoles dialect
+knows dialect verb.Watch = of_consoles dialect
+knows dialect verb.Unwatch = of_consoles dialect
 knows dialect verb.Status = of_consoles dialect
 knows dialect _ = true
 

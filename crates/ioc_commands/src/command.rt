@@ -179,6 +179,8 @@ fn with_words(is_value: bool, verb: Verb, words: &[u8]) -> Command<'_>
         | Verb::Records
         | Verb::Fields
         | Verb::Choices
+        | Verb::Watch
+        | Verb::Unwatch
         | Verb::Status
         | Verb::Help
         | Verb::Exit => Command::Bad,

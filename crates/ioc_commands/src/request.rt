@@ -4,7 +4,7 @@ ghost use Rattle.ioc_commands.specs.Seen.{bytes};
 ghost use Rattle.ioc_commands.specs.Verbs.{verb_named};
 ghost use Rattle.ioc_commands.specs.Commands.{before, behind};
 ghost use Rattle.ioc_commands.specs.Requests.{request_of, by_any, asked_by, seen, ticks_of, one_word, listed, shown, alone};
-ghost use Rattle.ioc_commands.specs.Requests.{fields_of, choices_of, placed_of, read_of};
+ghost use Rattle.ioc_commands.specs.Requests.{fields_of, choices_of, watch_of, unwatch_of, placed_of, read_of};
 
 use crate::command::{Command, by_verb, channel};
 use crate::parts::cut_at;
@@ -45,6 +45,10 @@ pub enum Request<'a> {
     Fields(&'a [u8]),
     /// Prints the choices of the menu with this name.
     Choices(&'a [u8]),
+    /// Watches the field that a word names, or the number behind it.
+    Watch(&'a [u8]),
+    /// Watches no more what a word names.
+    Unwatch(&'a [u8]),
     /// Prints how the program is doing.
     Status,
     Help,
@@ -95,6 +99,8 @@ fn asked_by<'a>(verb: Verb, words: Option<&'a [u8]>) -> Request<'a>
         Verb::Records => alone(words, Request::Records),
         Verb::Fields => fields(words),
         Verb::Choices => menu(words),
+        Verb::Watch => watched(words),
+        Verb::Unwatch => unwatched(words),
         Verb::Status => alone(words, Request::Status),
         Verb::Checkpoint => alone(words, Request::Checkpoint),
         Verb::Help => alone(words, Request::Help),
@@ -158,6 +164,24 @@ fn menu<'a>(words: Option<&'a [u8]>) -> Request<'a>
 {
     match one_word(words) {
         Some(name) => Request::Choices(name),
+        None => Request::Command(Command::Bad),
+    }
+}
+
+fn watched<'a>(words: Option<&'a [u8]>) -> Request<'a>
+    ensures { seen result ≡ watch_of (option_map bytes words.entry) }
+{
+    match one_word(words) {
+        Some(word) => Request::Watch(word),
+        None => Request::Command(Command::Bad),
+    }
+}
+
+fn unwatched<'a>(words: Option<&'a [u8]>) -> Request<'a>
+    ensures { seen result ≡ unwatch_of (option_map bytes words.entry) }
+{
+    match one_word(words) {
+        Some(word) => Request::Unwatch(word),
         None => Request::Command(Command::Bad),
     }
 }

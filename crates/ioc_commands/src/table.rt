@@ -15,7 +15,7 @@ pub struct Form {
 }
 
 /// The forms of all commands, in the order in which help prints them.
-pub static FORMS: [Form; 30] = [
+pub static FORMS: [Form; 32] = [
     Form {
         verb: Verb::Process,
         line: "process REC",
@@ -176,6 +176,18 @@ pub static FORMS: [Form; 30] = [
         verb: Verb::Choices,
         line: "menu NAME",
         about: "for programs: a line '- N TEXT' for each choice",
+        shell: "",
+    },
+    Form {
+        verb: Verb::Watch,
+        line: "watch REC.F",
+        about: "for programs: a line '! REC.F ..' now and for each change, F# for the number",
+        shell: "",
+    },
+    Form {
+        verb: Verb::Unwatch,
+        line: "unwatch REC.F",
+        about: "for programs: ends the lines of watch REC.F",
         shell: "",
     },
     Form {

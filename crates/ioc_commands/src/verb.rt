@@ -38,6 +38,8 @@ pub enum Verb {
     Fields,
     /// The word `menu`.
     Choices,
+    Watch,
+    Unwatch,
     Status,
     Help,
     Exit,
@@ -138,6 +140,10 @@ fn of_a_program(word: &[u8]) -> Option<Verb>
         Some(Verb::Fields)
     } else if word == b"menu".as_slice() {
         Some(Verb::Choices)
+    } else if word == b"watch".as_slice() {
+        Some(Verb::Watch)
+    } else if word == b"unwatch".as_slice() {
+        Some(Verb::Unwatch)
     } else if word == b"status".as_slice() {
         Some(Verb::Status)
     } else {
@@ -177,6 +183,8 @@ impl Dialect {
             | Verb::Records
             | Verb::Fields
             | Verb::Choices
+            | Verb::Watch
+            | Verb::Unwatch
             | Verb::Status => matches!(self, Dialect::Console | Dialect::Live),
         }
     }

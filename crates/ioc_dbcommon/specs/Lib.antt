@@ -11,3 +11,4 @@ pub mod Source
 pub mod Raw
 pub mod Waits
 pub mod Wants
+pub mod Constant

@@ -16,9 +16,13 @@ abbrev pub is_device : Link → Bool
 is_device (Device text) = true
 is_device _ = false
 
+-- Whether DTYP says that the raw value is used.
+abbrev pub is_raw_soft : Condition → Bool
+is_raw_soft c = bytes_eq c.device_type (codes "Raw Soft Channel")
+
 -- Whether the raw value is used: the link names a device, or DTYP says so.
 unfoldable pub is_raw : Link → Condition → Bool
-is_raw link c = is_device link || bytes_eq c.device_type (codes "Raw Soft Channel")
+is_raw link c = is_device link || is_raw_soft c
 
 -- The new RVAL for an input: the old RVAL if there was no input, and none after a fault.
 abbrev pub raw_came : Got → ℕ → Option ℕ

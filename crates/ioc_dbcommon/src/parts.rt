@@ -1,9 +1,9 @@
 //! The parts of a converted value, by the kind of the field that it is for.
 ghost use Rattle.std.specs.Prelude.{◌≡◌};
-ghost use Rattle.ioc_dbcommon.specs.Parts.{long_in, int64_in, ulong_in, short_in, ushort_in, uchar_in, state_in, text_in, severity_in, omsl_in, ivoa_in, scan_in, pini_in, priority_in};
+ghost use Rattle.ioc_dbcommon.specs.Parts.{long_in, int64_in, ulong_in, short_in, ushort_in, uchar_in, state_in, double_in, text_in, severity_in, omsl_in, ivoa_in, scan_in, pini_in, priority_in, linr_in, oif_in};
 
-use ioc_menus::{Ivoa, Omsl, Pini, Priority, Scan, Severity};
-use ioc_values::{Text, Value};
+use ioc_menus::{Ivoa, Linr, Oif, Omsl, Pini, Priority, Scan, Severity};
+use ioc_values::{Double, Text, Value};
 
 /// Returns the number of a Long.
 pub fn long_in(value: Value) -> Option<i32>
@@ -82,6 +82,17 @@ pub fn state_in(value: Value) -> Option<u16>
     }
 }
 
+/// Returns the double of a Double.
+pub fn double_in(value: Value) -> Option<Double>
+    ensures { result ≡ double_in value }
+{
+    if let Value::Double(number) = value {
+        Some(number)
+    } else {
+        None
+    }
+}
+
 /// Returns the text of a text value.
 pub fn text_in(value: Value) -> Option<Text>
     ensures { result ≡ text_in value }
@@ -154,6 +165,28 @@ pub fn priority_in(value: Value) -> Option<Priority>
 {
     if let Value::Enum(number) = value {
         Priority::from_number(number)
+    } else {
+        None
+    }
+}
+
+/// Returns the LINR choice of a value.
+pub fn linr_in(value: Value) -> Option<Linr>
+    ensures { result ≡ linr_in value }
+{
+    if let Value::Enum(number) = value {
+        Linr::from_number(number)
+    } else {
+        None
+    }
+}
+
+/// Returns the OIF choice of a value.
+pub fn oif_in(value: Value) -> Option<Oif>
+    ensures { result ≡ oif_in value }
+{
+    if let Value::Enum(number) = value {
+        Oif::from_number(number)
     } else {
         None
     }

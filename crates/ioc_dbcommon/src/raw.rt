@@ -1,12 +1,22 @@
 //! Whether a binary type reads or writes RVAL or VAL, and the input that each receives.
 ghost use Rattle.std.specs.Prelude.{◌≡◌};
-ghost use Rattle.ioc_dbcommon.specs.Raw.{is_raw, raw_came, state_came, raw_constant, state_constant};
+ghost use Rattle.ioc_dbcommon.specs.Raw.{is_raw_soft, is_raw, raw_came, state_came, raw_constant, state_constant};
 
 use crate::body::Got;
 use crate::condition::Condition;
 use crate::link_box::LinkBox;
 use crate::parts::{ulong_in, ushort_in};
 use ioc_values::{Kind, Range, of_number};
+
+impl Condition {
+    /// Returns whether DTYP is `Raw Soft Channel`, by which an analog type reads or writes RVAL in
+    /// place of the value in engineering units.
+    pub fn is_raw_soft(&self) -> bool
+        ensures { result ≡ is_raw_soft self.now }
+    {
+        self.device_type.as_slice() == b"Raw Soft Channel".as_slice()
+    }
+}
 
 #[tactic(auto, unfolding(crate::specs::Raw::is_raw))]
 impl LinkBox {
@@ -16,7 +26,7 @@ impl LinkBox {
     pub fn is_raw(&self, condition: &Condition) -> bool
         ensures { result ≡ is_raw self.now.link condition.now }
     {
-        self.is_device() || condition.device_type.as_slice() == b"Raw Soft Channel".as_slice()
+        self.is_device() || condition.is_raw_soft()
     }
 }
 

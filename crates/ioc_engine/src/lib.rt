@@ -38,6 +38,7 @@ mod scanning;
 pub mod seed;
 mod starting;
 pub mod type_laws;
+mod watching;
 
 pub use channel::Channel;
 pub use clock::{CountingClock, SystemClock};

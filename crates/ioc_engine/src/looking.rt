@@ -17,7 +17,8 @@ use std::sync::Wait;
 impl<B: EngineName<D>, D: Device, C: Drop> Engine<B, D, C> {
     /// Looks at fields of a record. Returns what they are at one moment, in their order, with the
     /// text that a get would tell at that moment. A look isn't added to the journal. The desk has
-    /// seen all calls before that moment then, and no look of the same desk shows an earlier one.
+    /// seen all calls before that moment then, and no look of the same desk shows an earlier one. If the
+    /// record is watched ([`Engine::watch`]), its mark is taken off at that moment.
     ///
     /// ```rust
     /// let level = engine.channel(b"level")?;

@@ -2,7 +2,7 @@
 use Rattle.std.proofs.Common.{◌≡◌, ◌⊎◌, ℕ, Bool, true, false, List, [], ◌∷◌, ◌++◌, ◌+◌, length, Option, Some, None, Result, Ok, Err, refl, sym, ap, ◌∙◌, subst, append-nil, append_assoc, inl, inr, arith}
 use Rattle.std.proofs.lemmas.List.{length-append}
 use Rattle.std.proofs.lemmas.List.Elements.{All-nil, All-append, All-push}
-use Rattle.std.specs.Prelude.{OnOk, OnErr, All}
+use Rattle.std.specs.Prelude.{OnOk, OnErr, All, is_err}
 use Rattle.ioc_device.specs.declared.Ask.{Ask}
 use Rattle.ioc_device.specs.declared.Answer.{Answer}
 use Rattle.ioc_record.specs.RecordRules.{RecordRules}
@@ -79,6 +79,11 @@ module _ {R : Type 0} (D : Type 0) (k : RecordRules R) (base : World R) (gives :
         many = refl;
         requests = All-push Asks [] entry (All-nil Asks) (subst (λ (e : Event). is_request (call.Event e done.entry.reply) ≡ true) (sym done.event) refl);
       }
+
+  -- A request that was served.
+  pub served_if_ok : {A E : Type 0} (r : Result A E) → OnOk r (WasQueueServed D k base gives clock_gives number before after come_to) → is_err r ≡ false → HasServed 1 before after
+  served_if_ok (Ok x) was served = served_one was
+  served_if_ok (Err e) was served = absurd (let no : true ≡ false = served in cc)
 
   -- A request that was served, or refused.
   pub served_or_none : {A E : Type 0} (r : Result A E) → OnOk r (WasQueueServed D k base gives clock_gives number before after come_to) → OnErr r (after ≡ before) → HasServedSome before after

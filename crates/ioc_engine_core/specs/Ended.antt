@@ -12,6 +12,7 @@ use Rattle.ioc_journal.specs.Legal.{map_of}
 use Rattle.ioc_journal.specs.Account.{IsAccount}
 use Rattle.ioc_journaled_set.specs.Copies.{IsIn}
 use Rattle.ioc_journaled_set.specs.Holding.{HeldView, KeepsDevices, numbers_of, IsSoundlyHeld}
+use Rattle.ioc_watched.specs.Watched.{AreFresh}
 use Rattle.ioc_ledger.specs.declared.tally.Tally.{Tally}
 use Rattle.ioc_ledger.specs.Requests.{filled}
 
@@ -23,11 +24,13 @@ module _ {R D : Type 0} (k : RecordRules R) (base : World R) where
   -- The sets have each of the first `count` records, and none is in two of them. Each set is sound,
   -- so its records are one connected part, and each record has its device, of which `had` tells. The
   -- list of all calls is legal, and leads from the world at the load to the records of the sets and
-  -- their waiting lists. Two records are in one set exactly if standing links join them.
+  -- their waiting lists. Two records are in one set exactly if standing links join them. Each watched
+  -- record that isn't marked ends as it was told last: as it was after the calls up to then.
   pub record IsEnd (had : ℕ → Option D → Type 0) (count : ℕ) (log : List Note) (sets : List (HeldView R D)) : Type 0 where
     pub each : HoldEach numbers_of sets count
     pub sound : All (IsSoundlyHeld k base) sets
     pub devices : All (λ (h : HeldView R D). KeepsDevices had h.set) sets
+    pub fresh : All (λ (h : HeldView R D). AreFresh k base h.set.records h.watched) sets
     pub in_all : All (IsIn (map_of k base log)) sets
     pub legal : IsAccount k base log
     pub joined : (p q : ℕ) → p < count → q < count → ShareASet sets p q ↔ Connected (Joined (links_of k (map_of k base log).records)) p q

@@ -46,3 +46,11 @@ pub record IsHidden {R : Type 0} (D : Type 0) (k : RecordRules R) (base : World 
 -- The errors of a look: the engine was closed, allocation fails, there is no record with this number, or the record lacks a field.
 abbrev pub LookIsRefused : {R : Type 0} → (D : Type 0) → RecordRules R → World R → ℕ → ℕ → List FieldNo → IocError → Type 0
 LookIsRefused D k base count number fields error = (error ≡ Stopped) ⊎ ((error ≡ NoMemory) ⊎ (IsRefused count number error ⊎ IsHidden D k base number fields error))
+
+-- The errors of watching a record: the engine was closed, allocation fails, or there is no record with this number.
+abbrev pub WatchIsRefused : ℕ → ℕ → IocError → Type 0
+WatchIsRefused count number error = (error ≡ Stopped) ⊎ ((error ≡ NoMemory) ⊎ IsRefused count number error)
+
+-- The error of watching a record no more: there is no record with this number.
+abbrev pub UnwatchIsRefused : ℕ → ℕ → IocError → Type 0
+UnwatchIsRefused count number error = IsRefused count number error

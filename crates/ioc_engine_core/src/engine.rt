@@ -28,6 +28,7 @@ use ioc_set::EventBuffers;
 use ioc_shared_queues::{CallbackQueues, RecordRequest};
 use ioc_topology::{Busy, Directory, Locked};
 use ioc_values::IocError;
+use ioc_watched::MarkedRecords;
 use std::alloc::Global;
 use std::marker::Model;
 use std::sync::atomic::AtomicU64;
@@ -56,6 +57,8 @@ pub struct EngineCore<K: RecordKind + Drop, B: SetsName<K, D>, D: Device> {
     pub(crate) refused: AtomicU64,
     // Locked at the end alone: a share may be sent to other threads, but not be seen by several.
     pub(crate) spare: Mutex<SpareParts<K, B>>,
+    // The watched records that were marked since they were taken from here. Locked last.
+    pub(crate) marks: Mutex<MarkedRecords>,
 }
 
 impl<K: RecordKind + Drop, B: SetsName<K, D>, D: Device> Model for EngineCore<K, B, D> {
@@ -75,8 +78,8 @@ impl<K: RecordKind + Drop, B: SetsName<K, D>, D: Device> Model for EngineCore<K,
 
 impl<K: RecordKind + Drop, B: SetsName<K, D>, D: Device> EngineCore<K, B, D> {
     /// Creates an engine with these sets, the journal of its calls, the table of its puts with
-    /// notification, the scan lists, the queues, and the parts of the ledgers of counts that no set
-    /// has. The sets were made for all records of the load.
+    /// notification, the scan lists, the queues, the parts of the ledgers of counts that no set has, and
+    /// the list of marked records. The sets were made for all records of the load.
     pub fn new(
         sets: Directory<JournaledSet<K, B, D>>,
         journal: SharedJournal<K, B>,
@@ -84,6 +87,7 @@ impl<K: RecordKind + Drop, B: SetsName<K, D>, D: Device> EngineCore<K, B, D> {
         lists: ScanLists,
         queues: CallbackQueues<QueuedRequest<K, B>>,
         spare: TallyShare<EngineCounts<K, B>>,
+        marks: MarkedRecords,
     ) -> Self
         requires known { (n : ℕ) → Has B.base n → n < sets }
         requires records { len B.base.records ≡ sets }
@@ -99,6 +103,7 @@ impl<K: RecordKind + Drop, B: SetsName<K, D>, D: Device> EngineCore<K, B, D> {
             undone: AtomicU64::new(0),
             refused: AtomicU64::new(0),
             spare: Mutex::new(SpareParts::new(spare)),
+            marks: Mutex::new(marks),
         }
     }
 
@@ -121,6 +126,7 @@ impl<K: RecordKind + Drop, B: SetsName<K, D>, D: Device> EngineCore<K, B, D> {
             rt,
             alloc,
             journal: &self.journal,
+            marks: &self.marks,
         }
     }
 

@@ -31,6 +31,7 @@ mod sending;
 pub mod serving;
 pub mod spare_parts;
 pub mod starting;
+mod watching;
 
 pub use clock::{Clock, FixedClock};
 pub use desk::Desk;

@@ -62,7 +62,8 @@ fn add_seen<K: RecordKind + Drop, B: SetsName<K, D>, D: Device>(
 
 impl<K: RecordKind + Drop, B: SetsName<K, D>, D: Device> EngineCore<K, B, D> {
     /// Looks at fields of a record. Returns what they are at one moment, in their order. That isn't
-    /// added to the journal. The desk has seen all calls before that moment then.
+    /// added to the journal. The desk has seen all calls before that moment then. If the record is
+    /// watched, its mark is taken off at that moment.
     ///
     /// # Errors
     ///
@@ -91,6 +92,7 @@ impl<K: RecordKind + Drop, B: SetsName<K, D>, D: Device> EngineCore<K, B, D> {
         held.learn(rt, &self.journal, &mut desk.account);
         held.is_sound();
         add_seen(&held, number, fields, &mut shown)?;
+        held.take_mark(self.journal.cell(), number);
         Ok(shown)
     }
 }

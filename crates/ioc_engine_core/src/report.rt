@@ -8,6 +8,7 @@ ghost use Rattle.ioc_ledger.specs.Requests.{capped, no_counts};
 ghost use Rattle.ioc_journal.specs.Legal.{map_of};
 ghost use Rattle.ioc_store.specs.World.{Has};
 ghost use Rattle.ioc_topology.specs.Gathered.{HoldEach};
+ghost use Rattle.ioc_watched.specs.Watched.{AreFresh};
 ghost use Rattle.ioc_journaled_set.specs.Copies.{IsIn};
 ghost use Rattle.ioc_journaled_set.specs.Holding.{IsSoundlyHeld, KeepsDevices, numbers_of};
 ghost use Rattle.ioc_journaled_set.specs.SameDevice.{IsDeviceOf};
@@ -123,6 +124,15 @@ fn all_keep_devices<K: RecordKind + Drop, B: SetsName<K, D>, D: Device>(sets: &[
     }
 }
 
+// States that each watched record of these sets is marked, or ends as it was told last.
+fn all_end_as_told<K: RecordKind + Drop, B: SetsName<K, D>, D: Device>(sets: &[EndedSet<K, B, D>])
+    ensures { All (λ h. AreFresh K.rules B.base h.set.records h.watched) sets.now }
+{
+    for held in sets {
+        held.ends_as_told();
+    }
+}
+
 impl<K: RecordKind + Drop, B: SetsName<K, D>, D: Device> EngineCore<K, B, D> {
     /// Ends the engine. Allocates nothing. Waits forever if a record is in no set.
     pub fn stop<R: Wait>(self, rt: &R, alloc: Global) -> CoreReport<K, B, D>
@@ -140,6 +150,7 @@ impl<K: RecordKind + Drop, B: SetsName<K, D>, D: Device> EngineCore<K, B, D> {
             undone,
             refused,
             spare,
+            marks: _,
         } = self;
         give_up_waiting::<K, B, D, R>(rt, &queues, &shared);
         let gathered = sets.gather(rt, alloc);
@@ -149,6 +160,7 @@ impl<K: RecordKind + Drop, B: SetsName<K, D>, D: Device> EngineCore<K, B, D> {
         let spare = spare.into_inner().into_share();
         let ended = settle(rt, &cell, &mut journal, spare, gathered);
         all_keep_devices(ended.as_slice());
+        all_end_as_told(ended.as_slice());
         let tickets = journal.tickets();
         let dropped = journal.items_dropped();
         CoreReport {

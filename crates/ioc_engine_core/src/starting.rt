@@ -29,6 +29,7 @@ use ioc_set_records::loaded_laws::dealt_sets_are_parts;
 use ioc_set_records::{Loaded, deal, parts_of};
 use ioc_shared_queues::CallbackQueues;
 use ioc_topology::Directory;
+use ioc_watched::MarkedRecords;
 use std::alloc::{AllocError, Global};
 use std::sync::ledger::Blank;
 
@@ -216,5 +217,6 @@ pub fn start<K: RecordKind + Drop, B: SetsName<K, D>, D: Device>(
     let Ok(shared) = SharedJournal::new(alloc, cell, journal, free, limits.checkpoint_at) else {
         return Err(StartError::NoMemory);
     };
-    Ok(EngineCore::new(directory, shared, puts, lists, queues, spare))
+    let marks = MarkedRecords::new(alloc);
+    Ok(EngineCore::new(directory, shared, puts, lists, queues, spare, marks))
 }

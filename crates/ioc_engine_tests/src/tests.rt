@@ -14,5 +14,6 @@ mod sessions;
 mod steps;
 mod timer;
 mod walk;
+mod watched;
 mod worked;
 mod workers;

@@ -1,10 +1,9 @@
 //! The effect of an event by itself: a request, a put, a completion.
-ghost use Rattle.std.specs.Prelude.{◌≡◌, true, OnOk, OnErr, IfErr, Some, Ok, Err};
+ghost use Rattle.std.specs.Prelude.{◌≡◌, true, Some, Ok, Err};
 ghost use Rattle.ioc_fields.specs.Table.{is_process_passive};
 ghost use Rattle.ioc_fields.specs.declared.field_no.FieldNo.TheVariants.{Own};
 ghost use Rattle.ioc_fields.specs.declared.field_no.OwnField.TheVariants.{Val};
 ghost use Rattle.ioc_record.specs.Given.{input_given};
-ghost use Rattle.ioc_store.specs.World.{Has, at, common_at};
 ghost use Rattle.ioc_process.specs.Running.{CanProcess, CanRun, HasRun};
 ghost use Rattle.ioc_process.specs.Runs.{ForAnswers};
 ghost use Rattle.ioc_events.specs.declared.event.Event.TheVariants.{Process, Put, Complete};
@@ -26,18 +25,26 @@ use ioc_store::store::Store;
 use ioc_store::trace_step::TraceStep;
 use ioc_values::{Finished, IocError};
 
-// VAL is process-passive in each record type.
-#[tactic(auto, unfolding(ioc_fields::specs::Table::is_process_passive, ioc_fields::specs::Table::row_of, ioc_fields::specs::Table::own_row, ioc_fields::specs::Table::numeric_input_row, ioc_fields::specs::Table::numeric_output_row, ioc_fields::specs::Table::output_row, ioc_fields::specs::Table::numeric_row, ioc_fields::specs::Table::bi_row, ioc_fields::specs::Table::bo_row, ioc_fields::specs::Table::two_state_row, ioc_fields::specs::Table::mbbi_row, ioc_fields::specs::Table::mbbo_row, ioc_fields::specs::Table::multi_state_row, ioc_fields::specs::Table::text_row, ioc_fields::specs::Table::text_input_row, ioc_fields::specs::Table::stringout_row, ioc_fields::specs::Table::fanout_row))]
-fn val_is_passive(record_type: RecordType)
-    ensures { is_process_passive record_type (Own Val) ≡ true }
+// Returns whether VAL is process-passive: it is tested by the type alone, without its row.
+#[tactic(auto, unfolding(ioc_fields::specs::Table::is_process_passive, ioc_fields::specs::Table::row_of, ioc_fields::specs::Table::own_row, ioc_fields::specs::Table::numeric_input_row, ioc_fields::specs::Table::numeric_output_row, ioc_fields::specs::Table::output_row, ioc_fields::specs::Table::numeric_row, ioc_fields::specs::Table::bi_row, ioc_fields::specs::Table::bo_row, ioc_fields::specs::Table::two_state_row, ioc_fields::specs::Table::mbbi_row, ioc_fields::specs::Table::mbbo_row, ioc_fields::specs::Table::multi_state_row, ioc_fields::specs::Table::text_row, ioc_fields::specs::Table::text_input_row, ioc_fields::specs::Table::stringout_row, ioc_fields::specs::Table::fanout_row, ioc_fields::specs::Table::analog_row, ioc_fields::specs::Table::scale_row, ioc_fields::specs::Table::ai_row, ioc_fields::specs::Table::ao_row))]
+fn val_is_passive(record_type: RecordType) -> bool
+    ensures { result ≡ is_process_passive record_type (Own Val) }
 {
     match record_type {
-        RecordType::Longin | RecordType::Longout => {}
-        RecordType::Int64in | RecordType::Int64out => {}
-        RecordType::Bi | RecordType::Bo => {}
-        RecordType::Mbbi | RecordType::Mbbo => {}
-        RecordType::Stringin | RecordType::Stringout => {}
-        RecordType::Fanout | RecordType::Event => {}
+        RecordType::Longin
+        | RecordType::Longout
+        | RecordType::Int64in
+        | RecordType::Int64out
+        | RecordType::Bi
+        | RecordType::Bo
+        | RecordType::Mbbi
+        | RecordType::Mbbo
+        | RecordType::Stringin
+        | RecordType::Stringout
+        | RecordType::Fanout
+        | RecordType::Event
+        | RecordType::Ai
+        | RecordType::Ao => true,
     }
 }
 
@@ -47,10 +54,7 @@ fn is_passive_field<K: RecordKind>(record: &K, field: FieldNo) -> bool
     ensures { result ≡ is_process_passive (K.rules.record_type record.now) field }
 {
     match field {
-        FieldNo::Own(OwnField::Val) => {
-            val_is_passive(record.record_type());
-            true
-        }
+        FieldNo::Own(OwnField::Val) => val_is_passive(record.record_type()),
         _ => is_process_passive(record.record_type(), field),
     }
 }

@@ -12,7 +12,7 @@ use Rattle.ioc_fields.specs.Names.{common_name, own_name, link_name, state_value
 
 -- The place to which four bytes hash.
 unfoldable pub place_of : List ℕ → ℕ
-place_of bytes = ((from_be_bytes w32 bytes * FACTOR) % 2 ^ 32) / 2 ^ 23
+place_of bytes = ((from_be_bytes w32 bytes * FACTOR) % 2 ^ 32) / 2 ^ 22
 
 -- The field whose index is stored at the place of these bytes.
 unfoldable pub field_at : List ℕ → Option FieldNo

@@ -23,12 +23,14 @@ pub fn link_fields(record_type: RecordType) -> &'static [FieldNo]
         | RecordType::Bi
         | RecordType::Mbbi
         | RecordType::Stringin
-        | RecordType::Event => &INPUT_LINKS,
+        | RecordType::Event
+        | RecordType::Ai => &INPUT_LINKS,
         RecordType::Longout
         | RecordType::Int64out
         | RecordType::Bo
         | RecordType::Mbbo
-        | RecordType::Stringout => &OUTPUT_LINKS,
+        | RecordType::Stringout
+        | RecordType::Ao => &OUTPUT_LINKS,
         RecordType::Fanout => &FANOUT_LINKS,
     }
 }

@@ -1,6 +1,6 @@
 //! The rows of the type-specific fields, by the groups of types that share them.
 ghost use Rattle.std.specs.Prelude.{◌≡◌};
-ghost use Rattle.ioc_fields.specs.Table.{numeric_row, input_row, output_row_with, numeric_output_row, state_row, two_state_row, multi_state_row, text_row, fanout_row, own_row};
+ghost use Rattle.ioc_fields.specs.Table.{numeric_row, input_row, output_row_with, numeric_output_row, state_row, two_state_row, multi_state_row, text_row, fanout_row, analog_row, scale_row, ai_row, ao_row, own_row};
 
 use crate::field_kind::{FieldKind, LinkRole};
 use crate::field_no::OwnField;
@@ -138,6 +138,73 @@ fn fanout_row(field: OwnField) -> Option<Row>
     })
 }
 
+// Returns the row of a field that ai and ao share: the value, its limits and deadbands, and how it is
+// shown.
+#[tactic(auto, unfolding(crate::specs::Table::analog_row))]
+fn analog_row(field: OwnField) -> Option<Row>
+    ensures { result ≡ analog_row field }
+{
+    Some(match field {
+        OwnField::Hihi | OwnField::Lolo | OwnField::High | OwnField::Low | OwnField::Val => {
+            Row::passive(FieldKind::Double)
+        }
+        OwnField::Hhsv | OwnField::Llsv | OwnField::Hsv | OwnField::Lsv => {
+            Row::passive(FieldKind::Menu(Menu::Severity))
+        }
+        OwnField::Hyst | OwnField::Mdel | OwnField::Adel => Row::plain(FieldKind::Double),
+        OwnField::Lalm | OwnField::Mlst | OwnField::Alst => Row::fixed(FieldKind::Double),
+        OwnField::Prec => Row::plain(FieldKind::Number(Range::Digits)),
+        OwnField::Hopr | OwnField::Lopr => Row::kept(FieldKind::Double),
+        OwnField::Egu => Row::kept(FieldKind::Text),
+        _ => return None,
+    })
+}
+
+// Returns the row of a field of ai and ao, with those that convert between the raw value and the
+// value.
+#[tactic(auto, unfolding(crate::specs::Table::scale_row))]
+fn scale_row(field: OwnField) -> Option<Row>
+    ensures { result ≡ scale_row field }
+{
+    Some(match field {
+        OwnField::Linr => Row::passive(FieldKind::Menu(Menu::Linr)),
+        OwnField::Eguf | OwnField::Egul => Row::kept(FieldKind::Double),
+        OwnField::Eslo | OwnField::Eoff | OwnField::Aslo | OwnField::Aoff => {
+            Row::passive(FieldKind::Double)
+        }
+        OwnField::Roff => Row::passive(FieldKind::Number(Range::ULong)),
+        OwnField::Rval => Row::plain(FieldKind::Number(Range::Long)),
+        _ => return analog_row(field),
+    })
+}
+
+// Returns the row of a type-specific field of ai.
+#[tactic(auto, unfolding(crate::specs::Table::ai_row))]
+fn ai_row(field: OwnField) -> Option<Row>
+    ensures { result ≡ ai_row field }
+{
+    match field {
+        OwnField::Inp => input_row(field),
+        OwnField::Smoo => Some(Row::plain(FieldKind::Double)),
+        OwnField::Init => Some(Row::fixed(FieldKind::Number(Range::UChar))),
+        _ => scale_row(field),
+    }
+}
+
+// Returns the row of a type-specific field of ao.
+#[tactic(auto, unfolding(crate::specs::Table::ao_row))]
+fn ao_row(field: OwnField) -> Option<Row>
+    ensures { result ≡ ao_row field }
+{
+    match field {
+        OwnField::Oif => Some(Row::plain(FieldKind::Menu(Menu::Oif))),
+        OwnField::Oroc => Some(Row::plain(FieldKind::Double)),
+        OwnField::Drvh | OwnField::Drvl => Some(Row::passive(FieldKind::Double)),
+        OwnField::Oval | OwnField::Pval => Some(Row::fixed(FieldKind::Double)),
+        _ => output_row_with(FieldKind::Double, field).or_else(|| scale_row(field)),
+    }
+}
+
 // Returns the row of a type-specific field, if the type has it.
 #[inline(always)]
 #[tactic(auto, unfolding(crate::specs::Table::own_row, crate::specs::Table::numeric_input_row, crate::specs::Table::bi_row, crate::specs::Table::bo_row, crate::specs::Table::mbbi_row, crate::specs::Table::mbbo_row, crate::specs::Table::text_input_row, crate::specs::Table::stringout_row))]
@@ -159,5 +226,7 @@ pub fn own_row(record_type: RecordType, field: OwnField) -> Option<Row>
             field,
         )),
         RecordType::Fanout => fanout_row(field),
+        RecordType::Ai => ai_row(field),
+        RecordType::Ao => ao_row(field),
     }
 }

@@ -1,5 +1,5 @@
 -- The auditor after one more entry.
-use Rattle.std.proofs.Common.{◌≡◌, ℕ, ◌+◌, suc, cond, Some, List, [], ◌∷◌, ◌++◌, length, refl, sym, ap, subst, ◌∙◌}
+use Rattle.std.proofs.Common.{◌≡◌, ℕ, ◌+◌, suc, cond, Some, List, [], ◌∷◌, ◌++◌, length, sym, ap, subst, ◌∙◌, arith}
 use Rattle.std.specs.Prelude.{◌==◌}
 use Rattle.rec_types.specs.Record.{Record, record_rules}
 use Rattle.ioc_journal_file.specs.declared.line.Line.{Line}
@@ -7,33 +7,40 @@ use Rattle.ioc_store.specs.World.{World}
 use Rattle.ioc_journal_audit.specs.declared.auditor.Auditor.{Auditor}
 use Rattle.ioc_journal_audit.specs.Audit.{HasAudited, HasNextNumbers, Follows}
 use Rattle.ioc_journal_audit.specs.Legal.{IsLegal, Agrees, entry_of}
-use Rattle.ioc_journal_audit.specs.Numbering.{IsNumbered, made_by}
+use Rattle.ioc_journal_audit.specs.Numbering.{Start, IsNumbered, made_by}
 use Rattle.ioc_journal_audit.specs.Numbers.{count_to, count_in}
 use Rattle.ioc_journal_audit.specs.PlayedMap.{world_of}
 use Rattle.ioc_journal_audit.proofs.Following.{made_by-one, length-one}
 use Rattle.ioc_journal_audit.proofs.Replaying.{Allowed, Alone, OneEnd, legal-more, legal-numbered, legal-agrees}
 
-numbered_by : (first : World Record) (lines : List Line) (line : Line) (a : Auditor) → HasAudited first lines a → HasNextNumbers a line.mark → IsNumbered lines line
-numbered_by first lines line a audited next = record { place = next.0 ∙ audited.place; call = next.1 ∙ audited.desks line.mark.desk }
+numbered_by : (start : Start) (first : World Record) (lines : List Line) (line : Line) (a : Auditor) → HasAudited start first lines a → HasNextNumbers a line.mark → IsNumbered start lines line
+numbered_by start first lines line a audited next = record { place = next.0 ∙ audited.place; call = next.1 ∙ audited.desks line.mark.desk }
 
-numbers_of : (first : World Record) (lines : List Line) (line : Line) (a : Auditor) → HasAudited first lines a → IsNumbered lines line → HasNextNumbers a line.mark
-numbers_of first lines line a audited is = (is.place ∙ sym audited.place, is.call ∙ sym (audited.desks line.mark.desk))
+numbers_of : (start : Start) (first : World Record) (lines : List Line) (line : Line) (a : Auditor) → HasAudited start first lines a → IsNumbered start lines line → HasNextNumbers a line.mark
+numbers_of start first lines line a audited is = (is.place ∙ sym audited.place, is.call ∙ sym (audited.desks line.mark.desk))
 
-pub audited-more : Allowed record_rules → (first : World Record) (lines : List Line) (line : Line) (a b c : Auditor) → HasNextNumbers a line.mark → Follows a line b
+pub audited-more : Allowed record_rules → (start : Start) (first : World Record) (lines : List Line) (line : Line) (a b c : Auditor) → HasNextNumbers a line.mark → Follows a line b
     → c.map ≡ b.map → c.place ≡ Some line.mark.place
     → ((other : ℕ) → count_in c.desks other ≡ cond (line.mark.desk == other) 1 0 + count_in b.desks other)
-    → HasAudited first lines a → HasAudited first (lines ++ line ∷ []) c
-audited-more allowed first lines line a b c next follows map place desks audited = record {
-  legal = subst (λ (w : World Record). IsLegal record_rules first (lines ++ line ∷ []) w) (sym (ap world_of map))
-      (legal-more record_rules allowed first (world_of a.map) (world_of b.map) lines line audited.legal (numbered_by first lines line a audited next) follows.agrees follows.world);
-  place = ap count_to place ∙ ap suc (next.0 ∙ audited.place) ∙ sym (length-one lines line);
-  desks = λ desk. desks desk ∙ ap (λ n. cond (line.mark.desk == desk) 1 0 + n) (ap (λ d. count_in d desk) follows.desks ∙ audited.desks desk) ∙ sym (made_by-one desk lines line);
+    → HasAudited start first lines a → HasAudited start first (lines ++ line ∷ []) c
+audited-more allowed start first lines line a b c next follows map place desks audited = record {
+  legal = subst (λ (w : World Record). IsLegal record_rules start first (lines ++ line ∷ []) w) (sym (ap world_of map))
+      (legal-more record_rules allowed start first (world_of a.map) (world_of b.map) lines line audited.legal (numbered_by start first lines line a audited next) follows.agrees follows.world);
+  place =
+      let next_place : count_to c.place ≡ suc (start.place + length lines) = ap count_to place ∙ ap suc (next.0 ∙ audited.place) in
+      let longer : length (lines ++ line ∷ []) ≡ suc (length lines) = length-one lines line in
+      omega (arith, next_place, longer);
+  desks = λ desk.
+      let before : count_in b.desks desk ≡ start.calls desk + made_by desk lines = ap (λ d. count_in d desk) follows.desks ∙ audited.desks desk in
+      let now : count_in c.desks desk ≡ cond (line.mark.desk == desk) 1 0 + count_in b.desks desk = desks desk in
+      let more : made_by desk (lines ++ line ∷ []) ≡ cond (line.mark.desk == desk) 1 0 + made_by desk lines = made_by-one desk lines line in
+      omega (arith, before, now, more);
 }
 
 -- A legal run that goes on with an entry numbers it so, and the entry agrees.
-pub audited-numbers : (first last : World Record) (lines more : List Line) (line : Line) (a : Auditor) → HasAudited first lines a → IsLegal record_rules first (lines ++ line ∷ more) last → HasNextNumbers a line.mark
-audited-numbers first last lines more line a audited legal = numbers_of first lines line a audited (legal-numbered record_rules first last lines more line legal)
+pub audited-numbers : (start : Start) (first last : World Record) (lines more : List Line) (line : Line) (a : Auditor) → HasAudited start first lines a → IsLegal record_rules start first (lines ++ line ∷ more) last → HasNextNumbers a line.mark
+audited-numbers start first last lines more line a audited legal = numbers_of start first lines line a audited (legal-numbered record_rules start first last lines more line legal)
 
-pub audited-agrees : Alone record_rules → OneEnd record_rules → (first last : World Record) (lines more : List Line) (line : Line) (a : Auditor) → HasAudited first lines a → IsLegal record_rules first (lines ++ line ∷ more) last
+pub audited-agrees : Alone record_rules → OneEnd record_rules → (start : Start) (first last : World Record) (lines more : List Line) (line : Line) (a : Auditor) → HasAudited start first lines a → IsLegal record_rules start first (lines ++ line ∷ more) last
     → Agrees record_rules (world_of a.map) (entry_of line)
-audited-agrees alone one first last lines more line a audited legal = legal-agrees record_rules alone one first (world_of a.map) last lines more line audited.legal legal
+audited-agrees alone one start first last lines more line a audited legal = legal-agrees record_rules alone one start first (world_of a.map) last lines more line audited.legal legal

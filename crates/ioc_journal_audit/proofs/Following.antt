@@ -1,8 +1,8 @@
 -- One more entry behind those that are numbered.
-use Rattle.std.proofs.Common.{◌≡◌, ◌==◌, ℕ, ◌+◌, suc, Bool, true, false, cond, List, [], ◌∷◌, ◌++◌, length, refl, sym, ap, subst, ◌∙◌, arith, append_assoc}
+use Rattle.std.proofs.Common.{◌≡◌, ◌==◌, ℕ, ◌+◌, suc, cond, List, [], ◌∷◌, ◌++◌, length, refl, sym, ap, subst, arith, append_assoc}
 use Rattle.std.proofs.lemmas.List.{append-nil}
 use Rattle.ioc_journal_file.specs.declared.line.Line.{Line}
-use Rattle.ioc_journal_audit.specs.Numbering.{made_by, IsNumbered, AreNumbered}
+use Rattle.ioc_journal_audit.specs.Numbering.{Start, made_by, IsNumbered, AreNumbered}
 
 pub made_by-append : (desk : ℕ) (xs ys : List Line) → made_by desk (xs ++ ys) ≡ made_by desk xs + made_by desk ys
 made_by-append desk [] ys = omega arith
@@ -15,12 +15,12 @@ pub length-one : (xs : List Line) (x : Line) → length (xs ++ x ∷ []) ≡ suc
 length-one [] x = refl
 length-one (y ∷ xs) x = ap suc (length-one xs x)
 
-pub numbered-more : (before xs : List Line) (x : Line) → AreNumbered before xs → IsNumbered (before ++ xs) x → AreNumbered before (xs ++ x ∷ [])
-numbered-more before [] x are is = (subst (λ (l : List Line). IsNumbered l x) (append-nil before) is, tt)
-numbered-more before (y ∷ xs) x are is =
-    (are.0, numbered-more (before ++ y ∷ []) xs x are.1 (subst (λ (l : List Line). IsNumbered l x) (sym (append_assoc before (y ∷ []) xs)) is))
+pub numbered-more : (start : Start) (before xs : List Line) (x : Line) → AreNumbered start before xs → IsNumbered start (before ++ xs) x → AreNumbered start before (xs ++ x ∷ [])
+numbered-more start before [] x are is = (subst (λ (l : List Line). IsNumbered start l x) (append-nil before) is, tt)
+numbered-more start before (y ∷ xs) x are is =
+    (are.0, numbered-more start (before ++ y ∷ []) xs x are.1 (subst (λ (l : List Line). IsNumbered start l x) (sym (append_assoc before (y ∷ []) xs)) is))
 
-pub numbered-next : (before xs more : List Line) (x : Line) → AreNumbered before (xs ++ x ∷ more) → IsNumbered (before ++ xs) x
-numbered-next before [] more x are = subst (λ (l : List Line). IsNumbered l x) (sym (append-nil before)) are.0
-numbered-next before (y ∷ xs) more x are =
-    subst (λ (l : List Line). IsNumbered l x) (append_assoc before (y ∷ []) xs) (numbered-next (before ++ y ∷ []) xs more x are.1)
+pub numbered-next : (start : Start) (before xs more : List Line) (x : Line) → AreNumbered start before (xs ++ x ∷ more) → IsNumbered start (before ++ xs) x
+numbered-next start before [] more x are = subst (λ (l : List Line). IsNumbered start l x) (sym (append-nil before)) are.0
+numbered-next start before (y ∷ xs) more x are =
+    subst (λ (l : List Line). IsNumbered start l x) (append_assoc before (y ∷ []) xs) (numbered-next start (before ++ y ∷ []) xs more x are.1)

@@ -11,3 +11,5 @@ mod Comparing
 mod Checking
 mod Reading
 mod Basing
+mod Itemizing
+mod Restarting

@@ -1,8 +1,8 @@
 -- The entries of a journal, read line by line.
 use Rattle.std.proofs.Common.{◌≡◌, ◌≢◌, ℕ, suc, ◌+◌, Bool, true, false, List, [], ◌∷◌, ◌++◌, length, Option, Some, None, refl, sym, ap, subst, ◌∙◌, arith, append_assoc}
 use Rattle.std.proofs.lemmas.List.{append-nil}
-use Rattle.std.specs.Prelude.{Result, Ok, Err, IfSome, not, ◌==◌, ◌≤◌}
-use Rattle.std.proofs.Common.{◌⊎◌, inl, inr}
+use Rattle.std.specs.Prelude.{Result, Ok, Err, IfSome, not, ◌==◌}
+use Rattle.std.proofs.Common.{inl, inr}
 use Rattle.std.proofs.lemmas.Bool.Decides.{Decides-eqb}
 use Rattle.std.specs.Io.BufRead.{DropsThrough}
 use Rattle.ioc_journal_audit.specs.declared.difference.Difference.{Difference}
@@ -12,8 +12,6 @@ use Rattle.ioc_journal_audit.specs.declared.journal.Audited.TheVariants.{Agree, 
 use Rattle.std.specs.Io.BufRead.{take_through, drop_through}
 use Rattle.ioc_device.specs.declared.Answer.{Answer}
 use Rattle.ioc_events.specs.declared.event.Call.{Call}
-use Rattle.rec_types.specs.Record.{Record, record_rules}
-use Rattle.ioc_store.specs.World.{World}
 use Rattle.ioc_journal_file.specs.declared.line.Line.{Line}
 use Rattle.ioc_journal_file.specs.declared.line.Mark.{Mark}
 use Rattle.ioc_journal_file.specs.declared.line_error.LineError.{LineError}
@@ -45,7 +43,7 @@ agreed_none a text = record {
   begins = refl;
   many = refl;
   only = tt;
-  audited = λ first done audited. subst (λ (ls : List Line). HasAudited first ls a) (sym (append-nil done)) audited;
+  audited = λ start first done audited. subst (λ (ls : List Line). HasAudited start first ls a) (sym (append-nil done)) audited;
 }
 
 only-more : (lines : List Line) (line : Line) → AreOnly lines → IsOnly line → AreOnly (lines ++ line ∷ [])
@@ -67,8 +65,8 @@ agreed_more a m b whole rest text count agreed first checks = record {
   begins = agreed.begins ∙ ap (λ (t : List ℕ). texts_of agreed.lines ++ t) (line_and_rest rest text checks.line first checks.is_its) ∙ texts-more agreed.lines checks.line (drop_through 10 rest);
   many = let e = length-one agreed.lines checks.line in omega (arith, e, agreed.many);
   only = only-more agreed.lines checks.line agreed.only checks.only;
-  audited = λ first_world done audited. subst (λ (ls : List Line). HasAudited first_world ls b) (append_assoc done agreed.lines (checks.line ∷ []))
-      (checks.checks first_world (done ++ agreed.lines) (agreed.audited first_world done audited));
+  audited = λ start first_world done audited. subst (λ (ls : List Line). HasAudited start first_world ls b) (append_assoc done agreed.lines (checks.line ∷ []))
+      (checks.checks start first_world (done ++ agreed.lines) (agreed.audited start first_world done audited));
 }
 
 -- What was read, where the bytes of the reader are known.
@@ -113,7 +111,7 @@ found_differed a m b whole rest line count difference agreed first checks = reco
   behind = drop_through 10 rest;
   begins = line_and_rest rest line checks.line first checks.is_its;
   only = checks.only;
-  illegal = λ first_world last done more audited legal. checks.checks first_world last (done ++ agreed.lines) more (agreed.audited first_world done audited) legal;
+  illegal = λ start first_world last done more audited legal. checks.checks start first_world last (done ++ agreed.lines) more (agreed.audited start first_world done audited) legal;
 }
 
 -- So many entries were read and agree, where the bytes of the reader are known.

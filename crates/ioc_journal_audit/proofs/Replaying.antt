@@ -9,7 +9,7 @@ use Rattle.ioc_events.specs.StepRules.{Calls, Replay, at_the_end, and_then}
 use Rattle.ioc_journal_file.specs.declared.line.Line.{Line}
 use Rattle.ioc_store.specs.Given.{Answers, answers_of, listed}
 use Rattle.ioc_store.specs.World.{World, begun_at}
-use Rattle.ioc_journal_audit.specs.Numbering.{IsNumbered}
+use Rattle.ioc_journal_audit.specs.Numbering.{Start, IsNumbered}
 use Rattle.ioc_journal_audit.specs.Legal.{entry_of, IsLegal, redone, Agrees}
 use Rattle.ioc_journal_audit.proofs.Following.{numbered-more, numbered-next}
 
@@ -63,20 +63,20 @@ module _ {R : Type 0} (k : RecordRules R) where
       let is = alone (listed e.answers) (begun_at e.moment w) after e.call next.requests next.calls in
       record { call = ap (λ c. c.call) is; answers = ap (λ c. answers_of c.world.calls) is ∙ next.used }
 
-  pub legal-more : Allowed → (first w v : World R) (lines : List Line) (line : Line) → IsLegal k first lines w → IsNumbered lines line → Agrees k w (entry_of line)
-      → v ≡ (redone k w (entry_of line)).world → IsLegal k first (lines ++ line ∷ []) v
-  legal-more allowed first w v lines line legal numbered agrees is = record {
-    numbered = numbered-more [] lines line legal.numbered numbered;
+  pub legal-more : Allowed → (start : Start) (first w v : World R) (lines : List Line) (line : Line) → IsLegal k start first lines w → IsNumbered start lines line → Agrees k w (entry_of line)
+      → v ≡ (redone k w (entry_of line)).world → IsLegal k start first (lines ++ line ∷ []) v
+  legal-more allowed start first w v lines line legal numbered agrees is = record {
+    numbered = numbered-more start [] lines line legal.numbered numbered;
     replay = subst (λ (es : List Entry). Replay k first es v) (sym (entries-append lines (line ∷ [])))
         (subst (λ (u : World R). Replay k first (map entry_of lines ++ entry_of line ∷ []) u) (sym is)
         (replay-more (entry_of line) (redone k w (entry_of line)).world legal.replay (agrees-next allowed w (entry_of line) agrees)));
   }
 
-  pub legal-numbered : (first last : World R) (lines more : List Line) (line : Line) → IsLegal k first (lines ++ line ∷ more) last → IsNumbered lines line
-  legal-numbered first last lines more line legal = numbered-next [] lines more line legal.numbered
+  pub legal-numbered : (start : Start) (first last : World R) (lines more : List Line) (line : Line) → IsLegal k start first (lines ++ line ∷ more) last → IsNumbered start lines line
+  legal-numbered start first last lines more line legal = numbered-next start [] lines more line legal.numbered
 
-  pub legal-agrees : Alone → OneEnd → (first w last : World R) (lines more : List Line) (line : Line) → IsLegal k first lines w → IsLegal k first (lines ++ line ∷ more) last → Agrees k w (entry_of line)
-  legal-agrees alone one first w last lines more line before legal =
+  pub legal-agrees : Alone → OneEnd → (start : Start) (first w last : World R) (lines more : List Line) (line : Line) → IsLegal k start first lines w → IsLegal k start first (lines ++ line ∷ more) last → Agrees k w (entry_of line)
+  legal-agrees alone one start first w last lines more line before legal =
       let cut = replay-cut first last (map entry_of lines) (entry_of line) (map entry_of more) (subst (λ (es : List Entry). Replay k first es last) (entries-append lines (line ∷ more)) legal.replay) in
       let same : cut.middle ≡ w = one first cut.middle w (map entry_of lines) cut.front before.replay in
       subst (λ (u : World R). Agrees k u (entry_of line)) same (next-agrees alone cut.middle (entry_of line) cut.after cut.next)

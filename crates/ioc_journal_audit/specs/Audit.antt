@@ -1,5 +1,5 @@
 -- The state of an audit.
-use Rattle.std.specs.Prelude.{◌≡◌, ℕ, List, [], ◌∷◌, ◌++◌, length, Option, Some, None}
+use Rattle.std.specs.Prelude.{◌≡◌, ℕ, ◌+◌, List, [], ◌∷◌, ◌++◌, length, Option, Some, None}
 use Rattle.std.specs.Bool.{Decides}
 use Rattle.rec_types.specs.Record.{Record, record_rules}
 use Rattle.ioc_journal_file.specs.declared.line.Line.{Line}
@@ -9,15 +9,15 @@ use Rattle.ioc_journal_audit.specs.declared.auditor.Auditor.{Auditor}
 use Rattle.ioc_journal_audit.specs.declared.difference.Difference.{Difference}
 use Rattle.ioc_journal_audit.specs.declared.redo.Redone.{Redone}
 use Rattle.ioc_journal_audit.specs.Legal.{IsLegal, Agrees, entry_of, redone}
-use Rattle.ioc_journal_audit.specs.Numbering.{made_by}
+use Rattle.ioc_journal_audit.specs.Numbering.{Start, made_by}
 use Rattle.ioc_journal_audit.specs.Numbers.{count_to, count_in}
 use Rattle.ioc_journal_audit.specs.PlayedMap.{world_of}
 
--- Holds if these entries agree, and have led from the first database to the auditor's.
-pub record HasAudited (first : World Record) (lines : List Line) (a : Auditor) : Type 0 where
-  pub legal : IsLegal record_rules first lines (world_of a.map)
-  pub place : count_to a.place ≡ length lines
-  pub desks : (desk : ℕ) → count_in a.desks desk ≡ made_by desk lines
+-- Holds if these entries, from a start on, agree, and have led from the first database to the auditor's.
+pub record HasAudited (start : Start) (first : World Record) (lines : List Line) (a : Auditor) : Type 0 where
+  pub legal : IsLegal record_rules start first lines (world_of a.map)
+  pub place : count_to a.place ≡ start.place + length lines
+  pub desks : (desk : ℕ) → count_in a.desks desk ≡ start.calls desk + made_by desk lines
 
 -- The call of an entry was made again, with its answers.
 pub record MakesAgain (before : Auditor) (line : Line) (after : Auditor) (made : Redone) : Type 0 where
@@ -51,6 +51,6 @@ IsNext a mark (Some difference) = HasNextNumbers a mark → ⊥
 -- If no difference is told, the entry agrees after those that do. If one is told, no legal run has
 -- the entry after these.
 abbrev pub ChecksNext : Auditor → Line → Auditor → Option Difference → Type 0
-ChecksNext before line after None = (first : World Record) (lines : List Line) → HasAudited first lines before → HasAudited first (lines ++ line ∷ []) after
+ChecksNext before line after None = (start : Start) (first : World Record) (lines : List Line) → HasAudited start first lines before → HasAudited start first (lines ++ line ∷ []) after
 ChecksNext before line after (Some difference) =
-    (first last : World Record) (lines more : List Line) → HasAudited first lines before → IsLegal record_rules first (lines ++ line ∷ more) last → ⊥
+    (start : Start) (first last : World Record) (lines more : List Line) → HasAudited start first lines before → IsLegal record_rules start first (lines ++ line ∷ more) last → ⊥

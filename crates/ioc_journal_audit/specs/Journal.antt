@@ -15,6 +15,7 @@ use Rattle.ioc_journal_audit.specs.declared.journal.Audited.{Audited}
 use Rattle.ioc_journal_audit.specs.declared.journal.Audited.TheVariants.{Agree, Differs, NoEntry, CutOff}
 use Rattle.ioc_journal_audit.specs.Audit.{HasAudited, ChecksNext}
 use Rattle.ioc_journal_audit.specs.Legal.{IsLegal}
+use Rattle.ioc_journal_audit.specs.Numbering.{Start}
 use Rattle.ioc_store.specs.World.{World}
 use Rattle.rec_types.specs.Record.{Record, record_rules}
 
@@ -65,7 +66,7 @@ pub record Agreed (before : Auditor) (text : List ℕ) (after : Auditor) (rest :
   pub begins : text ≡ texts_of lines ++ rest
   pub many : length lines ≡ count
   pub only : AreOnly lines
-  pub audited : (first : World Record) (done : List Line) → HasAudited first done before → HasAudited first (done ++ lines) after
+  pub audited : (start : Start) (first : World Record) (done : List Line) → HasAudited start first done before → HasAudited start first (done ++ lines) after
 
 -- The text begins with entries that agree, and then has one that no legal run has there.
 pub record Differed (before : Auditor) (text : List ℕ) (count : ℕ) : Type 0 where
@@ -76,8 +77,8 @@ pub record Differed (before : Auditor) (text : List ℕ) (count : ℕ) : Type 0 
   pub behind : List ℕ
   pub begins : rest ≡ text_of line ++ behind
   pub only : IsOnly line
-  pub illegal : (first last : World Record) (done more : List Line) → HasAudited first done before
-      → IsLegal record_rules first ((done ++ agreed.lines) ++ line ∷ more) last → ⊥
+  pub illegal : (start : Start) (first last : World Record) (done more : List Line) → HasAudited start first done before
+      → IsLegal record_rules start first ((done ++ agreed.lines) ++ line ∷ more) last → ⊥
 
 -- The text begins with entries that agree, and then has a line that no entry has.
 pub record Ended (before : Auditor) (text : List ℕ) (count : ℕ) : Type 0 where

@@ -7,17 +7,17 @@ use Rattle.ioc_journal_file.specs.declared.line.Line.{Line}
 use Rattle.ioc_record.specs.RecordRules.{RecordRules}
 use Rattle.ioc_store.specs.Given.{answers_of, listed}
 use Rattle.ioc_store.specs.World.{World, begun_at}
-use Rattle.ioc_journal_audit.specs.Numbering.{AreNumbered}
+use Rattle.ioc_journal_audit.specs.Numbering.{Start, AreNumbered}
 
 -- The entry of a line.
 abbrev pub entry_of : Line → Entry
 entry_of line = record { moment = line.mark.moment; call = line.call; answers = line.answers.items }
 
 module _ {R : Type 0} (k : RecordRules R) where
-  -- Holds if these entries, numbered in order, lead from one database to another by the rules of
-  -- calls.
-  pub record IsLegal (first : World R) (lines : List Line) (last : World R) : Type 0 where
-    pub numbered : AreNumbered [] lines
+  -- Holds if these entries, numbered in order from a start on, lead from one database to another by the
+  -- rules of calls.
+  pub record IsLegal (start : Start) (first : World R) (lines : List Line) (last : World R) : Type 0 where
+    pub numbered : AreNumbered start [] lines
     pub replay : Replay k first (map entry_of lines) last
 
   -- What comes of the call of an entry if devices give its answers.

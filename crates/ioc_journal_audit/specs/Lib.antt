@@ -7,3 +7,5 @@ pub mod Legal
 pub mod Audit
 pub mod Journal
 pub mod Bases
+pub mod BaseItems
+pub mod Resuming

@@ -36,6 +36,8 @@ pub struct Auditor {
 impl Auditor {
     ghost use Rattle.std.specs.Prelude.{IfOk};
     ghost use Rattle.ioc_dbfile.specs.FirstWorld.{first_world};
+    ghost use Rattle.ioc_journal_audit.specs.Numbering.{run_start};
+    ghost use Rattle.ioc_journal_audit.specs.Resuming.{world_with};
     ghost use Rattle.ioc_journal_audit.specs.Audit.{HasAudited, MakesAgain, Compares, IsNext, ChecksNext};
 
     /// Creates an auditor of these records, before any entry.
@@ -45,7 +47,7 @@ impl Auditor {
     /// [`AllocError`] if allocation fails.
     pub fn new(alloc: Global, records: Vec<Record>) -> Result<Self, AllocError>
         requires { IsSettled record_rules (first_world records.items) }
-        ensures { IfOk result (λ a. HasAudited (first_world records.items) [] a) }
+        ensures { IfOk result (λ a. HasAudited run_start (first_world records.items) [] a) }
     {
         let event = EventStore::new(alloc)?;
         let map = PlayedMap::new(alloc, records, event);
@@ -64,6 +66,31 @@ impl Auditor {
         ensures { result.now ≡ self.now.map }
     {
         &self.map
+    }
+
+    /// Creates an auditor of these records in this state of events, behind the entry at this place, if
+    /// there is one, with these counts of calls.
+    pub(crate) fn of(
+        alloc: Global,
+        records: Vec<Record>,
+        event: EventStore,
+        place: Option<u64>,
+        desks: DeskCounts,
+    ) -> Result<Self, AllocError>
+        requires { IsSettled record_rules (first_world records.items) }
+        ensures world { IfOk result (λ a. world_of a.map ≡ world_with records.items event.follow_ups.notifications.live.live event.follow_ups.notifications.waiting.waiting) }
+        ensures place { IfOk result (λ a. a.place ≡ place) }
+        ensures desks { IfOk result (λ a. a.desks ≡ desks) }
+    {
+        let map = PlayedMap::new(alloc, records, event);
+        let frames = map.frames(alloc)?;
+        Ok(Auditor {
+            map,
+            frames,
+            place,
+            desks,
+            alloc,
+        })
     }
 
     // Makes the call of an entry again, with its answers.

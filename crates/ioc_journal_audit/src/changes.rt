@@ -1,5 +1,6 @@
-//! The changes of a record by entries.
+//! What entries change: the fields of traced records, and watched fields.
 use crate::played_map::PlayedMap;
+use crate::watching::Watching;
 use ioc_commands::add_shown_text;
 use ioc_fields::field_list::fields;
 use ioc_fields::{FieldNo, name_of, row_of};
@@ -24,10 +25,12 @@ struct Traced {
     shown: Vec<Shown>,
 }
 
-/// The fields of some records as they were last, to tell what an entry has changed.
+/// The fields of traced records as they were last, and the watched fields, to tell what an entry has
+/// changed.
 #[derive(Drop)]
 pub struct Trace {
     records: Vec<Traced>,
+    watching: Watching,
 }
 
 // Returns the text of a field, which is that of another value only if it is shown in the same way. A
@@ -105,7 +108,7 @@ impl Traced {
 }
 
 impl Trace {
-    /// Creates the trace of these records, from now on.
+    /// Creates the trace of these records and of watched fields, from now on.
     ///
     /// # Errors
     ///
@@ -114,6 +117,7 @@ impl Trace {
         alloc: Global,
         map: &PlayedMap<Record>,
         numbers: &[RecordNo],
+        watching: Watching,
     ) -> Result<Self, AllocError> {
         let mut records = Vec::new(alloc);
         for number in numbers {
@@ -127,12 +131,12 @@ impl Trace {
                 shown,
             })?;
         }
-        Ok(Trace { records })
+        Ok(Trace { records, watching })
     }
 
-    /// Appends the line of an entry and a line `FIELD old -> new` for each field of the record that
+    /// Appends the line of an entry and a line `FIELD old -> new` for each field of the traced record that
     /// it has changed, or nothing if it has changed none. If there are several records, the line of a
-    /// field has `REC.FIELD`.
+    /// field has `REC.FIELD`. Then appends the lines that are due of watched fields.
     ///
     /// # Errors
     ///
@@ -149,10 +153,10 @@ impl Trace {
         for traced in self.records.iter_mut() {
             traced.add_changes(map, has_names, &mut changes)?;
         }
-        if changes.is_empty() {
-            return Ok(());
+        if !changes.is_empty() {
+            out.extend_from_slice(entry)?;
+            out.extend_from_slice(changes.as_slice())?;
         }
-        out.extend_from_slice(entry)?;
-        out.extend_from_slice(changes.as_slice())
+        self.watching.add_lines(alloc, map, out)
     }
 }

@@ -1,5 +1,5 @@
 //! The numbers of entries and of the calls of each desk.
-ghost use Rattle.std.specs.Prelude.{◌≡◌, ◌==◌, ◌+◌, ℕ, if◌then◌else◌, OnOk};
+ghost use Rattle.std.specs.Prelude.{◌≡◌, ◌≤◌, ◌==◌, ◌+◌, ℕ, if◌then◌else◌, OnOk};
 ghost use Rattle.ioc_journal_audit.specs.Numbers.{count_to, count_in};
 
 use std::alloc::{AllocError, Global};
@@ -45,6 +45,21 @@ impl DeskCounts {
         ensures { count_to result ≡ count_in self.now desk }
     {
         self.last.get(&desk).copied()
+    }
+
+    /// Counts so many calls of a desk that has made none, of which there is one at least.
+    ///
+    /// # Errors
+    ///
+    /// [`AllocError`] if allocation fails.
+    pub fn begin(&mut self, desk: u64, calls: u64) -> Result<(), AllocError>
+        requires some { 1 ≤ calls }
+        requires none { count_in self.old desk ≡ 0 }
+        ensures { OnOk result ((other : ℕ) → count_in self.new other
+            ≡ (if desk == other then calls else 0) + count_in self.old other) }
+    {
+        self.last.insert(desk, calls - 1)?;
+        Ok(())
     }
 
     /// Counts the next call of a desk, which has this number.

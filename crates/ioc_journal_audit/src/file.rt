@@ -3,8 +3,9 @@
 use crate::auditor::Auditor;
 use crate::bases::{Bases, first_byte, read_bases};
 use crate::changes::Trace;
-use crate::difference::Difference;
+use crate::items::{Items, read_items};
 use crate::journal::{AuditFault, Audited, LastLine, audit, next_line};
+use ioc_journal_file::{BaseItem, NextFile, next_of};
 use ioc_journal_lines::{Seals, end_of, header_of, seal_of};
 use ioc_saved::SavedValue;
 use std::alloc::Global;
@@ -15,9 +16,11 @@ use std::io::{BufRead, Write};
 pub enum Tail {
     /// With the end of its run.
     Ended,
+    /// With the name of the file in which the journal goes on.
+    GoesOn,
     /// Without the end of its run.
     Running,
-    /// With the end of its run, but without a seal behind it.
+    /// With the end of its run or the name of the next file, but without a seal behind it.
     Unsealed,
     /// It has no header, and so nothing is known.
     Unknown,
@@ -26,8 +29,10 @@ pub enum Tail {
 }
 
 /// The lines of a journal's file that are no entries.
-#[derive(Clone, Copy, Debug)]
+#[derive(Clone, Copy)]
 pub struct Frame {
+    /// The place of the first entry.
+    pub first: u64,
     /// How many entries there are before the line that was read last.
     pub entries: u64,
     /// How many lines before it are no entries.
@@ -39,6 +44,8 @@ pub struct Frame {
     pub has_header: bool,
     pub is_sealed: bool,
     pub tail: Tail,
+    /// The file in which the journal goes on, if it does.
+    pub next: Option<NextFile>,
 }
 
 /// Why a file isn't the journal of a database.
@@ -50,7 +57,7 @@ pub enum FileFault {
     OtherDatabase([u8; 32]),
     /// The lines before the seal on this line aren't those that were sealed.
     Seal(u64),
-    /// The end on this line isn't that of so many entries.
+    /// The end on this line, or the name of the next file, isn't behind the entries up to this place.
     End(u64, u64),
     /// This line stands behind the end.
     BehindEnd(u64),
@@ -70,6 +77,9 @@ pub struct FileBegun {
     /// The saved values that its run has taken, in their order. The first one stands on line 2, and each
     /// of the others on the line behind the one before it.
     pub bases: Vec<SavedValue>,
+    /// The lines of the base with which the file begins, if it goes on behind an earlier one. The first
+    /// one stands on line 2.
+    pub items: Vec<BaseItem>,
     last: LastLine,
     frame: Frame,
     // What was found, if no entries are to be checked.
@@ -80,15 +90,16 @@ pub struct FileBegun {
 #[derive(Clone, Copy)]
 enum Other {
     Seal,
-    End,
+    End(Tail),
     Fault(FileFault),
     Unknown,
 }
 
 impl Frame {
     // Nothing was read of a file with a header, or of one without.
-    fn new(has_header: bool, is_sealed: bool) -> Self {
+    fn new(has_header: bool, is_sealed: bool, first: u64) -> Self {
         Frame {
+            first,
             entries: 0,
             others: if has_header { 1 } else { 0 },
             seals: 0,
@@ -96,7 +107,13 @@ impl Frame {
             has_header,
             is_sealed,
             tail: Tail::NotSeen,
+            next: None,
         }
+    }
+
+    /// Returns the place behind the last entry.
+    pub fn place(&self) -> u64 {
+        self.first.saturating_add(self.entries)
     }
 
     // Returns how the file ends if no end stands behind its entries.
@@ -119,11 +136,11 @@ impl Frame {
         self.unsealed = self.unsealed.saturating_add(entries);
     }
 
-    // Counts the lines of saved values behind a header. Returns what was found if the line behind them
-    // begins as they do and is none.
-    fn take_bases(&mut self, bases: &Bases, last: &LastLine) -> Option<FileFound> {
-        self.others = self.others.saturating_add(bases.values.len() as u64);
-        if !bases.is_broken {
+    // Counts the lines of saved values or of a base behind a header. Returns what was found if the line
+    // behind them begins as they do and is none.
+    fn take_lines(&mut self, count: usize, is_broken: bool, last: &LastLine) -> Option<FileFound> {
+        self.others = self.others.saturating_add(count as u64);
+        if !is_broken {
             return None;
         }
         let audited = match last.text.as_slice() {
@@ -148,14 +165,14 @@ impl Frame {
         Ok(Other::Seal)
     }
 
-    // Counts the end of a run, if it is that of these entries.
-    fn take_end(&mut self, last: &mut LastLine, place: u64) -> Other {
-        if place != self.entries {
-            return Other::Fault(FileFault::End(self.line(), self.entries));
+    // Counts the end of a run or the name of the next file, if it stands behind these entries.
+    fn take_end(&mut self, last: &mut LastLine, place: u64, tail: Tail) -> Other {
+        if place != self.place() {
+            return Other::Fault(FileFault::End(self.line(), self.place()));
         }
         last.cover();
         self.others = self.others.saturating_add(1);
-        Other::End
+        Other::End(tail)
     }
 
     // Returns what the line that was read last is, and counts it.
@@ -168,7 +185,14 @@ impl Frame {
         if self.has_header
             && let Some(place) = end_of(alloc, &last.text)?
         {
-            return Ok(self.take_end(last, place));
+            return Ok(self.take_end(last, place, Tail::Ended));
+        }
+        if self.has_header
+            && let Some(next) = next_of(alloc, &last.text)?
+        {
+            let place = next.place;
+            self.next = Some(next);
+            return Ok(self.take_end(last, place, Tail::GoesOn));
         }
         Ok(Other::Unknown)
     }
@@ -194,14 +218,16 @@ impl Frame {
     }
 }
 
-// Reads what follows the end of a run: the last seal, if the journal has seals, and nothing else.
+// Reads what follows the end of a run or the name of the next file: the last seal, if the journal has
+// seals, and nothing else.
 fn end<R: BufRead>(
     alloc: Global,
     journal: &mut R,
     last: &mut LastLine,
     frame: &mut Frame,
+    tail: Tail,
 ) -> Result<FileFound, AuditFault> {
-    frame.tail = Tail::Ended;
+    frame.tail = tail;
     if frame.is_sealed {
         if !next_line(journal, &mut last.text)? {
             frame.tail = Tail::Unsealed;
@@ -236,7 +262,7 @@ fn begin<R: BufRead>(
 ) -> Result<Begun, AuditFault> {
     match first_byte(journal)? {
         None => return Ok(Begun::Found(FileFound::Fault(FileFault::Empty))),
-        Some(b'0'..=b'9') => return Ok(Begun::Frame(Frame::new(false, false))),
+        Some(b'0'..=b'9') => return Ok(Begun::Frame(Frame::new(false, false, 0))),
         Some(_) => {}
     }
     next_line(journal, &mut last.text)?;
@@ -245,17 +271,13 @@ fn begin<R: BufRead>(
             [.., b'\n'] => Audited::NoEntry(1),
             _ => Audited::CutOff(0),
         };
-        return Ok(Begun::Found(FileFound::Checked(audited, Frame::new(false, false))));
+        return Ok(Begun::Found(FileFound::Checked(audited, Frame::new(false, false, 0))));
     };
     if header.database != *database {
         let fault = FileFault::OtherDatabase(header.database);
         return Ok(Begun::Found(FileFound::Fault(fault)));
     }
-    let frame = Frame::new(true, header.is_sealed);
-    if header.first != 0 {
-        let differs = Audited::Differs(1, Difference::Place(0));
-        return Ok(Begun::Found(FileFound::Checked(differs, frame)));
-    }
+    let frame = Frame::new(true, header.is_sealed, header.first);
     if header.is_sealed {
         last.seals = Some(Seals::new());
     }
@@ -263,8 +285,39 @@ fn begin<R: BufRead>(
     Ok(Begun::Frame(frame))
 }
 
+// Reads the lines behind a header: those of a base if the file goes on behind an earlier one, or else
+// the saved values that the run has taken.
+fn begin_entries<R: BufRead>(
+    alloc: Global,
+    journal: &mut R,
+    last: LastLine,
+    frame: Frame,
+) -> Result<FileBegun, AuditFault> {
+    let (mut last, mut frame) = (last, frame);
+    if frame.first == 0 {
+        let Bases { values, is_broken } = read_bases(alloc, journal, &mut last)?;
+        let found = frame.take_lines(values.len(), is_broken, &last);
+        return Ok(FileBegun {
+            bases: values,
+            items: Vec::new(alloc),
+            last,
+            frame,
+            found,
+        });
+    }
+    let Items { items, is_broken } = read_items(alloc, journal, &mut last)?;
+    let found = frame.take_lines(items.len(), is_broken, &last);
+    Ok(FileBegun {
+        bases: Vec::new(alloc),
+        items,
+        last,
+        frame,
+        found,
+    })
+}
+
 /// Reads the file of a journal up to its first entry: its header, which has to be that of the database
-/// with this hash, and the saved values that its run has taken.
+/// with this hash, and the saved values that its run has taken, or the base with which it begins.
 ///
 /// # Errors
 ///
@@ -275,26 +328,33 @@ pub fn begin_file<R: BufRead>(
     database: &[u8; 32],
 ) -> Result<FileBegun, AuditFault> {
     let mut last = LastLine::new(alloc);
-    let (mut frame, found) = match begin(alloc, journal, &mut last, database)? {
+    let (frame, found) = match begin(alloc, journal, &mut last, database)? {
         Begun::Frame(frame) => (frame, None),
-        Begun::Found(found) => (Frame::new(false, false), Some(found)),
+        Begun::Found(found) => (Frame::new(false, false, 0), Some(found)),
     };
-    if !frame.has_header || found.is_some() {
-        return Ok(FileBegun {
-            bases: Vec::new(alloc),
-            last,
-            frame,
-            found,
-        });
+    if frame.has_header && found.is_none() {
+        return begin_entries(alloc, journal, last, frame);
     }
-    let bases = read_bases(alloc, journal, &mut last)?;
-    let found = frame.take_bases(&bases, &last);
     Ok(FileBegun {
-        bases: bases.values,
+        bases: Vec::new(alloc),
+        items: Vec::new(alloc),
         last,
         frame,
         found,
     })
+}
+
+impl FileBegun {
+    /// Returns the place of the first entry. It is above 0 exactly if the file goes on behind an earlier
+    /// one.
+    pub fn first(&self) -> u64 {
+        self.frame.first
+    }
+
+    /// Returns whether something is found already, so that no entries are to be checked.
+    pub fn is_found(&self) -> bool {
+        self.found.is_some()
+    }
 }
 
 /// Audits the file of a journal that was begun, on a database that has the saved values, as [`audit`]
@@ -315,6 +375,7 @@ pub fn audit_file<R: BufRead, W: Write>(
 ) -> Result<FileFound, AuditFault> {
     let FileBegun {
         bases: _values,
+        items: _items,
         mut last,
         mut frame,
         found,
@@ -335,7 +396,7 @@ pub fn audit_file<R: BufRead, W: Write>(
         }
         match frame.other(alloc, &mut last)? {
             Other::Seal => {}
-            Other::End => return end(alloc, journal, &mut last, &mut frame),
+            Other::End(tail) => return end(alloc, journal, &mut last, &mut frame, tail),
             Other::Fault(fault) => return Ok(FileFound::Fault(fault)),
             Other::Unknown => return Ok(frame.found(Audited::NoEntry(0))),
         }

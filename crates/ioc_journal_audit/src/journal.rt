@@ -120,7 +120,7 @@ pub(crate) fn next_line<R: BufRead>(journal: &mut R, text: &mut Vec<u8>) -> Resu
     }
 }
 
-// Writes the changes of the traced record by the entry of a line.
+// Writes what the entry of a line changes of traced records and of watched fields.
 fn trace_line<W: Write>(
     alloc: Global,
     auditor: &Auditor,
@@ -140,8 +140,8 @@ fn trace_line<W: Write>(
 }
 
 /// Checks the entries of a journal until its end, or as many as `most`, or until one differs or a line
-/// is no entry, which is then the one that was read last. What the entries change of the traced record
-/// is written.
+/// is no entry, which is then the one that was read last. What the entries change of traced records and
+/// of watched fields is written.
 ///
 /// # Errors
 ///

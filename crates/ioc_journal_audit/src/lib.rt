@@ -8,12 +8,15 @@ mod changes;
 mod counts;
 mod difference;
 mod file;
+mod items;
 mod journal;
 mod laws;
 mod played_map;
 mod redo;
+mod resuming;
 mod same;
 mod sets;
+mod watching;
 
 pub use auditor::Auditor;
 pub use changes::Trace;
@@ -22,3 +25,4 @@ pub use file::{FileBegun, FileFault, FileFound, Frame, Tail, audit_file, begin_f
 pub use journal::{AuditFault, Audited, LastLine, audit};
 pub use played_map::{PlayedMap, Playing};
 pub use sets::add_sets;
+pub use watching::Watching;

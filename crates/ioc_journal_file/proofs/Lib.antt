@@ -7,4 +7,5 @@ mod RepliesAgain
 mod LinksAgain
 mod CallsAgain
 mod Lines
+mod BasesAgain
 mod Breaks

@@ -10,3 +10,5 @@ pub mod Fits
 pub mod Lines
 pub mod Breaks
 pub mod Entries
+pub mod Bases
+pub mod BaseReading

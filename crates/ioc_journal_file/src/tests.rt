@@ -8,7 +8,7 @@ use ioc_links::{Flags, Link, Mode, Target};
 use ioc_names::RecordNo;
 use ioc_notify::NotifyId;
 use ioc_values::{Double, Finished, Input, IocError, Short, Value};
-use std::alloc::Global;
+use std::alloc::{AllocError, Global};
 use std::test::*;
 
 const VAL: FieldNo = FieldNo::Own(OwnField::Val);
@@ -211,4 +211,70 @@ fn no_lines(rt: HostRuntime) {
     ] {
         assert!(rt; matches!(parse(line, rt.alloc()), Err(LineError::NotALine)));
     }
+}
+
+// Whether this part of a base has this line, which reads back as it.
+fn has_item_line(alloc: Global, item: &BaseItem, line: &[u8]) -> Result<bool, AllocError> {
+    let mut text = Vec::new(alloc);
+    add_item(&mut text, item)?;
+    let read = item_of(alloc, line)?;
+    Ok(text.as_slice() == line && read == Some(*item))
+}
+
+#[test]
+fn lines_of_bases(rt: HostRuntime) -> Result<(), AllocError> {
+    let value = Part::Value(Value::Double(Double::from_bits(4_609_434_218_613_702_656)));
+    let field = BaseItem::Field(RecordNo::new(5), FieldNo::Own(OwnField::High), value);
+    assert!(rt;
+        has_item_line(
+            rt.alloc(),
+            &field,
+            b"base\t5\tHIGH\tdouble\t3ff8000000000000\n"
+        )?
+    );
+    let link = Part::Link(LinkField {
+        link: Link::Constant(-3),
+        lead: Lead::Nowhere,
+    });
+    let field = BaseItem::Field(RecordNo::new(0), FieldNo::Own(OwnField::Inp), link);
+    assert!(rt; has_item_line(rt.alloc(), &field, b"base\t0\tINP\tconstant\t-3\tnowhere\n")?);
+    let state = HiddenState {
+        time: 17,
+        pending: Some(4),
+        last_pending: 4,
+        last_change: 0,
+        notification: None,
+    };
+    let item = BaseItem::State(RecordNo::new(5), state);
+    assert!(rt; has_item_line(rt.alloc(), &item, b"state\t5\t17\t4\t4\t0\tnone\n")?);
+    assert!(rt; has_item_line(rt.alloc(), &BaseItem::Desk(2, 9), b"desk\t2\t9\n")?);
+    for line in [
+        b"base\t5\tHIGH\tdouble\t3FF8000000000000\n".as_slice(),
+        b"base\t5\tNOFIELD\tlong\t1\n",
+        b"base\t5\tHIGH\tlong\t1\tlong\t1\n",
+        b"state\t5\t17\tnone\t4\t0\tnone",
+        b"state\t5\t17\tnone\t4\t0\t-\n",
+        b"desk\t2\t09\n",
+        b"desks\t2\t9\n",
+    ] {
+        assert!(rt; item_of(rt.alloc(), line)?.is_none());
+    }
+    Ok(())
+}
+
+#[test]
+fn lines_of_next_files(rt: HostRuntime) -> Result<(), AllocError> {
+    let next = NextFile {
+        name: Short::cut(b"a\tb.journal.2"),
+        place: 4096,
+    };
+    let mut line = Vec::new(rt.alloc());
+    add_next(&mut line, &next)?;
+    assert!(rt; line.as_slice() == b"next\t\"a\\09b.journal.2\"\t4096\n".as_slice());
+    let read = next_of(rt.alloc(), line.as_slice())?;
+    assert!(rt;
+        matches!(&read, Some(read) if read.place == 4096 && read.name.as_slice() == next.name.as_slice())
+    );
+    assert!(rt; next_of(rt.alloc(), b"next\ta.2\t4096\n")?.is_none());
+    Ok(())
 }

@@ -1,5 +1,5 @@
 //! The words of a line, each of which a tab or the end of the line ends.
-ghost use Rattle.std.specs.Prelude.{◌≡◌, ◌∷◌, ◌++◌, [], OnOk};
+ghost use Rattle.std.specs.Prelude.{◌≡◌, ◌↔◌, ◌∷◌, ◌++◌, IsTrue, OnOk};
 ghost use Rattle.ioc_journal_file.specs.Words.{word_of, after_word, is_word};
 
 use std::alloc::AllocError;
@@ -26,6 +26,13 @@ pub(crate) fn is_word(word: &[u8], other: &[u8]) -> bool
     ensures { result ≡ is_word word.now other.now }
 {
     word == other
+}
+
+/// Returns whether two lines are the same.
+pub(crate) fn is_same(made: &[u8], line: &[u8]) -> bool
+    ensures { IsTrue result ↔ (line.now ≡ made.now) }
+{
+    made == line
 }
 
 /// Appends a tab and a word, or several words.

@@ -33,3 +33,6 @@ pub mod Devices
 pub mod Kept
 pub mod Keys
 pub mod Replaced
+mod Fresh
+mod SameSets
+mod Watches

@@ -7,7 +7,7 @@ use Rattle.std.proofs.lemmas.List.{get_or_default, length-set}
 use Rattle.ioc_journaled_set.proofs.Copied.{last_or_before}
 
 module _ {X Y : Type 0} (f g : X → Y) where
-  maps_same : (xs ys : List X) → length xs ≡ length ys → ((i : ℕ) (d : X) → i < length xs → f (get_or xs i d) ≡ g (get_or ys i d)) → map f xs ≡ map g ys
+  pub maps_same : (xs ys : List X) → length xs ≡ length ys → ((i : ℕ) (d : X) → i < length xs → f (get_or xs i d) ≡ g (get_or ys i d)) → map f xs ≡ map g ys
   maps_same [] [] long same = refl
   maps_same [] (y ∷ ys) long same = absurd (let z : ⊥ = omega (arith, long) in z)
   maps_same (x ∷ xs) [] long same = absurd (let z : ⊥ = omega (arith, long) in z)

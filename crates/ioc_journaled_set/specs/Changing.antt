@@ -12,6 +12,7 @@ use Rattle.ioc_record.specs.RecordRules.{RecordRules}
 use Rattle.ioc_store.specs.World.{World}
 use Rattle.ioc_journal.specs.Account.{DeskView}
 use Rattle.ioc_journaled_set.specs.Holding.{HeldView, numbers_of}
+use Rattle.ioc_journaled_set.specs.Watching.{IsSameSet}
 use Rattle.ioc_journaled_set.specs.LinkChanges.{Parts, Leads, Refuses}
 
 -- The number of records of a set.
@@ -41,7 +42,7 @@ module _ {R D : Type 0} (k : RecordRules R) (base : World R) (first second spare
     pub rest : HeldView R D
     pub parts : Parts k base first desk at_moment number field link stay rest desk_then come_to
     pub places : KeepsLarger stay rest first_then spare_then moved
-    pub beside : second_then ≡ second
+    pub beside : IsSameSet second_then second
     pub done : reply ≡ Ok tt
 
   -- The record's part of the first set was joined with the second.
@@ -56,8 +57,8 @@ module _ {R D : Type 0} (k : RecordRules R) (base : World R) (first second spare
   -- DISP forbids the change, and no set has changed.
   pub record WasRefused : Type 0 where
     pub refuses : Refuses k base first desk at_moment number field link first_then desk_then
-    pub beside : second_then ≡ second
-    pub none : spare_then ≡ spare
+    pub beside : IsSameSet second_then second
+    pub none : IsSameSet spare_then spare
     pub unmoved : moved ≡ 0
     pub refused : reply ≡ Err PutDisabled
 

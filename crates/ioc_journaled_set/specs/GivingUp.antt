@@ -16,6 +16,7 @@ use Rattle.ioc_journal.specs.declared.cell.View.{View}
 use Rattle.ioc_journal.specs.Legal.{map_of}
 use Rattle.ioc_set.specs.SetState.{SetState}
 use Rattle.ioc_journaled_set.specs.Holding.{HeldView, IsLent, IsCounted}
+use Rattle.ioc_journaled_set.specs.Watching.{IsSameSet}
 use Rattle.ioc_ledger.specs.Shared.{ShareView}
 
 module _ {R D : Type 0} (k : RecordRules R) (base : World R) where
@@ -38,6 +39,10 @@ HaveNotAll number live sets = (holders_in number live ≡ 0) ⊎ (AreItsSets num
 -- Holds if these journaled sets have these sets, in order.
 abbrev pub AreSameSets : {R D : Type 0} → List (SetState R D) → List (HeldView R D) → Type 0
 AreSameSets {R} {D} before after = (i : ℕ) (d : SetState R D) (e : HeldView R D) → i < length before → (slice_index_or after i e).set ≡ slice_index_or before i d
+
+-- Holds if these are the same sets, each after the same calls, whichever of their records are watched.
+abbrev pub AreSame : {R D : Type 0} → List (HeldView R D) → List (HeldView R D) → Type 0
+AreSame before after = (length after ≡ length before) × ((i : ℕ) (d e : HeldView _ _) → i < length before → IsSameSet (slice_index_or after i e) (slice_index_or before i d))
 
 module _ {R D : Type 0} (k : RecordRules R) (base : World R) (moment number : ℕ) (desk : DeskView) (before : List (SetState R D)) where
   -- The put with notification is canceled in each of these journaled sets by one call of a desk,

@@ -31,15 +31,21 @@ use Rattle.ioc_set.specs.SetState.{SetState, now_of}
 use Rattle.ioc_set.specs.Sound.{IsSound}
 use Rattle.ioc_set.specs.NoCalls.{no_call}
 use Rattle.ioc_set.specs.Doing.{Does}
+use Rattle.ioc_watched.specs.Watched.{WatchedRecord, StayWatched}
 use Rattle.ioc_journaled_set.specs.Puts.{BeginsUnder, told_at}
 
--- A set, and the beginning of the journal's list that its pass has seen.
+-- A set, the beginning of the journal's list that its pass has seen, and the watched records of the set.
 pub record HeldView (R D : Type 0) : Type 0 where
   pub set : SetState R D
   pub seen : List Note
+  pub watched : List WatchedRecord
 
+abbrev pub watching : {R D : Type 0} → SetState R D → List Note → List WatchedRecord → HeldView R D
+watching h seen ws = record { set = h; seen = seen; watched = ws }
+
+-- A set of which no record is watched.
 abbrev pub held_view : {R D : Type 0} → SetState R D → List Note → HeldView R D
-held_view h seen = record { set = h; seen = seen }
+held_view h seen = watching h seen []
 
 -- The numbers of the set's records.
 abbrev pub numbers_of : {R D : Type 0} → HeldView R D → List ℕ
@@ -110,6 +116,7 @@ module _ {R D : Type 0} (k : RecordRules R) (base : World R) where
   pub record Tells (held : HeldView R D) (desk : DeskView) (at_moment number : ℕ) (field : FieldNo) (text : List ℕ) (held_then : HeldView R D) (desk_then : DeskView) : Type 0 where
     pub answer : shown k (now_of held.set) number field ≡ Ok text
     pub set : held_then.set ≡ held.set
+    pub watched : held_then.watched ≡ held.watched
     pub call : HasCalled k base desk (told_at at_moment (call.Get number field (Ok text))) desk_then
     pub seen : held_then.seen ≡ desk_then.seen
 
@@ -121,6 +128,7 @@ module _ {R D : Type 0} (k : RecordRules R) (gives : D → Ask → ℕ → Answe
     pub does : Does k gives held.set at_moment done reply held_then.set come_to
     pub call : HasCalled k base desk (entry_of_event does.entry) desk_then
     pub seen : held_then.seen ≡ desk_then.seen
+    pub watched : StayWatched held.watched held_then.watched
 
   -- A put with notification of a desk begins on a set, under a number that was taken for it.
   pub record Begins (held : HeldView R D) (desk : DeskView) (at_moment target : ℕ) (field : FieldNo) (given : Input) (reply : Reply) (held_then : HeldView R D) (desk_then : DeskView) (come_to : World R) : Type 0 where

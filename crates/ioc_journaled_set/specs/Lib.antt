@@ -14,3 +14,4 @@ pub mod PutsViewCode
 pub mod SameDevice
 pub mod Sent
 pub mod Sets
+pub mod Watching

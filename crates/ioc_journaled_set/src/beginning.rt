@@ -69,15 +69,7 @@ impl<K: RecordKind + Drop, B: SetsName<K, D>, D: Device> JournaledSet<K, B, D> {
             value: put.given,
         };
         let mut ticket = None;
-        let begun = self.serve_counted(
-            access,
-            puts,
-            desk,
-            buffers,
-            &event,
-            put.moment,
-            &mut ticket,
-        );
+        let begun = self.serve_noted(access, puts, desk, buffers, &event, put.moment, &mut ticket);
         if begun.is_err() {
             puts.lock(access.rt).give_back(number);
         }

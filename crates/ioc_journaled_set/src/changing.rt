@@ -1,5 +1,5 @@
 //! A link change of a record of one of three sets, passed by reference.
-ghost use Rattle.std.specs.Prelude.{◌≡◌, ◌⊎◌, ◌<◌, ◌-◌, ◌^◌, ◌∷◌, ℕ, false, [], IsSome, IfOk, IfErr, OnOk, OnErr, Contains};
+ghost use Rattle.std.specs.Prelude.{◌≡◌, ◌⊎◌, ◌<◌, ◌≤◌, ◌-◌, ◌^◌, ◌∷◌, ◌++◌, ℕ, false, [], length, IsSome, IfOk, IfErr, OnOk, OnErr, Contains};
 ghost use Rattle.std.specs.FinMap.{get};
 ghost use Rattle.ioc_values.specs.declared.error.IocError.TheVariants.{NoField};
 ghost use Rattle.ioc_dbcommon.specs.Links.{use_of, named_by, record_named};
@@ -11,17 +11,22 @@ ghost use Rattle.ioc_journal.specs.Places.{IsNoPlace};
 ghost use Rattle.ioc_set.specs.SetState.{now_of, folded};
 ghost use Rattle.ioc_set.specs.SetStore.{world_of};
 ghost use Rattle.ioc_journaled_set.specs.Holding.{HeldView, numbers_of};
+ghost use Rattle.std.specs.Vec.{vec_capacity};
+ghost use Rattle.ioc_journaled_set.specs.Watching.{watched_numbers, WatchesThose};
 ghost use Rattle.ioc_journaled_set.specs.Changing.{size_of, KeepsLarger, KeepsLargest, FellApart, WasLed, Relinks};
 
 use crate::JournaledSet;
 use crate::journal_access::JournalAccess;
 use crate::sets_name::SetsName;
+use crate::watching::WatchRoom;
 use ioc_device::Device;
 use ioc_journal::{DeskAccount, JournalName, Receipt};
+use ioc_names::RecordNo;
 use ioc_record::RecordKind;
 use ioc_set::{EventBuffers, LinkChange};
 use ioc_topology::Locked;
 use ioc_values::IocError;
+use std::alloc::{AllocError, Global};
 use std::mem;
 use std::sync::Wait;
 
@@ -95,6 +100,7 @@ fn part_first<K: RecordKind + Drop, B: SetsName<K, D>, D: Device, R: Wait>(
     spare: &mut JournaledSet<K, B, D>,
     change: LinkChange,
 ) -> Result<Changed<K, B>, IocError>
+    requires unwatched { first.old.watched ≡ [] }
     requires base_link { change.base_link ≡ change.link }
     requires field { HasLink K.rules first.old.set.records change.number change.field }
     requires allowed { stops_put (common_at K.rules (now_of first.old.set) change.number) change.field ≡ false }
@@ -130,6 +136,7 @@ fn lead_first<K: RecordKind + Drop, B: SetsName<K, D>, D: Device, R: Wait>(
     spare: &mut JournaledSet<K, B, D>,
     change: LinkChange,
 ) -> Result<Changed<K, B>, IocError>
+    requires unwatched { (first.old.watched ≡ []) × (second.old.watched ≡ []) }
     requires base_link { change.base_link ≡ change.link }
     requires field { HasLink K.rules first.old.set.records change.number change.field }
     requires allowed { stops_put (common_at K.rules (now_of first.old.set) change.number) change.field ≡ false }
@@ -157,18 +164,8 @@ fn lead_first<K: RecordKind + Drop, B: SetsName<K, D>, D: Device, R: Wait>(
     })
 }
 
-/// Changes a link of a record of the first set, and adds the change to the journal. If the link
-/// leads to a record of the first set then, or to none, this set may part in two; otherwise the
-/// record's part joins the second set, and the rest is a set of its own. The larger part of a set
-/// keeps its place.
-///
-/// # Errors
-///
-/// [`IocError::NoField`] if the field is no link of the record; nothing has changed then.
-/// [`IocError::JournalFull`] if the journal has no place left, and [`IocError::NoMemory`] if
-/// allocation fails; nothing has changed then, except that the history may be forgotten. If DISP
-/// forbids the change, the refusal is a reply, which is added to the journal.
-pub fn change_link<K: RecordKind + Drop, B: SetsName<K, D>, D: Device, R: Wait>(
+// Changes a link of sets of which no record is watched, as `change_link` does.
+fn change_unwatched<K: RecordKind + Drop, B: SetsName<K, D>, D: Device, R: Wait>(
     access: &JournalAccess<'_, K, B, R>,
     desk: &mut DeskAccount<K, B>,
     buffers: &mut EventBuffers<K, D>,
@@ -178,6 +175,7 @@ pub fn change_link<K: RecordKind + Drop, B: SetsName<K, D>, D: Device, R: Wait>(
     change: LinkChange,
 ) -> Result<Changed<K, B>, IocError>
     requires base_link { change.base_link ≡ change.link }
+    requires unwatched { (first.old.watched ≡ []) × (second.old.watched ≡ []) }
     requires lent { AreLent numbers_of change.number (record_named (use_of change.link)) first.old second.old spare.old }
     ensures relinks { IfOk result (λ c. Relinks K.rules B.base first.old second.old spare.old desk.old change.moment change.number
         change.field change.link
@@ -211,4 +209,111 @@ pub fn change_link<K: RecordKind + Drop, B: SetsName<K, D>, D: Device, R: Wait>(
     }
     let changed = lead_first(access, desk, buffers, first, second, spare, change)?;
     Ok(changed)
+}
+
+// The watched records of two sets, and room for them in three.
+#[derive(Drop)]
+struct MovedWatches {
+    numbers: Vec<RecordNo>,
+    first: WatchRoom,
+    second: WatchRoom,
+    spare: WatchRoom,
+}
+
+// Returns the numbers of the watched records of two sets.
+fn watched_of<K: RecordKind + Drop, B: SetsName<K, D>, D: Device>(
+    alloc: Global,
+    first: &JournaledSet<K, B, D>,
+    second: &JournaledSet<K, B, D>,
+) -> Result<Vec<RecordNo>, AllocError>
+    ensures { IfOk result (λ v. v.items ≡ watched_numbers first.now.watched ++ watched_numbers second.now.watched) }
+{
+    let mut numbers = Vec::new(alloc);
+    numbers.reserve(first.watched_count())?;
+    first.copy_watched(&mut numbers);
+    numbers.reserve(second.watched_count())?;
+    second.copy_watched(&mut numbers);
+    Ok(numbers)
+}
+
+// Takes room for the watched records of two sets in three.
+fn room_for_watches<K: RecordKind + Drop, B: SetsName<K, D>, D: Device>(
+    alloc: Global,
+    first: &JournaledSet<K, B, D>,
+    second: &JournaledSet<K, B, D>,
+) -> Result<MovedWatches, AllocError>
+    ensures numbers { IfOk result (λ m. m.numbers.items ≡ watched_numbers first.now.watched ++ watched_numbers second.now.watched) }
+    ensures none { IfOk result (λ m. (m.first.records.items ≡ []) × (m.second.records.items ≡ []) × (m.spare.records.items ≡ [])) }
+    ensures room { IfOk result (λ m. (length m.numbers.items ≤ vec_capacity m.first.records)
+        × (length m.numbers.items ≤ vec_capacity m.second.records) × (length m.numbers.items ≤ vec_capacity m.spare.records)) }
+{
+    let numbers = watched_of(alloc, first, second)?;
+    let count = numbers.len();
+    Ok(MovedWatches {
+        first: WatchRoom::new(alloc, count)?,
+        second: WatchRoom::new(alloc, count)?,
+        spare: WatchRoom::new(alloc, count)?,
+        numbers,
+    })
+}
+
+/// Changes a link of a record of the first set, and adds the change to the journal. If the link
+/// leads to a record of the first set then, or to none, this set may part in two; otherwise the
+/// record's part joins the second set, and the rest is a set of its own. The larger part of a set
+/// keeps its place. A watched record is watched on in the set in which it is then, and is marked.
+///
+/// # Errors
+///
+/// [`IocError::NoField`] if the field is no link of the record; nothing has changed then.
+/// [`IocError::JournalFull`] if the journal has no place left, and [`IocError::NoMemory`] if
+/// allocation fails; nothing has changed then, except that the history may be forgotten. If DISP
+/// forbids the change, the refusal is a reply, which is added to the journal.
+pub fn change_link<K: RecordKind + Drop, B: SetsName<K, D>, D: Device, R: Wait>(
+    access: &JournalAccess<'_, K, B, R>,
+    desk: &mut DeskAccount<K, B>,
+    buffers: &mut EventBuffers<K, D>,
+    first: &mut JournaledSet<K, B, D>,
+    second: &mut JournaledSet<K, B, D>,
+    spare: &mut JournaledSet<K, B, D>,
+    change: LinkChange,
+) -> Result<Changed<K, B>, IocError>
+    requires base_link { change.base_link ≡ change.link }
+    requires lent { AreLent numbers_of change.number (record_named (use_of change.link)) first.old second.old spare.old }
+    ensures relinks { IfOk result (λ c. Relinks K.rules B.base first.old second.old spare.old desk.old change.moment change.number
+        change.field change.link
+        c.reply c.moved first.new second.new spare.new desk.new (world_of buffers.new.store)) }
+    ensures watched { OnOk result (WatchesThose (watched_numbers first.old.watched ++ watched_numbers second.old.watched) first.new
+        × WatchesThose (watched_numbers first.old.watched ++ watched_numbers second.old.watched) second.new
+        × WatchesThose (watched_numbers first.old.watched ++ watched_numbers second.old.watched) spare.new) }
+    ensures receipt { IfOk result (λ c. c.receipt ≡ desk.new.seen) }
+    ensures ended { OnOk result (buffers.new.ended_everywhere.items ≡ []) }
+    ensures refused { IfErr result (λ error. IsNoPlace error
+        ⊎ ((error ≡ NoField) × (HasLink K.rules first.old.set.records change.number change.field
+        → ⊥))) }
+    ensures kept { OnErr result ((folded first.new.set ≡ folded first.old.set) × (second.new.set ≡ second.old.set)
+        × (spare.new ≡ spare.old)) }
+    ensures desk { OnErr result (desk.new ≡ desk.old) }
+{
+    let moved = room_for_watches(access.alloc, first, second)?;
+    let one = first.take_watched();
+    let two = second.take_watched();
+    let MovedWatches {
+        numbers,
+        first: first_room,
+        second: second_room,
+        spare: spare_room,
+    } = moved;
+    match change_unwatched(access, desk, buffers, first, second, spare, change) {
+        Ok(changed) => {
+            first.watch_those(access, numbers.as_slice(), first_room);
+            second.watch_those(access, numbers.as_slice(), second_room);
+            spare.watch_those(access, numbers.as_slice(), spare_room);
+            Ok(changed)
+        }
+        Err(refused) => {
+            first.keep_watched(one);
+            second.keep_watched(two);
+            Err(refused)
+        }
+    }
 }

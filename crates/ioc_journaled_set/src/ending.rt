@@ -7,6 +7,7 @@ ghost use Rattle.std.specs.FinMap.{get, len};
 ghost use Rattle.ioc_journal.specs.Legal.{map_of};
 ghost use Rattle.ioc_ledger.specs.Requests.{added, FitsAll};
 ghost use Rattle.ioc_ledger.specs.Shared.{share_view};
+ghost use Rattle.ioc_watched.specs.Watched.{AreFresh};
 ghost use Rattle.ioc_journaled_set.specs.Holding.{KeepsDevices};
 ghost use Rattle.ioc_journaled_set.specs.SameDevice.{IsDeviceOf};
 
@@ -20,6 +21,7 @@ use ioc_ledger::{Tally, TallyShare};
 use ioc_record::RecordKind;
 use ioc_set::LockSet;
 use ioc_set_records::Slot;
+use ioc_watched::WatchList;
 use std::marker::{Model, PhantomData};
 use std::sync::Wait;
 
@@ -29,6 +31,7 @@ use std::sync::Wait;
 pub struct EndedSet<K: RecordKind, B: SetsName<K, D>, D: Device> {
     set: LockSet<K, D>,
     pass: Option<KeyPass>,
+    watched: Option<Box<WatchList>>,
     of: PhantomData<B>,
 }
 
@@ -40,12 +43,14 @@ impl<K: RecordKind, B: SetsName<K, D>, D: Device> Model for EndedSet<K, B, D> {
 
     ghost coded = { held_view_code K.code D.code };
 
-    ghost use Rattle.ioc_journaled_set.specs.Holding.{held_view, seen_by, KeepsDevices};
+    ghost use Rattle.ioc_journaled_set.specs.Holding.{watching, seen_by, KeepsDevices};
+    ghost use Rattle.ioc_watched.specs.Watched.{AreFresh, watched_by};
     ghost use Rattle.ioc_journaled_set.specs.SameDevice.{IsDeviceOf};
 
-    ghost view = { λ h. held_view h.set (seen_by h.pass) };
+    ghost view = { λ h. watching h.set (seen_by h.pass) (watched_by h.watched) };
 
-    ghost invariant = { λ h. KeepsDevices (IsDeviceOf D.gives B.devices) h.set };
+    ghost invariant = { λ h. KeepsDevices (IsDeviceOf D.gives B.devices) h.set
+        × AreFresh K.rules B.base h.set.records (watched_by h.watched) };
 }
 
 impl<K: RecordKind, B: SetsName<K, D>, D: Device> EndedSet<K, B, D> {
@@ -64,6 +69,13 @@ impl<K: RecordKind, B: SetsName<K, D>, D: Device> EndedSet<K, B, D> {
         let _ = &self.set;
     }
 
+    /// States that each of its watched records is marked, or is now what it was after the calls up to which it was told last.
+    pub fn ends_as_told(&self)
+        ensures { AreFresh K.rules B.base self.now.set.records self.now.watched }
+    {
+        let _ = &self.set;
+    }
+
     /// Returns the records in ascending order of their numbers, each with its device.
     pub fn into_slots(self) -> Vec<Slot<K, D>>
         ensures records { records_of result.items ≡ self.set.records }
@@ -73,6 +85,7 @@ impl<K: RecordKind, B: SetsName<K, D>, D: Device> EndedSet<K, B, D> {
         let EndedSet {
             set,
             pass: _,
+            watched: _,
             of: _,
         } = self;
         set.into_members().into_slots()
@@ -88,13 +101,19 @@ impl<K: RecordKind, B: SetsName<K, D>, D: Device> JournaledSet<K, B, D> {
         ensures merged { all.new ≡ share_view (all.old.parts + len self.set.records) (added all.old.counts self.set.tally) }
     {
         counts_are_added();
-        let JournaledSet { set, pass, share } = self;
+        let JournaledSet {
+            set,
+            pass,
+            share,
+            watched,
+        } = self;
         if let Some(own) = share {
             all.merge(own);
         }
         EndedSet {
             set,
             pass,
+            watched,
             of: PhantomData,
         }
     }
@@ -104,6 +123,7 @@ impl<K: RecordKind, B: SetsName<K, D>, D: Device> JournaledSet<K, B, D> {
     pub fn learn_all<R: Wait>(&mut self, rt: &R, cell: &Cell, journal: &mut Journal<K, B>)
         requires table { cell.now.table.shared.table_id ≡ B.table }
         ensures set { self.new.set ≡ self.old.set }
+        ensures watched { self.new.watched ≡ self.old.watched }
         ensures told { (n : ℕ) → IsSome (get self.new.set.records n)
             → get (map_of K.rules B.base journal.old.filled).records n ≡ get self.new.set.records n }
         ensures waiting { (n : ℕ) → IsSome (get self.new.set.records n)

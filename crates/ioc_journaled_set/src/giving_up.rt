@@ -6,12 +6,12 @@ ghost use Rattle.ioc_notify.specs.Living.{holders_of};
 ghost use Rattle.ioc_journal.specs.Line.{holder};
 ghost use Rattle.ioc_journal.specs.Legal.{map_of};
 ghost use Rattle.ioc_journal.specs.Places.{IsNoPlace};
-ghost use Rattle.std.specs.Vec.{vec_len, vec_capacity};
+ghost use Rattle.std.specs.Vec.{vec_capacity};
 ghost use Rattle.crossbeam_utils.specs.Seq.{cell_view};
 ghost use Rattle.ioc_set.specs.SetState.{SetState};
 ghost use Rattle.ioc_journaled_set.specs.Holding.{HeldView, held_view, seen_by};
 ghost use Rattle.ioc_journaled_set.specs.Sets.{AreItsSets};
-ghost use Rattle.ioc_journaled_set.specs.GivingUp.{EachIsLent, EachIsCounted, HaveNotAll, sets_of, AreSameSets, HeldGaveUp, GaveUpOn};
+ghost use Rattle.ioc_journaled_set.specs.GivingUp.{AreSame, EachIsLent, EachIsCounted, HaveNotAll, sets_of, AreSameSets, HeldGaveUp, GaveUpOn};
 ghost use Rattle.ioc_journaled_set.specs.SameDevice.{IsDeviceOf};
 ghost use Rattle.ioc_journal.specs.Account.{puts_key, Pass};
 
@@ -28,6 +28,7 @@ use ioc_record::RecordKind;
 use ioc_set::{EventBuffers, LockSet};
 use ioc_topology::Locked;
 use ioc_values::IocError;
+use ioc_watched::WatchList;
 use std::alloc::{AllocError, Global};
 use std::mem;
 use std::sync::Wait;
@@ -172,14 +173,8 @@ fn give_up_lent<K: RecordKind + Drop, B: SetsName<K, D>, D: Device, R: Wait>(
     given
 }
 
-/// Cancels a put with notification on journaled sets, and adds the cancel to the journal as one
-/// call. Returns `None` if not all its records are in these sets; nothing has changed then.
-///
-/// # Errors
-///
-/// [`IocError::JournalFull`] if the journal has no place left. [`IocError::NoMemory`] if allocation
-/// fails. Nothing has changed then.
-pub fn cancel_on<K: RecordKind + Drop, B: SetsName<K, D>, D: Device, R: Wait>(
+// Cancels a put with notification on journaled sets, whose records are watched no more, as `cancel_on` does.
+fn cancel_unwatched<K: RecordKind + Drop, B: SetsName<K, D>, D: Device, R: Wait>(
     access: &JournalAccess<'_, K, B, R>,
     desk: &mut DeskAccount<K, B>,
     buffers: &mut EventBuffers<K, D>,
@@ -230,4 +225,65 @@ pub fn cancel_on<K: RecordKind + Drop, B: SetsName<K, D>, D: Device, R: Wait>(
         Ok(None) => Ok(None),
         Err(refused) => Err(refused),
     }
+}
+
+// Takes the lists of the watched records out of these sets, into reserved memory.
+fn take_all_watched<K: RecordKind + Drop, B: SetsName<K, D>, D: Device>(
+    held: &mut [JournaledSet<K, B, D>],
+    lists: &mut Vec<Option<Box<WatchList>>>,
+)
+    requires room { length held.old ≤ vec_capacity lists.old }
+    requires empty { lists.old.items ≡ [] }
+    ensures sets { AreSame held.old held.new }
+    ensures count { length lists.new.items ≡ length held.old }
+{
+    for i in 0..held.len() {
+        lists.push_reserved(held[i].take_watched());
+    }
+}
+
+// Gives these sets their lists back. Each watched record is marked.
+fn keep_all_marked<K: RecordKind + Drop, B: SetsName<K, D>, D: Device, R: Wait>(
+    access: &JournalAccess<'_, K, B, R>,
+    held: &mut [JournaledSet<K, B, D>],
+    lists: &mut [Option<Box<WatchList>>],
+)
+    requires count { length lists.old ≡ length held.old }
+    ensures { AreSame held.old held.new }
+{
+    for i in 0..held.len() {
+        held[i].keep_marked(access, lists[i].take());
+    }
+}
+
+/// Cancels a put with notification on journaled sets, and adds the cancel to the journal as one
+/// call. Returns `None` if not all its records are in these sets; nothing has changed then.
+///
+/// # Errors
+///
+/// [`IocError::JournalFull`] if the journal has no place left. [`IocError::NoMemory`] if allocation
+/// fails. Nothing has changed then.
+pub fn cancel_on<K: RecordKind + Drop, B: SetsName<K, D>, D: Device, R: Wait>(
+    access: &JournalAccess<'_, K, B, R>,
+    desk: &mut DeskAccount<K, B>,
+    buffers: &mut EventBuffers<K, D>,
+    all: &mut SharedNotifications<K, B>,
+    held: &mut [JournaledSet<K, B, D>],
+    number: NotifyId,
+    moment: u64,
+) -> Result<Option<Receipt<K, B>>, IocError>
+    ensures gave_up { IfOk result (λ given. IfSome given (λ _. GaveUpOn K.rules B.base moment number desk.old held.old all.old
+        desk.new held.new all.new)) }
+    ensures receipt { IfOk result (λ given. IfSome given (λ receipt. receipt ≡ desk.new.seen)) }
+    ensures ended { IfOk result (λ given. IfSome given (λ _. buffers.new.ended_everywhere.items ≡ [])) }
+    ensures missing { IfOk result (λ given. IfNone given (AreSameSets (sets_of held.old) held.new × (all.new ≡ all.old)
+        × (desk.new ≡ desk.old) × HaveNotAll number all.old.live (sets_of held.old))) }
+    ensures refused { IfErr result IsNoPlace }
+    ensures err { OnErr result (AreSameSets (sets_of held.old) held.new × (all.new ≡ all.old) × (desk.new ≡ desk.old)) }
+{
+    let mut lists = Vec::with_capacity(access.alloc, held.len())?;
+    take_all_watched(held, &mut lists);
+    let given = cancel_unwatched(access, desk, buffers, all, held, number, moment);
+    keep_all_marked(access, held, lists.as_mut_slice());
+    given
 }

@@ -1,7 +1,9 @@
 //! Access to the journal of all calls.
 use ioc_journal::{JournalName, SharedJournal};
 use ioc_record::RecordKind;
+use ioc_watched::MarkedRecords;
 use std::alloc::Global;
+use std::sync::Mutex;
 
 /// What each call needs to be added to the journal.
 #[derive(Drop)]
@@ -12,4 +14,6 @@ pub struct JournalAccess<'a, K: RecordKind, B: JournalName<K>, R> {
     pub alloc: Global,
     /// The journal of all calls.
     pub journal: &'a SharedJournal<K, B>,
+    /// The list of the records that calls mark, whose lock is taken last.
+    pub marks: &'a Mutex<MarkedRecords>,
 }

@@ -1,5 +1,5 @@
 //! Sets whose events are added to the journal.
-ghost use Rattle.std.specs.Prelude.{◌≡◌, ◌⊎◌, ℕ, true, None, Some, Err, IfOk, IfErr, OnOk, OnErr, Contains};
+ghost use Rattle.std.specs.Prelude.{◌≡◌, ◌⊎◌, ℕ, true, [], None, Some, Err, IfOk, IfErr, OnOk, OnErr, Contains};
 ghost use Rattle.std.specs.Option.{IfSome};
 ghost use Rattle.crossbeam_utils.specs.Seq.{cell_view};
 ghost use Rattle.ioc_events.specs.Step.{names, shown};
@@ -9,7 +9,7 @@ ghost use Rattle.ioc_journal.specs.Covering.{Holds};
 ghost use Rattle.ioc_journal.specs.Legal.{map_of};
 ghost use Rattle.ioc_set.specs.SetState.{NoneIsLive, folded, now_of};
 ghost use Rattle.ioc_set.specs.NoCalls.{no_call};
-ghost use Rattle.ioc_set.specs.Doing.{is_ordinary};
+ghost use Rattle.ioc_set.specs.Doing.{is_ordinary, IsShort};
 ghost use Rattle.ioc_journal.specs.Places.{IsNoPlace};
 ghost use Rattle.ioc_set.specs.SetStore.{world_of};
 ghost use Rattle.ioc_journal.specs.Account.{number_begun, HasSeenMore, IsAccount};
@@ -39,18 +39,21 @@ use ioc_notify::table_laws::lines_tell_holders;
 use ioc_record::{FieldText, RecordKind};
 use ioc_set::{EventBuffers, LockSet, sets_stay_without_puts};
 use ioc_values::IocError;
+use ioc_watched::WatchList;
 use std::alloc::Global;
 use std::marker::Model;
 use std::sync::{Mutex, Wait};
 
-/// A set, the pass that owns the keys of its records, and its share of the engine's counts; only a
-/// set without records may have neither. Contracts see the set, and the beginning of the journal's list that
-/// the pass has seen: the set is equal to the world of all records at its own records.
+/// A set, the pass that owns the keys of its records, its share of the engine's counts, and its watched records; only a
+/// set without records may have no pass and no share. Contracts see the set, the watched records, and the beginning of the
+/// journal's list that the pass has seen: the set is equal to the world of all records at its own records.
 #[derive(Drop)]
 pub struct JournaledSet<K: RecordKind, B: SetsName<K, D>, D: Device> {
     pub set: LockSet<K, D>,
     pub(crate) pass: Option<KeyPass>,
     pub(crate) share: Option<TallyShare<EngineCounts<K, B>>>,
+    // None if no record is watched.
+    pub(crate) watched: Option<Box<WatchList>>,
 }
 
 impl<K: RecordKind, B: SetsName<K, D>, D: Device> Model for JournaledSet<K, B, D> {
@@ -61,12 +64,14 @@ impl<K: RecordKind, B: SetsName<K, D>, D: Device> Model for JournaledSet<K, B, D
 
     ghost coded = { held_view_code K.code D.code };
 
-    ghost use Rattle.ioc_journaled_set.specs.Holding.{held_view, seen_by, IsHeld, IsCounted};
+    ghost use Rattle.ioc_journaled_set.specs.Holding.{watching, seen_by, IsHeld, IsCounted};
+    ghost use Rattle.ioc_watched.specs.Watched.{AreFresh, watched_by};
     ghost use Rattle.ioc_journaled_set.specs.SameDevice.{IsDeviceOf};
 
-    ghost view = { λ h. held_view h.set (seen_by h.pass) };
+    ghost view = { λ h. watching h.set (seen_by h.pass) (watched_by h.watched) };
 
-    ghost invariant = { λ h. IsHeld K.rules B.base (IsDeviceOf D.gives B.devices) B.table h.pass h.set × IsCounted h.share h.set };
+    ghost invariant = { λ h. IsHeld K.rules B.base (IsDeviceOf D.gives B.devices) B.table h.pass h.set × IsCounted h.share h.set
+        × AreFresh K.rules B.base h.set.records (watched_by h.watched) };
 }
 
 impl<K: RecordKind, B: SetsName<K, D>, D: Device> JournaledSet<K, B, D> {
@@ -87,6 +92,7 @@ impl<K: RecordKind, B: SetsName<K, D>, D: Device> JournaledSet<K, B, D> {
             set,
             pass: Some(pass),
             share,
+            watched: None,
         }
     }
 
@@ -94,12 +100,13 @@ impl<K: RecordKind, B: SetsName<K, D>, D: Device> JournaledSet<K, B, D> {
     pub fn fold(&mut self)
         ensures set { self.new.set ≡ folded self.old.set }
         ensures seen { self.new.seen ≡ self.old.seen }
+        ensures watched { self.new.watched ≡ self.old.watched }
     {
         self.set.fold();
     }
 
     /// Returns the set, the pass that owns the keys of its records, and its share of the engine's
-    /// counts. A set without records and pass gets a pass.
+    /// counts. A set without records and pass gets a pass. Its records are watched no more.
     pub fn into_parts(
         self,
         cell: &Cell,
@@ -119,6 +126,7 @@ impl<K: RecordKind, B: SetsName<K, D>, D: Device> JournaledSet<K, B, D> {
             set,
             pass: owner,
             share,
+            watched: _,
         } = self;
         match owner {
             Some(own) => (set, own, share),
@@ -147,6 +155,7 @@ impl<K: RecordKind + Drop, B: SetsName<K, D>, D: Device> JournaledSet<K, B, D> {
     )
         requires some { (n : ℕ) × Contains (numbers_of self.old) n }
         ensures set { self.new.set ≡ self.old.set }
+        ensures watched { self.new.watched ≡ self.old.watched }
         ensures seen { self.new.seen ≡ desk.new.seen }
         ensures desk { HasSeenMore desk.old desk.new }
         ensures account { IsAccount K.rules B.base desk.new.seen }
@@ -188,6 +197,8 @@ impl<K: RecordKind + Drop, B: SetsName<K, D>, D: Device> JournaledSet<K, B, D> {
         requires there { (n : ℕ) → Contains (names event.now) n → Contains (numbers_of self.old) n }
         requires is_call { no_call K.rules (now_of self.old.set) event.now ≡ None }
         requires none { NoneIsLive self.old.set }
+        requires unwatched { self.old.watched ≡ [] }
+        ensures short { OnOk result (IsShort buffers.old.history self.new.set) }
         ensures serves { IfOk result (λ x. Serves K.rules D.gives B.base self.old desk.old moment event.now x.reply self.new desk.new
             (world_of buffers.new.store)) }
         ensures receipt { IfOk result (λ x. x.receipt ≡ desk.new.seen) }
@@ -257,6 +268,8 @@ impl<K: RecordKind + Drop, B: SetsName<K, D>, D: Device> JournaledSet<K, B, D> {
         requires on_record { is_on_record event.now ≡ true }
         requires there { (n : ℕ) → Contains (names event.now) n → Contains (numbers_of self.old) n }
         requires is_call { no_call K.rules (now_of self.old.set) event.now ≡ None }
+        requires unwatched { self.old.watched ≡ [] }
+        ensures short { OnOk result (IsShort buffers.old.history self.new.set) }
         ensures serves { IfOk result (λ x. Serves K.rules D.gives B.base self.old desk.old moment event.now x.reply self.new desk.new
             (world_of buffers.new.store)) }
         ensures begins { OnOk result (IfSome (number_begun event.now) (λ number. BeginsUnder K.rules B.base number desk.new.seen)) }
@@ -330,6 +343,40 @@ impl<K: RecordKind + Drop, B: SetsName<K, D>, D: Device> JournaledSet<K, B, D> {
         ensures spent { OnOk result (ticket.new ≡ None) }
     {
         self.test_call(event)?;
+        if self.watched.is_some() {
+            return self.serve_watched(access, puts, desk, buffers, event, moment, ticket);
+        }
+        self.serve_unwatched(access, puts, desk, buffers, event, moment, ticket)
+    }
+
+    // Performs a request, a put or a completion on a set of which no record is watched.
+    #[inline(always)]
+    pub(crate) fn serve_unwatched<R: Wait>(
+        &mut self,
+        access: &JournalAccess<'_, K, B, R>,
+        puts: &Mutex<SharedNotifications<K, B>>,
+        desk: &mut DeskAccount<K, B>,
+        buffers: &mut EventBuffers<K, D>,
+        event: &Event,
+        moment: u64,
+        ticket: &mut Option<Ticket<RequestTickets<K, B>>>,
+    ) -> Result<Served<K, B>, IocError>
+        requires ordinary { is_ordinary event.now ≡ true }
+        requires there { (n : ℕ) → Contains (names event.now) n → Contains (numbers_of self.old) n }
+        requires is_call { no_call K.rules (now_of self.old.set) event.now ≡ None }
+        requires unwatched { self.old.watched ≡ [] }
+        ensures short { OnOk result (IsShort buffers.old.history self.new.set) }
+        ensures serves { IfOk result (λ x. Serves K.rules D.gives B.base self.old desk.old moment event.now x.reply self.new desk.new
+            (world_of buffers.new.store)) }
+        ensures receipt { IfOk result (λ x. x.receipt ≡ desk.new.seen) }
+        ensures tickets { IfOk result (λ x. AreTicketsFor K.rules B.base desk.new.seen (world_of buffers.new.store).outbox x.tickets) }
+        ensures ended { OnOk result (HaveEnded K.rules B.base (world_of buffers.new.store).ended desk.new.seen
+            buffers.new.ended_everywhere.items) }
+        ensures refused { IfErr result IsNoPlace }
+        ensures err { OnErr result ((self.new ≡ self.old) × (desk.new ≡ desk.old)) }
+        ensures ticket { OnErr result (ticket.new ≡ ticket.old) }
+        ensures spent { OnOk result (ticket.new ≡ None) }
+    {
         if self.set.none_is_live() {
             return self.serve_alone(access, desk, buffers, event, moment, ticket);
         }

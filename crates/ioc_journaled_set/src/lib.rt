@@ -30,6 +30,7 @@ mod running;
 pub mod sets_name;
 pub mod shared_notifications;
 pub mod together;
+mod watching;
 
 pub use changing::{Changed, change_link};
 pub use checkpoint::{checkpoint_giving, checkpoint_on, move_all_on};

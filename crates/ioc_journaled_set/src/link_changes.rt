@@ -119,6 +119,7 @@ impl<K: RecordKind + Drop, B: SetsName<K, D>, D: Device> JournaledSet<K, B, D> {
         requires field { HasLink K.rules self.old.set.records change.number change.field }
         requires allowed { stops_put (common_at K.rules (now_of self.old.set) change.number) change.field ≡ false }
         requires within { (t : ℕ) → Contains (named_by (use_of change.link)) t → IsSome (get self.old.set.records t) }
+        requires unwatched { self.old.watched ≡ [] }
         ensures parts { IfOk result (λ x. Parts K.rules B.base self.old desk.old change.moment change.number change.field change.link
             self.new x.0 desk.new
             (world_of buffers.new.store)) }
@@ -168,6 +169,7 @@ impl<K: RecordKind + Drop, B: SetsName<K, D>, D: Device> JournaledSet<K, B, D> {
             set: rest,
             pass: Some(other),
             share: Some(rest_share),
+            watched: None,
         };
         Ok((rest, receipt))
     }
@@ -185,6 +187,7 @@ impl<K: RecordKind + Drop, B: SetsName<K, D>, D: Device> JournaledSet<K, B, D> {
         ensures apart { (q : ℕ) → IsSome (get self.old.set.records q) → get other.old.set.records q ≡ None }
         ensures one { MayBeOne self.old.set other.old.set }
         ensures same { (self.new.set ≡ self.old.set) × (other.new.set ≡ other.old.set) }
+        ensures watched { (self.new.watched ≡ self.old.watched) × (other.new.watched ≡ other.old.watched) }
     {
         holding_lasts::<K>();
         lists_leave_sound::<K>();
@@ -224,6 +227,7 @@ impl<K: RecordKind + Drop, B: SetsName<K, D>, D: Device> JournaledSet<K, B, D> {
         requires field { HasLink K.rules self.old.set.records change.number change.field }
         requires allowed { stops_put (common_at K.rules (now_of self.old.set) change.number) change.field ≡ false }
         requires to { (t : ℕ) × (named_by (use_of change.link) ≡ t ∷ []) × IsSome (get other.old.set.records t) }
+        requires unwatched { (self.old.watched ≡ []) × (other.old.watched ≡ []) }
         ensures leads { IfOk result (λ x. Leads K.rules B.base self.old other.old desk.old change.moment change.number change.field
             change.link self.new other.new
             x.0 desk.new (world_of buffers.new.store)) }
@@ -288,6 +292,7 @@ impl<K: RecordKind + Drop, B: SetsName<K, D>, D: Device> JournaledSet<K, B, D> {
             set: rest,
             pass: Some(beside),
             share: Some(rest_share),
+            watched: None,
         };
         Ok((rest, receipt))
     }
@@ -311,6 +316,7 @@ impl<K: RecordKind + Drop, B: SetsName<K, D>, D: Device> JournaledSet<K, B, D> {
         ensures refuses { OnOk result (Refuses K.rules B.base self.old desk.old change.now.moment change.now.number change.now.field
             change.now.link self.new desk.new) }
         ensures receipt { IfOk result (λ receipt. receipt ≡ desk.new.seen) }
+        ensures watched { self.new.watched ≡ self.old.watched }
         ensures refused { IfErr result IsNoPlace }
         ensures err { OnErr result ((self.new ≡ self.old) × (desk.new ≡ desk.old)) }
     {

@@ -23,6 +23,7 @@ impl<K: RecordKind + Drop, B: SetsName<K, D>, D: Device> Locked for JournaledSet
             set: LockSet::empty(alloc),
             pass: None,
             share: None,
+            watched: None,
         }
     }
 

@@ -4,7 +4,7 @@ ghost use Rattle.ioc_store.specs.Given.{answers_of};
 ghost use Rattle.ioc_events.specs.declared.event.Call.TheVariants as call;
 ghost use Rattle.ioc_journal.specs.Places.{IsNoPlace};
 ghost use Rattle.ioc_set.specs.SetStore.{world_of};
-ghost use Rattle.ioc_set.specs.Doing.{Does};
+ghost use Rattle.ioc_set.specs.Doing.{Does, IsShort};
 ghost use Rattle.ioc_set.specs.Sound.{IsSound};
 
 use crate::journal_access::JournalAccess;
@@ -59,6 +59,7 @@ pub(crate) fn run_with_answers<K: RecordKind + Drop, D: Device>(
 ) -> Result<(Reply, KeptAnswers), AllocError>
     ensures ok { IfOk result (λ done. Does K.rules D.gives set.old moment event.now done.0 set.new (world_of buffers.new.store)) }
     ensures answers { IfOk result (λ done. done.1 ≡ answers_of (world_of buffers.new.store).calls) }
+    ensures short { OnOk result (IsShort buffers.old.history set.new) }
     ensures err { OnErr result (set.new ≡ set.old) }
 {
     // Reserved before the event, because nothing may be refused after it, and kept for the next
@@ -92,6 +93,7 @@ pub(crate) fn run_counted<K: RecordKind + Drop, B: JournalName<K>, D: Device, R:
     ensures before { IfOk result (λ ran. ran.before.items ≡ set.old.live) }
     ensures few { OnOk result (length set.new.live ≤ 256) }
     ensures sound { OnOk result (IsSound K.rules set.new) }
+    ensures short { OnOk result (IsShort buffers.old.history set.new) }
     ensures refused { IfErr result IsNoPlace }
     ensures err { OnErr result (set.new ≡ set.old) }
 {

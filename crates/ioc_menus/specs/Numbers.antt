@@ -16,6 +16,10 @@ use Rattle.ioc_menus.specs.declared.ivoa.Ivoa.{Ivoa}
 use Rattle.ioc_menus.specs.declared.ivoa.Ivoa.TheVariants as ivoa
 use Rattle.ioc_menus.specs.declared.selm.Selm.{Selm}
 use Rattle.ioc_menus.specs.declared.selm.Selm.TheVariants as selm
+use Rattle.ioc_menus.specs.declared.linr.Linr.{Linr}
+use Rattle.ioc_menus.specs.declared.linr.Linr.TheVariants as linr
+use Rattle.ioc_menus.specs.declared.oif.Oif.{Oif}
+use Rattle.ioc_menus.specs.declared.oif.Oif.TheVariants as oif
 
 -- The number of a `Severity` choice.
 abbrev pub severity_number : Severity → ℕ
@@ -129,6 +133,27 @@ selm_number selm.Mask = 2
 abbrev pub selms : List Selm
 selms =
     selm.All ∷ selm.Specified ∷ selm.Mask ∷ []
+
+-- The number of a `Linr` choice.
+abbrev pub linr_number : Linr → ℕ
+linr_number linr.NoConversion = 0
+linr_number linr.Slope = 1
+linr_number linr.Linear = 2
+
+-- The `Linr` choices, in the order of their numbers.
+abbrev pub linrs : List Linr
+linrs =
+    linr.NoConversion ∷ linr.Slope ∷ linr.Linear ∷ []
+
+-- The number of an `Oif` choice.
+abbrev pub oif_number : Oif → ℕ
+oif_number oif.Full = 0
+oif_number oif.Incremental = 1
+
+-- The `Oif` choices, in the order of their numbers.
+abbrev pub oifs : List Oif
+oifs =
+    oif.Full ∷ oif.Incremental ∷ []
 
 -- Holds if the answer is a choice exactly if this is its number.
 abbrev pub IsNumbered : {C : Type 0} → (C → ℕ) → ℕ → Option C → Type 0

@@ -2,7 +2,7 @@
 use Rattle.std.specs.Prelude.{ℕ, Option, List, [], ◌∷◌, position, slice_get, codes}
 use Rattle.std.specs.Str.{bytes_eq}
 use Rattle.ioc_menus.specs.declared.menu.Menu.{Menu}
-use Rattle.ioc_menus.specs.declared.menu.Menu.TheVariants.{Severity, Status, Scan, Priority, Pini, Omsl, Ivoa, Selm}
+use Rattle.ioc_menus.specs.declared.menu.Menu.TheVariants.{Severity, Status, Scan, Priority, Pini, Omsl, Ivoa, Selm, Linr, Oif}
 
 -- The texts of SEVR, NSEV and every other field that holds a severity.
 abbrev pub severity_texts : List (List ℕ)
@@ -44,6 +44,16 @@ abbrev pub selm_texts : List (List ℕ)
 selm_texts =
     codes "All" ∷ codes "Specified" ∷ codes "Mask" ∷ []
 
+-- The texts of LINR. The breakpoint tables that EPICS has are not supported.
+abbrev pub linr_texts : List (List ℕ)
+linr_texts =
+    codes "NO CONVERSION" ∷ codes "SLOPE" ∷ codes "LINEAR" ∷ []
+
+-- The texts of OIF.
+abbrev pub oif_texts : List (List ℕ)
+oif_texts =
+    codes "Full" ∷ codes "Incremental" ∷ []
+
 -- The texts of a menu's choices, in the order of their numbers.
 abbrev pub texts_of : Menu → List (List ℕ)
 texts_of Severity = severity_texts
@@ -54,6 +64,8 @@ texts_of Pini = pini_texts
 texts_of Omsl = omsl_texts
 texts_of Ivoa = ivoa_texts
 texts_of Selm = selm_texts
+texts_of Linr = linr_texts
+texts_of Oif = oif_texts
 
 -- The number of the choice with this text.
 abbrev pub choice_of : Menu → List ℕ → Option ℕ

@@ -4,8 +4,10 @@
 
 pub mod ivoa;
 pub mod laws;
+pub mod linr;
 pub mod menu;
 mod numbers;
+pub mod oif;
 pub mod omsl;
 pub mod pini;
 pub mod priority;
@@ -15,7 +17,9 @@ pub mod severity;
 pub mod status;
 
 pub use ivoa::Ivoa;
+pub use linr::Linr;
 pub use menu::{Menu, choice, choices, text};
+pub use oif::Oif;
 pub use omsl::Omsl;
 pub use pini::Pini;
 pub use priority::Priority;

@@ -15,6 +15,8 @@ pub enum Menu {
     Omsl,
     Ivoa,
     Selm,
+    Linr,
+    Oif,
 }
 
 static SEVERITY: [&str; 4] = ["NO_ALARM", "MINOR", "MAJOR", "INVALID"];
@@ -71,6 +73,10 @@ static IVOA: [&str; 3] = [
 
 static SELM: [&str; 3] = ["All", "Specified", "Mask"];
 
+static LINR: [&str; 3] = ["NO CONVERSION", "SLOPE", "LINEAR"];
+
+static OIF: [&str; 2] = ["Full", "Incremental"];
+
 /// Returns the texts of the menu's choices, in the order of their numbers.
 pub fn choices(menu: Menu) -> &'static [&'static str]
     ensures texts { map (λ t. t.now) result.now ≡ texts_of menu }
@@ -85,6 +91,8 @@ pub fn choices(menu: Menu) -> &'static [&'static str]
         Menu::Omsl => &OMSL,
         Menu::Ivoa => &IVOA,
         Menu::Selm => &SELM,
+        Menu::Linr => &LINR,
+        Menu::Oif => &OIF,
     }
 }
 

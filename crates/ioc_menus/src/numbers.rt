@@ -1,9 +1,11 @@
 //! The numbers of the choices, which are counted from 0 in the order of each menu. Record
 //! Reference Manual, "Menu Types".
 ghost use Rattle.std.specs.Prelude.{◌≡◌, slice_get};
-ghost use Rattle.ioc_menus.specs.Numbers.{severity_number, severities, status_number, statuses, scan_number, scans, priority_number, priorities, pini_number, pinis, omsl_number, omsls, ivoa_number, ivoas, selm_number, selms, IsNumbered};
+ghost use Rattle.ioc_menus.specs.Numbers.{severity_number, severities, status_number, statuses, scan_number, scans, priority_number, priorities, pini_number, pinis, omsl_number, omsls, ivoa_number, ivoas, selm_number, selms, linr_number, linrs, oif_number, oifs, IsNumbered};
 
 use crate::ivoa::Ivoa;
+use crate::linr::Linr;
+use crate::oif::Oif;
 use crate::omsl::Omsl;
 use crate::pini::Pini;
 use crate::priority::Priority;
@@ -70,6 +72,10 @@ static IVOAS: [Ivoa; 3] = [
 ];
 
 static SELMS: [Selm; 3] = [Selm::All, Selm::Specified, Selm::Mask];
+
+static LINRS: [Linr; 3] = [Linr::NoConversion, Linr::Slope, Linr::Linear];
+
+static OIFS: [Oif; 2] = [Oif::Full, Oif::Incremental];
 
 // Returns the choice with this number among the choices of a menu.
 #[inline]
@@ -212,5 +218,39 @@ impl Selm {
         ensures numbered { IsNumbered selm_number number result }
     {
         choice_at(&SELMS, number)
+    }
+}
+
+impl Linr {
+    /// Returns the number of the choice, counted from 0.
+    pub fn number(self) -> u16
+        ensures { result ≡ linr_number self }
+    {
+        self as u16
+    }
+
+    /// Returns the choice with this number, or `None` if there is none.
+    pub fn from_number(number: u16) -> Option<Self>
+        ensures value { result ≡ slice_get linrs number }
+        ensures numbered { IsNumbered linr_number number result }
+    {
+        choice_at(&LINRS, number)
+    }
+}
+
+impl Oif {
+    /// Returns the number of the choice, counted from 0.
+    pub fn number(self) -> u16
+        ensures { result ≡ oif_number self }
+    {
+        self as u16
+    }
+
+    /// Returns the choice with this number, or `None` if there is none.
+    pub fn from_number(number: u16) -> Option<Self>
+        ensures value { result ≡ slice_get oifs number }
+        ensures numbered { IsNumbered oif_number number result }
+    {
+        choice_at(&OIFS, number)
     }
 }

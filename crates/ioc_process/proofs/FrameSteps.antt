@@ -17,10 +17,11 @@ use Rattle.ioc_dbcommon.specs.declared.body.Want.{Want}
 use Rattle.ioc_dbcommon.specs.declared.body.Output.{Output}
 use Rattle.ioc_dbcommon.specs.Links.{record_named, use_of}
 use Rattle.ioc_dbcommon.specs.Wants.{is_unused}
-use Rattle.ioc_dbcommon.specs.Steps.{with_active, shown, unblocked, is_passive, disabled, disable_kind}
+use Rattle.ioc_dbcommon.specs.Steps.{with_active, unblocked, is_passive, disabled, disable_kind}
 use Rattle.ioc_record.specs.Values.{read_as}
 use Rattle.ioc_record.specs.RecordRules.{RecordRules}
 use Rattle.ioc_record.specs.Laws.{IsLawful}
+use Rattle.ioc_store.specs.Showing.{showing, links-shown}
 use Rattle.ioc_store.specs.declared.frames.Frame.{Frame}
 use Rattle.ioc_store.specs.declared.frames.ResumePoint.TheVariants.{ReadingDisable, Following, FollowingEach, Writing, Reading as Reading-place}
 use Rattle.ioc_process.specs.Frames.{Ended, Calls}
@@ -36,7 +37,7 @@ use Rattle.ioc_process.specs.Frames.{asked_ran, after_disable, went_on, then_fin
 use Rattle.ioc_process.specs.Runs.{HasCome, IsStanding}
 use Rattle.ioc_store.specs.Worlds.{idle-changed, common_at-changed, at-put_same}
 use Rattle.ioc_process.specs.Depth.{request-rule, rested-idle, room-shown, shown-active, value_came-stays}
-use Rattle.ioc_process.specs.Keeping.{keeps_on, keeps-changed, sent-keeps, value_came-keeps, notified-keeps}
+use Rattle.ioc_process.specs.Keeping.{keeps_on, keeps-changed, keeps-put, sent-keeps, value_came-keeps, notified-keeps}
 use Rattle.ioc_store.specs.Given.{Answers}
 use Rattle.ioc_store.specs.Notifying.{passed_on, notified}
 
@@ -87,10 +88,10 @@ unnamed_ends k w (Standing t) is = absurd cc
 module _ {R : Type 0} (k : RecordRules R) (lawful : IsLawful k) where
   -- The record shows its alarms.
   abbrev pub ready : World R → ℕ → World R
-  ready w s = changed k w s (shown w.moment)
+  ready w s = showing k w s
 
   pub ready-keeps : (w : World R) (s : ℕ) → Has w s → Keeps k w (ready w s)
-  ready-keeps w s there = keeps-changed k lawful w s there (shown w.moment) (λ c. (refl, refl))
+  ready-keeps w s there = keeps-put k w s there _ (links-shown k lawful w.moment (at k w s))
 
   pub ready-called : (w : World R) (s : ℕ) → (common_at k w s).active ≡ false → idle k (changed k (ready w s) s (with_active true)) + 1 ≡ idle k w
   ready-called w s inactive =

@@ -11,6 +11,7 @@ use Rattle.ioc_record.specs.RecordRules.{RecordRules}
 use Rattle.ioc_store.specs.Marks.{at_rest}
 use Rattle.ioc_store.specs.Notifying.{notified, notified_as}
 use Rattle.ioc_store.specs.Rests.{rested}
+use Rattle.ioc_store.specs.Showing.{shown_record, showing}
 use Rattle.ioc_store.specs.World.{World, Has, at, common_at, changed, put, sent}
 use Rattle.ioc_store.specs.declared.outbox.OutboxItem.TheVariants.{Once}
 use Rattle.ioc_store.specs.PutBack.{on_ok, on_err_as, put-at}
@@ -49,6 +50,19 @@ module _ {R : Type 0} (k : RecordRules R) where
   pub changed_still : (w : World R) (n : ℕ) (f : Common → Common) (r : R) → r ≡ at k (changed k w n f) n → put w n r ≡ changed k w n f
   unfolding changed
   changed_still w n f r is = ap (put w n) (is ∙ changed_at w n f)
+
+  -- The same for a record that shows its alarms.
+  pub showing_at : (w : World R) (n : ℕ) → at k (showing k w n) n ≡ shown_record k w.moment (at k w n)
+  showing_at w n = at-put_same k w n _
+
+  pub showing_on : (w : World R) (n : ℕ) (r : R) → put (showing k w n) n r ≡ put w n r
+  showing_on w n r = put_twice w n _ r
+
+  pub showing_still : (w : World R) (n : ℕ) (r : R) → r ≡ at k (showing k w n) n → put w n r ≡ showing k w n
+  showing_still w n r is = ap (put w n) (is ∙ showing_at w n)
+
+  pub showing_has : (w : World R) (n : ℕ) → Has w n → Has (showing k w n) n
+  showing_has w n has = has-put k w n n _ has
 
   pub opened : (w : World R) (n : ℕ) (o : IdleStart) (written : Output) (r : R) (after : World R) → Opens k (at k (changed k w n unblocked) n) o written r → after ≡ put w n r
       → Opened k (changed k w n unblocked) n o written after

@@ -24,9 +24,10 @@ use Rattle.ioc_values.specs.declared.value.Value.{Value}
 use Rattle.ioc_values.specs.declared.error.IocError.{IocError}
 use Rattle.ioc_dbcommon.specs.Links.{use_of}
 use Rattle.ioc_record.specs.Values.{read_as, converted_to, put_untested, converted_for}
-use Rattle.ioc_dbcommon.specs.Steps.{inherited, blocked, unblocked, with_active, shown, is_passive, with_put_mark, with_reprocess_mark, disabled, disable_kind, change_numbered, with_notification}
+use Rattle.ioc_dbcommon.specs.Steps.{inherited, blocked, unblocked, with_active, is_passive, with_put_mark, with_reprocess_mark, disabled, disable_kind, change_numbered, with_notification}
 use Rattle.ioc_record.specs.RecordRules.{RecordRules, targets}
 use Rattle.ioc_record.specs.Laws.{IsLawful}
+use Rattle.ioc_store.specs.Showing.{showing, shown_record, shown-common}
 use Rattle.ioc_store.specs.declared.outbox.OutboxItem.{OutboxItem}
 use Rattle.ioc_store.specs.declared.outbox.OutboxItem.TheVariants.{Once, Post, Change}
 use Rattle.ioc_store.specs.World.{World, at, common_at, put, changed, idle, called, sent, lost, taken_on, let_go}
@@ -93,6 +94,7 @@ pub record Guards {R : Type 0} (k : RecordRules R) (May : ℕ → Type 0) (Good 
   pub link : {n : ℕ} {r : R} → Good n r → (target : ℕ) → Contains (targets k r) target → May target
   pub common : {n : ℕ} {r : R} → Good n r → (c : Common) → OwnLinks (k.common r) c → Good n (k.with_common r c)
   pub taken : {n : ℕ} {r : R} → Good n r → (got : Got) → Good n (k.taken r got)
+  pub posted : {n : ℕ} {r : R} → Good n r → Good n (k.posted r)
   pub finished : {n : ℕ} {r : R} → Good n r → (x : Finished) → Good n (k.finished r x)
   pub stored : {n : ℕ} {r : R} → Good n r → (f : FieldNo) (v : Value) → Good n (k.stored r f v)
   pub put : {w v : World R} → Inv w v → (n : ℕ) → May n → (r : R) → Good n r → (k.common r).notification ≡ (common_at k w n).notification → Inv (put w n r) (put v n r)
@@ -345,8 +347,13 @@ module _ {R : Type 0} (k : RecordRules R) (lawful : IsLawful k) (May : ℕ → T
         | false ↦ quiet
       ])
 
-  shown-goes : {w v : World R} → Inv w v → (s : ℕ) → May s → Inv (changed k w s (shown w.moment)) (changed k v s (shown v.moment))
-  shown-goes {w} {v} inv s may = subst (λ (n : ℕ). Inv (changed k w s (shown w.moment)) (changed k v s (shown n))) (g.moment inv) (changed-goes inv s may (shown w.moment) (λ c. (refl, refl, refl)))
+  shown-at : {w v : World R} → Inv w v → (s : ℕ) → May s → Inv (showing k w s) (put v s (shown_record k w.moment (at k v s)))
+  shown-at {w} {v} inv s may =
+      subst (λ (r : R). Inv (showing k w s) (put v s (shown_record k w.moment r))) (g.same inv s may)
+      (g.put inv s may _ (g.posted (g.common (g.good inv s may) _ (refl, refl))) (ap (λ (c : Common). c.notification) (shown-common k lawful w.moment (at k w s))))
+
+  shown-goes : {w v : World R} → Inv w v → (s : ℕ) → May s → Inv (showing k w s) (showing k v s)
+  shown-goes {w} {v} inv s may = subst (λ (n : ℕ). Inv (showing k w s) (put v s (shown_record k n (at k v s)))) (g.moment inv) (shown-at inv s may)
 
   module _ (ask other : World R → ℕ → Done R) (asks : (w v : World R) → Inv w v → (s : ℕ) → May s → Goes Inv (ask w s) (other v s)) where
     pub asked-goes : {w v : World R} → Inv w v → (s : ℕ) → May s → (t : ℕ) → May t → Goes Inv (asked k ask w s t) (asked k other v s t)
@@ -469,8 +476,8 @@ module _ {R : Type 0} (k : RecordRules R) (lawful : IsLawful k) (May : ℕ → T
     pub finished-goes : {w v : World R} → Inv w v → (s : ℕ) → May s → Goes Inv (finished k ask w s) (finished k other v s)
     unfolding finished
     finished-goes {w} {v} inv s may =
-        let ready = changed k w s (shown w.moment) in
-        let ready' = changed k v s (shown v.moment) in
+        let ready = showing k w s in
+        let ready' = showing k v s in
         let there = shown-goes inv s may in
         let rest = followed-goes there s may (use_of (common_at k ready s).forward_link) (λ t is. g.link (g.good there s may) t.number (lawful.forward_named (at k ready s) t is)) in
         subst (λ (link : LinkUse). Goes Inv (finished k ask w s)

@@ -22,7 +22,7 @@ use Rattle.ioc_values.specs.declared.error.IocError.{IocError}
 use Rattle.ioc_dbcommon.specs.Links.{use_of}
 use Rattle.std.proofs.lemmas.Grind.{common_steps}
 use Rattle.ioc_dbcommon.specs.declared.body.InputKind.{InputKind}
-use Rattle.ioc_dbcommon.specs.Steps.{inherited, blocked, unblocked, with_active, shown, waiting, is_passive, with_put_mark, disabled, disable_kind, change_numbered, with_notification}
+use Rattle.ioc_dbcommon.specs.Steps.{inherited, blocked, unblocked, with_active, waiting, is_passive, with_put_mark, disabled, disable_kind, change_numbered, with_notification}
 use Rattle.ioc_store.specs.Marks.{is_put_down, put_down, put_mark_passed, at_rest, with_disable_input, is_disabled}
 use Rattle.ioc_store.specs.declared.call.Call.{Call}
 use Rattle.ioc_device.specs.declared.Ask.TheVariants.{Read as Read-ask, Write as Write-ask}
@@ -39,6 +39,7 @@ use Rattle.ioc_store.specs.Rests.{rested, disable_came}
 use Rattle.std.specs.Prelude.{nat_lt, ◌++◌, Result, Ok, Err}
 use Rattle.ioc_fields.specs.declared.field_no.FieldNo.{FieldNo}
 use Rattle.ioc_store.specs.StepFrames.{blocked-frame, stored_with}
+use Rattle.ioc_store.specs.Showing.{shown_record, showing, shown-common, showing-common}
 use Rattle.ioc_store.specs.Worlds.{room, common_at-changed, idle-changed, idle-kept, idle-put, at-put_same, at-put_other, has-put}
 use Rattle.ioc_store.specs.Given.{Answers}
 use Rattle.ioc_store.specs.Scanning.{moved, rescanned}
@@ -206,11 +207,11 @@ module _ {R : Type 0} (k : RecordRules R) (lawful : IsLawful k) where
   pub taken-stays : (w : World R) (s : ℕ) (got : Got) → Stays k w s (put w s (k.taken (at k w s) got))
   taken-stays w s got = stays-put w s s _ (lawful.taken_active _ got)
 
-  pub room-shown : (w : World R) (s : ℕ) → idle k (changed k w s (shown w.moment)) + one_if_not (common_at k w s).active ≡ idle k w
-  room-shown w s = omega (arith, idle-changed k lawful w s (shown w.moment))
+  pub room-shown : (w : World R) (s : ℕ) → idle k (showing k w s) + one_if_not (common_at k w s).active ≡ idle k w
+  room-shown w s = omega (arith, idle-put k lawful w s (shown_record k w.moment (at k w s)), ap (λ (c : Common). one_if_not c.active) (shown-common k lawful w.moment (at k w s)))
 
-  pub shown-active : (w : World R) (s : ℕ) → (common_at k (changed k w s (shown w.moment)) s).active ≡ true
-  shown-active w s = ap (λ (c : Common). c.active) (common_at-changed k lawful w s (shown w.moment))
+  pub shown-active : (w : World R) (s : ℕ) → (common_at k (showing k w s) s).active ≡ true
+  shown-active w s = ap (λ (c : Common). c.active) (showing-common k lawful w s)
 
   -- Sending an item keeps the number of idle records.
   pub sent-idle : (item : OutboxItem) (w : World R) → idle k (sent item w) ≡ idle k w
@@ -403,7 +404,7 @@ module _ {R : Type 0} (k : RecordRules R) (lawful : IsLawful k) where
 
     module _ (w : World R) (s : ℕ) (inactive : (common_at k w s).active ≡ false) (small : idle k w ≤ bound) where
       ready_world : World R
-      ready_world = changed k w s (shown w.moment)
+      ready_world = showing k w s
 
       ready_idle : idle k ready_world + 1 ≡ idle k w
       unfolding ready_world

@@ -24,7 +24,7 @@ use Rattle.ioc_store.specs.declared.outbox.OutboxItem.{OutboxItem}
 use Rattle.ioc_store.specs.World.{World, Has, at, put, changed, SameLinks, Keeps, IsClosed, called, sent, lost, taken_on, let_go}
 use Rattle.ioc_process.specs.Processing.{inherits, value_came, wrote, faulted, device_gave, received, read_device, acknowledged, write_device, next_call, can_ask, request, ran, resumed_with}
 use Rattle.ioc_store.specs.Rests.{disable_came}
-use Rattle.ioc_store.specs.StepFrames.{OwnLinks, targets_same, links-set, links-taken, links-finished, links-stored}
+use Rattle.ioc_store.specs.StepFrames.{OwnLinks, targets_same, links-set, links-taken, links-posted, links-finished, links-stored}
 use Rattle.ioc_store.specs.Worlds.{at-put_same, at-put_other, has-put, has-put_back, len-put}
 use Rattle.ioc_store.specs.Links.{handed_on}
 use Rattle.ioc_process.specs.Depth.{written_has}
@@ -226,6 +226,7 @@ module _ {R : Type 0} (k : RecordRules R) (lawful : IsLawful k) where
       link = λ {n} {r} good target links. closed.closed n target (subst (λ (l : List ℕ). Contains l target) (targets_same k lawful good.1) links);
       common = λ good c same. (good.0, links_on k good.1 (links-set k lawful _ c same));
       taken = λ good got. (good.0, links_on k good.1 (links-taken k lawful _ got));
+      posted = λ good. (good.0, links_on k good.1 (links-posted k lawful _));
       finished = λ good x. (good.0, links_on k good.1 (links-finished k lawful _ x));
       stored = λ good f v. (good.0, links_on k good.1 (links-stored k lawful _ f v));
       put = λ inv n may r good _. (ap (λ (w : World R). put w n r) inv.0, put_kept k w0 _ n may r inv.1 good.1);

@@ -7,12 +7,12 @@ use Rattle.ioc_dbcommon.specs.declared.body.Need.{Need}
 use Rattle.ioc_dbcommon.specs.declared.body.Need.TheVariants as need
 use Rattle.ioc_dbcommon.specs.declared.body.Output.{Output}
 use Rattle.ioc_dbcommon.specs.Links.{record_named, use_of}
-use Rattle.ioc_dbcommon.specs.Steps.{shown}
 use Rattle.ioc_dbcommon.specs.Wants.{is_unused, need_of, puts_out}
 use Rattle.ioc_record.specs.RecordRules.{RecordRules}
 use Rattle.ioc_store.specs.Marks.{at_rest, is_disabled}
 use Rattle.ioc_store.specs.Rests.{rested}
-use Rattle.ioc_store.specs.World.{World, at, common_at, changed, put}
+use Rattle.ioc_store.specs.Showing.{showing}
+use Rattle.ioc_store.specs.World.{World, at, common_at, put}
 use Rattle.ioc_process.specs.declared.fast_path.IdleStart.{IdleStart}
 use Rattle.ioc_process.specs.declared.fast_path.Shown.{Shown}
 use Rattle.ioc_process.specs.declared.fast_path.Shown.TheVariants.{Named, Done, Rests}
@@ -53,5 +53,5 @@ module _ {R : Type 0} (k : RecordRules R) where
 
   -- Record `s` shows its alarms, and is done if its forward link names no record.
   abbrev pub shown_on : World R → ℕ → Option ℕ → World R
-  shown_on w s (Some target) = changed k w s (shown w.moment)
-  shown_on w s Nothing_ = rested k (changed k w s (shown w.moment)) s
+  shown_on w s (Some target) = showing k w s
+  shown_on w s Nothing_ = rested k (showing k w s) s

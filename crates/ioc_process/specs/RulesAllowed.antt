@@ -12,6 +12,7 @@ use Rattle.ioc_dbcommon.specs.Links.{use_of}
 use Rattle.ioc_device.specs.declared.Ask.{Ask}
 use Rattle.ioc_device.specs.declared.Ask.TheVariants.{Read as Read-ask, Write as Write-ask}
 use Rattle.ioc_values.specs.declared.value.Finished.{Finished}
+use Rattle.ioc_store.specs.Showing.{showing}
 use Rattle.ioc_store.specs.declared.outbox.OutboxItem.TheVariants.{Once}
 use Rattle.ioc_store.specs.Marks.{is_put_down, put_down, put_mark_passed, resumed, at_rest, is_disabled}
 use Rattle.ioc_dbcommon.specs.declared.body.Want.{Want}
@@ -25,7 +26,7 @@ use Rattle.ioc_values.specs.declared.input.Input.TheVariants.{Value as InputValu
 use Rattle.ioc_fields.specs.declared.field_no.FieldSlot.{FieldSlot}
 use Rattle.ioc_dbcommon.specs.declared.body.Output.{Output}
 use Rattle.ioc_dbcommon.specs.declared.body.Output.TheVariants.{NoOutput, WriteLink, WriteDevice, FollowLinks, PostEvent}
-use Rattle.ioc_dbcommon.specs.Steps.{inherited, unblocked, with_active, shown, is_passive, disabled, disable_kind}
+use Rattle.ioc_dbcommon.specs.Steps.{inherited, unblocked, with_active, is_passive, disabled, disable_kind}
 use Rattle.ioc_record.specs.RecordRules.{RecordRules}
 use Rattle.ioc_record.specs.Laws.{IsLawful}
 use Rattle.ioc_store.specs.World.{World, at, common_at, put, changed, idle, called, sent}
@@ -267,7 +268,7 @@ module _ {R : Type 0} (k : RecordRules R) (lawful : IsLawful k) (answers : Answe
     finished-allowed : (w : World R) (s : ℕ) → Space bound w s → Finishes k answers w s (finished k ask w s).world (finished k ask w s).requests
     unfolding finished
     finished-allowed w s space =
-        forward refl (followed-allowed (changed k w s (shown w.moment)) s _
+        forward refl (followed-allowed (showing k w s) s _
         (omega (arith, space, room-shown k lawful w s, one_of_two (common_at k w s).active, ap {A = Bool} {B = ℕ} (λ b. cond b 0 1) (shown-active k lawful w s))))
         (rests-allowed k _ s)
 

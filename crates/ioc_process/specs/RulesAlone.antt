@@ -14,7 +14,8 @@ use Rattle.ioc_record.specs.Values.{read_as}
 use Rattle.ioc_values.specs.declared.value.Value.{Value}
 use Rattle.ioc_fields.specs.declared.field_no.FieldSlot.{FieldSlot}
 use Rattle.ioc_dbcommon.specs.declared.body.Output.{Output}
-use Rattle.ioc_dbcommon.specs.Steps.{unblocked, with_active, shown, is_passive, disabled, disable_kind}
+use Rattle.ioc_dbcommon.specs.Steps.{unblocked, with_active, is_passive, disabled, disable_kind}
+use Rattle.ioc_store.specs.Showing.{showing}
 use Rattle.ioc_store.specs.Links.{link_at, requests_first, requests_after, handed_on}
 use Rattle.ioc_record.specs.RecordRules.{RecordRules}
 use Rattle.ioc_record.specs.Laws.{IsLawful}
@@ -204,7 +205,7 @@ module _ {R : Type 0} (k : RecordRules R) (lawful : IsLawful k) (answers : Answe
   unfolding write_link
   write-step w s t v done left is rest = ap (λ (d : Written R). after_writing k ask d s t) is ∙ rest
 
-  finished-step : (w : World R) (s : ℕ) (ready : World R) (done : Done R) (w'' : World R) → ready ≡ changed k w s (shown w.moment) → followed k ask ready s (use_of (common_at k ready s).forward_link) ≡ done
+  finished-step : (w : World R) (s : ℕ) (ready : World R) (done : Done R) (w'' : World R) → ready ≡ showing k w s → followed k ask ready s (use_of (common_at k ready s).forward_link) ≡ done
       → rested k done.world s ≡ w'' → finished k ask w s ≡ record { world = w''; requests = done.requests }
   unfolding finished
   finished-step w s ready done w'' r is rests =

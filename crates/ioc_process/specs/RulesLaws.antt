@@ -9,6 +9,7 @@ use Rattle.ioc_values.specs.declared.value.Value.{Value}
 use Rattle.ioc_values.specs.declared.input.Input.TheVariants.{Value as InputValue}
 use Rattle.ioc_record.specs.Values.{put_untested, converted_for}
 use Rattle.ioc_dbcommon.specs.declared.body.Output.{Output}
+use Rattle.ioc_store.specs.Showing.{showing-common}
 use Rattle.ioc_store.specs.declared.outbox.OutboxItem.{OutboxItem}
 use Rattle.ioc_store.specs.declared.outbox.OutboxItem.TheVariants.{Once, Post}
 use Rattle.ioc_store.specs.Links.{handed_on}
@@ -17,7 +18,7 @@ use Rattle.ioc_dbcommon.specs.declared.link_field.LinkUse.{LinkUse}
 use Rattle.ioc_dbcommon.specs.declared.link_field.StandingLink.{StandingLink}
 use Rattle.ioc_dbcommon.specs.declared.body.Got.{Got}
 use Rattle.ioc_dbcommon.specs.declared.body.Want.{Want}
-use Rattle.ioc_dbcommon.specs.Steps.{blocked, unblocked, with_active, shown, waiting, with_put_mark, with_reprocess_mark, disabled, change_numbered, with_notification}
+use Rattle.ioc_dbcommon.specs.Steps.{blocked, unblocked, with_active, waiting, with_put_mark, with_reprocess_mark, disabled, change_numbered, with_notification}
 use Rattle.ioc_dbcommon.specs.declared.body.InputKind.{InputKind}
 use Rattle.ioc_device.specs.declared.Ask.{Ask}
 use Rattle.ioc_values.specs.declared.value.Finished.{Finished}
@@ -408,10 +409,10 @@ module _ {R : Type 0} (k : RecordRules R) (lawful : IsLawful k) where
       finishes-ended (forward {w} {ready} {w'} {w''} {s} {requests} r f rests) =
           let inside = follows-both f in
           let ready_pending : (common_at k ready s).pending ≡ (common_at k w s).pending =
-          ap (λ (v : World R). (common_at k v s).pending) r ∙ ap (λ (c : Common). c.pending) (common_at-changed k lawful w s (shown w.moment)) in
+          ap (λ (v : World R). (common_at k v s).pending) r ∙ ap (λ (c : Common). c.pending) (showing-common k lawful w s) in
           let last = rests-ended rests in
           record {
-            others = λ n apart. left_on (left_same (subst (λ (v : World R). Same (common_at k w n) (common_at k v n)) (sym r) (changed-but w s (shown w.moment) n apart)))
+            others = λ n apart. left_on (left_same (subst (λ (v : World R). Same (common_at k w n) (common_at k v n)) (sym r) (put-but w s _ n apart)))
                 (left_on (inside.others n apart) (last.others n apart));
             active = last.active;
             pending = last.pending ∙ inside.own.pending ∙ ready_pending;

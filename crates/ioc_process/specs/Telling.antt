@@ -18,7 +18,7 @@ use Rattle.ioc_dbcommon.specs.declared.body.Got.{Got}
 use Rattle.ioc_dbcommon.specs.declared.body.Want.{Want}
 use Rattle.ioc_dbcommon.specs.declared.body.Output.{Output}
 use Rattle.ioc_dbcommon.specs.declared.body.InputKind.{InputKind}
-use Rattle.ioc_dbcommon.specs.Steps.{blocked, unblocked, with_active, shown, waiting, with_put_mark, with_reprocess_mark, disabled, change_numbered, with_notification}
+use Rattle.ioc_dbcommon.specs.Steps.{blocked, unblocked, with_active, waiting, with_put_mark, with_reprocess_mark, disabled, change_numbered, with_notification}
 use Rattle.ioc_record.specs.RecordRules.{RecordRules}
 use Rattle.ioc_record.specs.Laws.{IsLawful}
 use Rattle.ioc_store.specs.Marks.{put_down, put_mark_passed, resumed, at_rest, with_disable_input}
@@ -297,7 +297,7 @@ module _ {R : Type 0} (k : RecordRules R) (lawful : IsLawful k) (n : ℕ) where
 
       finishes-told : {w : World R} {s : ℕ} {w' : World R} {requests : Requests} → Finishes k answers w s w' requests → But s w → IsFree w'
       finishes-told (forward {w} {ready} {w'} {w''} {s} r f rests) but =
-          rests-told rests (follows-told f (λ apart. subst IsFree (sym r) (changed-other w s (shown w.moment) apart (but apart))))
+          rests-told rests (follows-told f (λ apart. subst IsFree (sym r) (put-other w s _ apart (but apart))))
 
       proceeds-told : {w : World R} {s : ℕ} {got : Got} {w' : World R} {requests : Requests} → Proceeds k answers w s got w' requests → But s w → IsFree w'
       proceeds-told (at_once {w} {taken} {w'} {w''} {s} {got} t p f) but = finishes-told f (puts_out-told p (λ apart. subst IsFree (sym t) (put-other w s _ apart (but apart))))

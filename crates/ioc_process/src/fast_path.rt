@@ -1,7 +1,8 @@
 //! Steps that access their record once.
 ghost use Rattle.std.specs.Prelude.{◌≡◌};
 ghost use Rattle.ioc_dbcommon.specs.Links.{record_named, use_of};
-ghost use Rattle.ioc_dbcommon.specs.Steps.{shown, unblocked};
+ghost use Rattle.ioc_dbcommon.specs.Steps.{unblocked};
+ghost use Rattle.ioc_store.specs.Showing.{shown_record, showing};
 ghost use Rattle.ioc_store.specs.World.{Has, common_at, changed};
 ghost use Rattle.ioc_process.specs.Looks.{Begins, Opened, Opens, Shows, shown_on};
 
@@ -85,12 +86,14 @@ pub fn begin_fast<S: Store>(store: &mut S, number: RecordNo, output: &mut Output
     open_record(store.record_mut(number), output)
 }
 
-// Shows the alarms of a record, which is done then if nothing else is left.
+// Shows the alarms of a record and notes which values its monitors are sent. It is done then if
+// nothing else is left.
 #[inline(always)]
 fn show_record<K: RecordKind>(this: &mut K, moment: u64) -> Shown
-    ensures { Shows K.rules (K.rules.with_common this.old (shown moment (K.rules.common this.old))) result this.new }
+    ensures { Shows K.rules (shown_record K.rules moment this.old) result this.new }
 {
     this.common_mut().show(moment);
+    this.post();
     let common = this.common();
     if let Some(target) = common.forward_link.record_named() {
         return Shown::Named(target);
@@ -109,7 +112,7 @@ fn show_record<K: RecordKind>(this: &mut K, moment: u64) -> Shown
 pub fn finish_fast<S: Store>(store: &mut S, number: RecordNo) -> Option<RecordNo>
     requires { Has (S.world store.old) number }
     ensures named { result ≡ record_named (use_of (common_at S.Record.rules
-        (changed S.Record.rules (S.world store.old) number (shown (S.world store.old).moment)) number).forward_link) }
+        (showing S.Record.rules (S.world store.old) number) number).forward_link) }
     ensures world { S.world store.new ≡ shown_on S.Record.rules (S.world store.old) number result }
     ensures given { S.given store.new ≡ S.given store.old }
 {

@@ -1,5 +1,5 @@
 -- A number is shown in the same way in every field.
-use Rattle.std.proofs.Common.{◌≡◌, ℤ, Option, Some, None, ap, ◌∙◌}
+use Rattle.std.proofs.Common.{◌≡◌, ℕ, ℤ, Option, Some, None, ap, ◌∙◌}
 use Rattle.std.specs.Fmt.{signed_decimal}
 use Rattle.ioc_values.specs.declared.value.Value.{Value}
 use Rattle.ioc_values.specs.declared.value.Value.TheVariants as value
@@ -12,18 +12,18 @@ decimal_of : (m z : ℤ) → Some m ≡ Some z → signed_decimal m ≡ signed_d
 decimal_of m z is = cc
 
 -- The number that a value shows, as its plain text.
-plain_number : (v : Value) (z : ℤ) → Some z ≡ number_shown (Some v) → signed_decimal z ≡ plain_text v
-plain_number (value.Long m) z is = decimal_of z m is
-plain_number (value.ULong n) z is = decimal_of z _ is
-plain_number (value.Short m) z is = decimal_of z m is
-plain_number (value.UShort n) z is = decimal_of z _ is
-plain_number (value.UChar n) z is = decimal_of z _ is
-plain_number (value.Enum n) z is = cc
-plain_number (value.Int64 m) z is = decimal_of z m is
-plain_number (value.Double x) z is = cc
-plain_number (value.Text text) z is = cc
+plain_number : (digits : ℕ) (v : Value) (z : ℤ) → Some z ≡ number_shown (Some v) → signed_decimal z ≡ plain_text digits v
+plain_number digits (value.Long m) z is = decimal_of z m is
+plain_number digits (value.ULong n) z is = decimal_of z _ is
+plain_number digits (value.Short m) z is = decimal_of z m is
+plain_number digits (value.UShort n) z is = decimal_of z _ is
+plain_number digits (value.UChar n) z is = decimal_of z _ is
+plain_number digits (value.Enum n) z is = cc
+plain_number digits (value.Int64 m) z is = decimal_of z m is
+plain_number digits (value.Double x) z is = cc
+plain_number digits (value.Text text) z is = cc
 
-pub shown_elsewhere : (sort : FieldSort) (v : Option Value) (z : ℤ) → Some z ≡ number_shown v → signed_decimal z ≡ text_with sort None v
-shown_elsewhere sort None z is = cc
-shown_elsewhere sort (Some v) z is =
-    plain_number v z is ∙ plain_elsewhere sort v (λ n e. let none : Some z ≡ None = is ∙ ap (λ (w : Value). number_shown (Some w)) e in cc)
+pub shown_elsewhere : (sort : FieldSort) (digits : ℕ) (v : Option Value) (z : ℤ) → Some z ≡ number_shown v → signed_decimal z ≡ text_with sort digits None v
+shown_elsewhere sort digits None z is = cc
+shown_elsewhere sort digits (Some v) z is =
+    plain_number digits v z is ∙ plain_elsewhere sort digits v (λ n e. let none : Some z ≡ None = is ∙ ap (λ (w : Value). number_shown (Some w)) e in cc)

@@ -19,12 +19,12 @@ by_kind P long ulong short ushort uchar int64 double text (value.Int64 z) other 
 by_kind P long ulong short ushort uchar int64 double text (value.Double x) other = double x
 by_kind P long ulong short ushort uchar int64 double text (value.Text bytes) other = text bytes
 
-pub plain_elsewhere : (sort : FieldSort) (v : Value) → ((n : ℕ) → v ≡ value.Enum n → ⊥) → plain_text v ≡ value_text sort v
+pub plain_elsewhere : (sort : FieldSort) (digits : ℕ) (v : Value) → ((n : ℕ) → v ≡ value.Enum n → ⊥) → plain_text digits v ≡ value_text sort digits v
 unfolding value_text
-plain_elsewhere (Numbers range) v other = refl
-plain_elsewhere Doubles v other = refl
-plain_elsewhere Texts v other = refl
-plain_elsewhere (Choices texts) v other =
-    by_kind (λ v. plain_text v ≡ choice_text texts v) (λ z. refl) (λ n. refl) (λ z. refl) (λ n. refl) (λ n. refl) (λ z. refl) (λ x. refl) (λ text. refl) v other
-plain_elsewhere (States texts) v other =
-    by_kind (λ v. plain_text v ≡ state_text texts v) (λ z. refl) (λ n. refl) (λ z. refl) (λ n. refl) (λ n. refl) (λ z. refl) (λ x. refl) (λ text. refl) v other
+plain_elsewhere (Numbers range) digits v other = refl
+plain_elsewhere Doubles digits v other = refl
+plain_elsewhere Texts digits v other = refl
+plain_elsewhere (Choices texts) digits v other =
+    by_kind (λ v. plain_text digits v ≡ choice_text texts digits v) (λ z. refl) (λ n. refl) (λ z. refl) (λ n. refl) (λ n. refl) (λ z. refl) (λ x. refl) (λ text. refl) v other
+plain_elsewhere (States texts) digits v other =
+    by_kind (λ v. plain_text digits v ≡ state_text texts digits v) (λ z. refl) (λ n. refl) (λ z. refl) (λ n. refl) (λ n. refl) (λ z. refl) (λ x. refl) (λ text. refl) v other

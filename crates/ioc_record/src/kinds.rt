@@ -16,6 +16,7 @@ pub fn held_by(kind: FieldKind, states: &[Text]) -> Kind<'_>
 {
     match kind {
         FieldKind::Number(range) => Kind::Number(range),
+        FieldKind::Double => Kind::Double,
         FieldKind::Text | FieldKind::Link(_) => Kind::Text,
         FieldKind::Menu(menu) => Kind::Menu(choices(menu)),
         FieldKind::State => Kind::State(states),
@@ -29,6 +30,7 @@ pub fn taken_by(kind: InputKind) -> Kind<'static>
 {
     match kind {
         InputKind::Number(range) => Kind::Number(range),
+        InputKind::Double => Kind::Double,
         InputKind::Text => Kind::Text,
     }
 }

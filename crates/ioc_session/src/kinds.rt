@@ -40,6 +40,7 @@ impl fmt::Display for Taken {
     fn fmt<W: fmt::Write>(&self, f: &mut fmt::Formatter<W>) -> fmt::Result {
         match self.0 {
             FieldKind::Number(range) => f.write_str(range_words(range)),
+            FieldKind::Double => f.write_str("Double, a decimal, nan or inf"),
             FieldKind::Text => f.write_str("a text"),
             FieldKind::Menu(menu) => write_choices(f, choices(menu)),
             FieldKind::State => f.write_str("the text of a state or its number"),

@@ -17,10 +17,11 @@ use Rattle.ioc_dbcommon.specs.declared.body.Output.{Output}
 use Rattle.ioc_dbcommon.specs.declared.body.Output.TheVariants.{WriteLink}
 use Rattle.ioc_dbcommon.specs.declared.body.Want.{Want}
 use Rattle.ioc_dbcommon.specs.declared.body.Want.TheVariants.{ReadLink}
-use Rattle.ioc_dbcommon.specs.Steps.{blocked, unblocked, with_active, with_reprocess_mark, shown}
+use Rattle.ioc_dbcommon.specs.Steps.{blocked, unblocked, with_active, with_reprocess_mark}
 use Rattle.ioc_dbcommon.specs.Links.{use_of}
 use Rattle.ioc_record.specs.RecordRules.{RecordRules}
 use Rattle.ioc_record.specs.Laws.{IsLawful}
+use Rattle.ioc_store.specs.Showing.{links-shown, shown-common}
 use Rattle.ioc_store.specs.declared.outbox.OutboxItem.TheVariants.{Post}
 use Rattle.ioc_store.specs.World.{World, Has, IsClosed, at, common_at, put, changed}
 use Rattle.ioc_store.specs.Worlds.{common_at-changed}
@@ -182,7 +183,7 @@ module _ {R : Type 0} (k : RecordRules R) (lawful : IsLawful k) (answers : Answe
 
     finishes-fine : {due : ℕ} {w : World R} {s : ℕ} {w' : World R} {requests : Requests} → Finishes k answers w s w' requests → Under_ due s w → Fine_ due w'
     finishes-fine (forward {w} {ready} {w'} {w''} {s} r f rests) under =
-        let first = subst (Under_ _ s) (sym r) (under-changed k lawful w0 closed w s (shown w.moment) (λ c. (refl, refl)) (λ c. refl) under) in
+        let first = subst (Under_ _ s) (sym r) (under-put k lawful w0 closed w s _ (links-shown k lawful _ _) (ap (λ (c : Common). c.pending) (shown-common k lawful w.moment (at k w s)) ∙ under.none) under) in
         rests-fine k lawful w0 closed rests (follows-under f first (λ t is. target-has k lawful w0 closed first.fine s t.number (lawful.forward_named (at k ready s) t is)))
 
     proceeds-fine : {due : ℕ} {w : World R} {s : ℕ} {got : Got} {w' : World R} {requests : Requests} → Proceeds k answers w s got w' requests → Under_ due s w → Fine_ due w'

@@ -30,3 +30,4 @@ mod Recounts
 mod Counted
 mod Fewer
 pub mod Gathered
+mod Began

@@ -14,8 +14,7 @@ ghost use Rattle.ioc_store.specs.Given.{Answers};
 ghost use Rattle.ioc_events.specs.declared.event.Event.{Event};
 ghost use Rattle.ioc_events.specs.declared.reply.Reply.{Reply};
 ghost use Rattle.ioc_store.specs.World.{World, common_at};
-ghost use Rattle.ioc_store.specs.Scanning.{with_link_changed};
-ghost use Rattle.ioc_events.specs.declared.reply.Reply.TheVariants.{Notify, Plain};
+ghost use Rattle.ioc_events.specs.declared.reply.Reply.TheVariants.{Notify};
 ghost use Rattle.std.specs.Prelude.{None as Nothing_};
 ghost use Rattle.ioc_events.specs.Step.{link_refusal, all_there};
 ghost use Rattle.ioc_events.specs.Holding.{IsCounted, IsHeld};
@@ -26,7 +25,7 @@ ghost use Rattle.ioc_set_records.specs.Joined.{links_of, IsPart, HasLink};
 ghost use Rattle.ioc_events.specs.declared.event.EventEntry.{EventEntry};
 ghost use Rattle.ioc_set.specs.Awaiting.{awaited};
 ghost use Rattle.ioc_set.specs.SetState.{SetState, NoneIsLive, now_of, folded, held_after};
-ghost use Rattle.ioc_set.specs.Doing.{is_ordinary, Does};
+ghost use Rattle.ioc_set.specs.Doing.{is_ordinary, Does, IsShort};
 ghost use Rattle.ioc_set.specs.Linking.{with_empty_history, AreCalm, AreHeld, MayBeOne};
 ghost use Rattle.ioc_set.specs.Recounting.{AreLive};
 ghost use Rattle.ioc_set.specs.Sound.{CountsAddUp, IsSound, TellsOf};
@@ -88,6 +87,13 @@ pub fn sets_stay_without_puts<K: RecordKind, D: Device>()
     events_count_holders::<K>();
     events_end_what_nobody_has::<K>();
 }
+
+/// If an event leaves a sound set with one event in its history at most, the set's base is its
+/// records before that event.
+pub fn histories_begin_before<K: RecordKind, D: Device>()
+    ensures { (h after : SetState K D) (moment : ℕ) (event : Event) (reply : Reply) (come_to : World K) →
+        Does K.rules D.gives h moment event reply after come_to → IsSound K.rules h → IsShort 0 after → after.base.records ≡ h.records }
+{}
 
 /// A put with notification begins by no other event.
 pub fn notifications_begin_by_notify<K: RecordKind>()

@@ -20,8 +20,9 @@ pub mod set_store;
 pub use attached::Attached;
 pub use event_buffers::EventBuffers;
 pub use laws::{
-    calm_records_are_sound, events_leave_sound, held_records_are_sound, link_changes_are_calls,
-    none_live_stays_so, notifications_begin_by_notify, sets_stay_without_puts,
+    calm_records_are_sound, events_leave_sound, held_records_are_sound, histories_begin_before,
+    link_changes_are_calls, none_live_stays_so, notifications_begin_by_notify,
+    sets_stay_without_puts,
 };
 pub use link_change::LinkChange;
 pub use live_puts::LivePuts;

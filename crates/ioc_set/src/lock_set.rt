@@ -1,5 +1,5 @@
 //! Lock sets.
-ghost use Rattle.std.specs.Prelude.{◌≡◌, ◌<◌, ◌≤◌, ◌^◌, ◌↔◌, ℕ, List, [], ◌∷◌, length, None, Some, IsSome, IsTrue, Contains, IfOk, slice_get};
+ghost use Rattle.std.specs.Prelude.{false, ◌⊎◌, ◌≡◌, ◌<◌, ◌≤◌, ◌^◌, ◌↔◌, ℕ, List, [], ◌∷◌, length, None, Some, IsSome, is_some, IsTrue, Contains, IfOk, slice_get};
 ghost use Rattle.std.specs.FinMap as map;
 ghost use Rattle.ioc_notify.specs.declared.live_numbers.Live.{Live};
 ghost use Rattle.ioc_notify.specs.declared.waiting_lists.Waiting.{Waiting};
@@ -13,7 +13,8 @@ ghost use Rattle.ioc_dbcommon.specs.Links.{use_of, named_by};
 ghost use Rattle.ioc_store.specs.Scanning.{device_of};
 ghost use Rattle.ioc_record.specs.Values.{stops_put};
 ghost use Rattle.ioc_store.specs.World.{Has, at, common_at};
-ghost use Rattle.ioc_set_records.specs.Contents.{RecordsAreLikeTheirBase};
+ghost use Rattle.ioc_set_records.specs.Changed.{IsListed};
+ghost use Rattle.ioc_set_records.specs.Contents.{RecordsAreLikeTheirBase, record_at};
 ghost use Rattle.ioc_set_records.specs.Joined.{links_of, IsPart, HasLink};
 ghost use Rattle.ioc_set.specs.SetState.{NoneIsLive, now_of, nothing_held, folded};
 ghost use Rattle.ioc_set.specs.Resting.{resting};
@@ -117,6 +118,13 @@ impl<K: RecordKind, D> LockSet<K, D> {
         self.members.devices_are_owned();
     }
 
+    /// The set had the same records before the first event of the history.
+    pub fn has_its_base(&self)
+        ensures { (q : ℕ) → is_some (map.get self.now.base.records q) ≡ is_some (map.get self.now.records q) }
+    {
+        self.members.devices_are_owned();
+    }
+
     /// Returns the records, each with its device. The counts and the history are dropped.
     pub fn into_members(self) -> Members<K, D>
         ensures { (result.records ≡ self.records) × (result.devices ≡ self.devices) }
@@ -159,6 +167,24 @@ impl<K: RecordKind, D> LockSet<K, D> {
         ensures { map.get self.now.records number ≡ Some result.now }
     {
         self.members.record(number)
+    }
+
+    /// Returns the places of the records that may differ from what they were before the first event
+    /// of the history. A place is that of [`LockSet::number_at`].
+    pub fn changed(&self) -> &[usize]
+        ensures { (n : ℕ) → Has (now_of self.now) n → IsListed self.now.records result.now n
+            ⊎ (record_at K.rules self.now.base.records n ≡ record_at K.rules self.now.records n) }
+    {
+        self.members.changed()
+    }
+
+    /// Returns whether a record of this set may differ from what it was before the first event of the
+    /// history.
+    pub fn may_differ(&self, number: RecordNo) -> bool
+        requires { Has (now_of self.now) number }
+        ensures { result ≡ false → record_at K.rules self.now.base.records number ≡ record_at K.rules self.now.records number }
+    {
+        self.members.may_differ(number)
     }
 
     /// Returns the counts of requests, and of calls that are answered later. If a set is divided,

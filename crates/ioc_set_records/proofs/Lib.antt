@@ -25,3 +25,4 @@ mod Seen
 mod Sides
 mod Slotted
 mod Twins
+mod Marked

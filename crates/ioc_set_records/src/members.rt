@@ -1,11 +1,11 @@
 //! The records of a lock set, and their devices.
-ghost use Rattle.std.specs.Prelude.{◌≡◌, ◌<◌, ◌+◌, ◌^◌, ℕ, ◌↔◌, IsTrue, IsSome, is_some, IfOk, OnOk, OnErr, Contains, [], ◌∷◌, None, slice_get, Some};
+ghost use Rattle.std.specs.Prelude.{◌≡◌, ◌<◌, ◌+◌, ◌^◌, ℕ, ◌↔◌, ◌⊎◌, IsTrue, IsSome, false, IfOk, OnOk, OnErr, Contains, [], ◌∷◌, None, slice_get, Some};
 ghost use Rattle.std.specs.Borrow.{Lends, sem};
 ghost use Rattle.std.specs.FinMap as map;
 ghost use Rattle.ioc_set_records.specs.contracts.members.Members.{the_row};
 ghost use Rattle.ioc_dbcommon.specs.Links.{use_of, named_by};
 ghost use Rattle.ioc_set_records.specs.Answers.{Gives, GivesAt};
-ghost use Rattle.ioc_set_records.specs.Changed.{all_changed};
+ghost use Rattle.ioc_set_records.specs.Changed.{all_changed, IsListed};
 ghost use Rattle.ioc_set_records.specs.Contents.{nothing, record_at, with_device, DevicesAreOwned, BaseHasTheSame, RecordsAreLikeTheirBase};
 ghost use Rattle.ioc_set_records.specs.Joined.{links_of, IsPart, HasLink, HasFreeLink};
 ghost use Rattle.ioc_set_records.specs.Slots.{AreAscending, contents_of};
@@ -286,6 +286,27 @@ impl<K: RecordKind, D> Members<K, D> {
             unreachable!()
         };
         &self.slots[place].base
+    }
+
+    /// Returns the places of the records that may differ from their bases, as they were borrowed
+    /// mutably since the last [`Members::fold`]. A place is that of [`Members::number_at`].
+    pub fn changed(&self) -> &[usize]
+        ensures { (n : ℕ) → IsTrue (map.contains_key self.now.records n)
+            → IsListed self.now.records result.now n ⊎ (record_at K.rules self.now.base n ≡ record_at K.rules self.now.records n) }
+    {
+        self.changed.as_slice()
+    }
+
+    /// Returns whether a record of this set may differ from its base: it was borrowed mutably since
+    /// the last [`Members::fold`].
+    pub fn may_differ(&self, number: RecordNo) -> bool
+        requires { IsTrue (map.contains_key self.now.records number) }
+        ensures { result ≡ false → record_at K.rules self.now.base number ≡ record_at K.rules self.now.records number }
+    {
+        let Some(place) = place_of(&self.slots, self.latest, number) else {
+            unreachable!()
+        };
+        self.slots[place].is_changed
     }
 
     /// Returns a record of this set for changes. Its base is unchanged.

@@ -5,7 +5,7 @@
 use ioc_fields::RecordType;
 
 /// The types of records that this project has.
-pub static TYPES: [&str; 12] = [
+pub static TYPES: [&str; 14] = [
     "longin",
     "longout",
     "int64in",
@@ -18,15 +18,15 @@ pub static TYPES: [&str; 12] = [
     "stringout",
     "fanout",
     "event",
+    "ai",
+    "ao",
 ];
 
-static LEFT_OUT_TYPES: [&str; 26] = [
+static LEFT_OUT_TYPES: [&str; 24] = [
     "aai",
     "aao",
     "aSub",
     "acalcout",
-    "ai",
-    "ao",
     "calc",
     "calcout",
     "compress",
@@ -76,6 +76,12 @@ static LEFT_OUT_STRING_FIELDS: [&str; 3] = ["APST", "MPST", "OVAL"];
 
 static LEFT_OUT_EVENT_FIELDS: [&str; 1] = ["EPVT"];
 
+static LEFT_OUT_AI_FIELDS: [&str; 5] = ["AFTC", "AFVL", "LBRK", "ORAW", "PBRK"];
+
+static LEFT_OUT_AO_FIELDS: [&str; 8] = [
+    "INIT", "LBRK", "OMOD", "ORAW", "ORBV", "OUTPVT", "PBRK", "RBV",
+];
+
 /// The names of device support that this project has.
 pub static DEVICE_TYPES: [&str; 2] = ["Soft Channel", "Raw Soft Channel"];
 
@@ -110,6 +116,8 @@ fn left_out_own_fields(record_type: RecordType) -> &'static [&'static str] {
         RecordType::Mbbo => &LEFT_OUT_MBBO_FIELDS,
         RecordType::Stringin | RecordType::Stringout => &LEFT_OUT_STRING_FIELDS,
         RecordType::Event => &LEFT_OUT_EVENT_FIELDS,
+        RecordType::Ai => &LEFT_OUT_AI_FIELDS,
+        RecordType::Ao => &LEFT_OUT_AO_FIELDS,
         RecordType::Fanout => &[],
     }
 }

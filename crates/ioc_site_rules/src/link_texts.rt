@@ -10,7 +10,7 @@ use ioc_site::Word;
 use ioc_spelling::nearest;
 use ioc_values::number::is_number;
 use ioc_values::trim::trim;
-use ioc_values::{Kind, MAX_FIELD_NAME_BYTES, MAX_TEXT_BYTES, Range, of_number};
+use ioc_values::{Kind, MAX_FIELD_NAME_BYTES, MAX_TEXT_BYTES, Range, double_of_text, of_number};
 use std::alloc::{AllocError, Global};
 use std::fmt;
 
@@ -186,9 +186,27 @@ fn meant_by(alloc: Global, fault: &LinkFault<'_>) -> Result<Option<&'static str>
     }
 }
 
-/// Returns the range of a constant in the link field, or `None` if any constant is allowed, also one
+/// What a constant in a link field must be.
+#[derive(Clone, Copy, Debug, PartialEq, Eq)]
+pub enum ConstantKind {
+    /// A whole number in this range.
+    Whole(Range),
+    /// A double that isn't infinite.
+    Double,
+}
+
+/// Returns what a constant in the link field must be, or `None` if any constant is allowed, also one
 /// with a point or an exponent.
-pub fn constant_range(record_type: RecordType, field: FieldNo) -> Option<Range> {
+pub fn constant_kind(record_type: RecordType, field: FieldNo) -> Option<ConstantKind> {
+    match (record_type, field) {
+        (RecordType::Ai, FieldNo::Own(OwnField::Inp))
+        | (RecordType::Ao, FieldNo::Own(OwnField::Dol)) => Some(ConstantKind::Double),
+        _ => constant_range(record_type, field).map(ConstantKind::Whole),
+    }
+}
+
+// Returns the range of a constant in the link field, if it must be a whole number.
+fn constant_range(record_type: RecordType, field: FieldNo) -> Option<Range> {
     match (record_type, field) {
         (_, FieldNo::Common(CommonField::Sdis)) => Some(Range::Short),
         (RecordType::Longin, FieldNo::Own(OwnField::Inp))
@@ -202,28 +220,36 @@ pub fn constant_range(record_type: RecordType, field: FieldNo) -> Option<Range> 
     }
 }
 
-/// Why a link isn't allowed in a field whose constants have a range.
+/// Why a link isn't allowed in a field whose constants must convert.
 #[derive(Clone, Copy, Debug, PartialEq, Eq)]
 enum ConstantFault {
     /// It is a constant with a point or an exponent.
     NotWhole,
     OutOfRange(Range),
+    /// It is too large for a double.
+    TooLarge,
 }
 
-// Returns the fault of a constant in a field with this range. No other link has one.
-fn constant_fault(range: Option<Range>, link: &Link) -> Option<ConstantFault> {
-    match (range?, link) {
-        (_, Link::Real(_)) => Some(ConstantFault::NotWhole),
-        (range, Link::Constant(constant)) => match of_number(Kind::Number(range), *constant) {
+// Returns the fault of a constant that must be of this kind. No other link has one.
+fn constant_fault(kind: Option<ConstantKind>, link: &Link) -> Option<ConstantFault> {
+    match (kind?, link) {
+        (ConstantKind::Whole(_), Link::Real(_)) => Some(ConstantFault::NotWhole),
+        (ConstantKind::Whole(range), Link::Constant(constant)) => {
+            match of_number(Kind::Number(range), *constant) {
+                Some(_) => None,
+                None => Some(ConstantFault::OutOfRange(range)),
+            }
+        }
+        (ConstantKind::Double, Link::Real(text)) => match double_of_text(text.as_slice()) {
             Some(_) => None,
-            None => Some(ConstantFault::OutOfRange(range)),
+            None => Some(ConstantFault::TooLarge),
         },
         _ => None,
     }
 }
 
-/// Checks the text of a link field, in which a constant has this range, and returns whether it is
-/// allowed. What is wrong is reported.
+/// Checks the text of a link field, in which a constant must be of this kind, and returns whether it
+/// is allowed. What is wrong is reported.
 ///
 /// # Errors
 ///
@@ -231,17 +257,20 @@ fn constant_fault(range: Option<Range>, link: &Link) -> Option<ConstantFault> {
 pub fn accepts_link(
     owner: &FieldOf<'_>,
     role: LinkRole,
-    range: Option<Range>,
+    kind: Option<ConstantKind>,
     word: &Word,
     report: &mut Report,
 ) -> Result<bool, AllocError> {
     let value = word.text.as_slice();
     let shown = Shown(trim(value, true));
     let text = match parse(role.link_kind(), value) {
-        Ok(link) => match constant_fault(range, &link) {
+        Ok(link) => match constant_fault(kind, &link) {
             None => return Ok(true),
             Some(ConstantFault::NotWhole) => {
                 format!(in report.alloc; "{owner}: '{shown}' is no whole number; scale it")?
+            }
+            Some(ConstantFault::TooLarge) => {
+                format!(in report.alloc; "{owner}: '{shown}' is too large for a double")?
             }
             Some(ConstantFault::OutOfRange(range)) => {
                 let limits = Limits(range);

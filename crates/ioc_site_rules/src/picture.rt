@@ -43,6 +43,8 @@ fn colour_of(record_type: Option<RecordType>) -> &'static str {
         Some(RecordType::Stringout) => "#fff2cc",
         Some(RecordType::Fanout) => "#d9ead3",
         Some(RecordType::Event) => "#b6d7a8",
+        Some(RecordType::Ai) => "#c9daf8",
+        Some(RecordType::Ao) => "#f6b26b",
         None => "#eeeeee",
     }
 }

@@ -1,6 +1,6 @@
 //! The values of fields that aren't links.
 use crate::known::is_left_out_choice;
-use crate::link_texts::{accepts_link, constant_range};
+use crate::link_texts::{accepts_link, constant_kind};
 use crate::report::Report;
 use crate::site::SiteRecord;
 use crate::wording::{Listed, Meant, Shown};
@@ -70,6 +70,24 @@ fn accepts_number(
     } else {
         format!(in report.alloc; "{owner} takes a whole number, and '{shown}' is none")?
     };
+    report.error(word.place, text)?;
+    Ok(false)
+}
+
+// Checks the value of a double.
+fn accepts_double(
+    owner: &FieldOf<'_>,
+    word: &Word,
+    report: &mut Report,
+) -> Result<bool, AllocError> {
+    let value = word.text.as_slice();
+    if value.is_empty() || convert_text(value, Kind::Double).is_ok() {
+        return Ok(true);
+    }
+    let shown = Shown(value);
+    let text = format!(in report.alloc;
+        "{owner} takes a decimal, a hexadecimal whole number, nan or inf, and '{shown}' is none"
+    )?;
     report.error(word.place, text)?;
     Ok(false)
 }
@@ -210,11 +228,12 @@ pub fn accepts(
     }
     match kind {
         FieldKind::Number(range) => accepts_number(&owner, range, word, report),
+        FieldKind::Double => accepts_double(&owner, word, report),
         FieldKind::Menu(menu) => accepts_choice(&owner, menu, word, report),
         FieldKind::State => accepts_state(record, record_type, &owner, word, report),
         FieldKind::Link(role) => {
-            let range = constant_range(record_type, field);
-            accepts_link(&owner, role, range, word, report)
+            let kind = constant_kind(record_type, field);
+            accepts_link(&owner, role, kind, word, report)
         }
         FieldKind::Text => {
             check_length(&owner, word, report)?;

@@ -18,3 +18,4 @@ pub mod NotifyLaws
 pub mod StepFrames
 pub mod Named
 pub mod Freeing
+pub mod Showing

@@ -1,4 +1,5 @@
 //! The tests, by what they test, and what they share.
+mod analog;
 mod devices;
 mod directory;
 mod endings;

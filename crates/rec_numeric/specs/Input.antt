@@ -1,7 +1,8 @@
 -- The types longin and int64in. Record Reference Manual, "Long Input Record" and "64bit Integer
 -- Input Record".
-use Rattle.std.specs.Prelude.{ℤ, []}
+use Rattle.std.specs.Prelude.{[]}
 use Rattle.ioc_values.specs.declared.value.Value.{Value}
+use Rattle.ioc_alarms.specs.Order.{LimitOrder}
 use Rattle.ioc_fields.specs.declared.field_no.OwnField.{OwnField}
 use Rattle.ioc_fields.specs.declared.field_no.OwnField.TheVariants.{Val}
 use Rattle.ioc_dbcommon.specs.declared.body.Got.{Got}
@@ -31,9 +32,9 @@ input_stored k h field v = numbers_stored k h field v
 -- ---- The body
 
 -- The fields with the alarms of the number raised.
-abbrev pub alarmed : {N : Type 0} → (N → ℤ) → BodyState (NumericInput N) → BodyState (NumericInput N)
-alarmed whole h =
-    let t = tested whole (record { body = h.body.numbers; condition = h.condition }) in
+abbrev pub alarmed : {N : Type 0} → LimitOrder N → BodyState (NumericInput N) → BodyState (NumericInput N)
+alarmed order h =
+    let t = tested order (record { body = h.body.numbers; condition = h.condition }) in
     record { body = record h.body { numbers = t.body }; condition = t.condition }
 
 -- The fields after the input. A value is stored in VAL and clears UDF; without a value, and after a
@@ -42,13 +43,13 @@ abbrev pub came : {N : Type 0} → NumberRules N → BodyState (NumericInput N) 
 came k h (got.Value v) = input_stored k h Val v
 came k h _ = h
 
-unfoldable pub input_taken : {N : Type 0} → NumberRules N → (N → ℤ) → BodyState (NumericInput N) → Got → BodyState (NumericInput N)
-input_taken k whole h got = alarmed whole (came k h got)
+unfoldable pub input_taken : {N : Type 0} → NumberRules N → LimitOrder N → BodyState (NumericInput N) → Got → BodyState (NumericInput N)
+input_taken k order h got = alarmed order (came k h got)
 
 -- ---- All of it
 
-abbrev pub numeric_input : {N : Type 0} → NumberRules N → (N → ℤ) → BodyRules (NumericInput N)
-numeric_input k whole = record {
+abbrev pub numeric_input : {N : Type 0} → NumberRules N → LimitOrder N → BodyRules (NumericInput N)
+numeric_input k order = record {
   missing = new_input k;
   record_type = λ b. k.input_type;
   link = λ b. source_link b.source.input;
@@ -58,8 +59,9 @@ numeric_input k whole = record {
   stored = input_stored k;
   begin = λ b. source_begin b.source.input;
   input_kind = λ h. input.Number k.range;
-  taken = input_taken k whole;
+  taken = input_taken k order;
   output = λ h got. NoOutput;
+  posted = λ b. b;
   constant_kind = λ h. inp_constant_kind (input.Number k.range);
   loaded = λ h. constant_loaded (input_stored k) (λ b. record b { numbers = with_last_alarmed b.numbers }) k.range h h.body.source.input.link;
 }

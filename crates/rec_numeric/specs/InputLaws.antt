@@ -1,5 +1,5 @@
 -- The types longin and int64in keep the laws of record types.
-use Rattle.std.proofs.Common.{◌≡◌, ℤ, true, [], Option, Some, None, refl, sym, ap, subst, ◌∙◌}
+use Rattle.std.proofs.Common.{◌≡◌, true, [], Option, Some, None, refl, sym, ap, subst, ◌∙◌}
 use Rattle.std.specs.Prelude.{is_some}
 use Rattle.ioc_values.specs.declared.value.Value.{Value}
 use Rattle.ioc_values.specs.declared.kind.Range.{Range}
@@ -8,6 +8,7 @@ use Rattle.ioc_values.specs.Conversion.{Numbers, of_number}
 use Rattle.ioc_links.specs.declared.link.Link.{Link}
 use Rattle.ioc_links.specs.declared.link.Link.TheVariants.{Constant}
 use Rattle.ioc_fields.specs.declared.field_no.FieldNo.TheVariants.{Own}
+use Rattle.ioc_alarms.specs.Order.{LimitOrder}
 use Rattle.ioc_fields.specs.declared.field_no.OwnField.{OwnField}
 use Rattle.ioc_fields.specs.declared.field_no.OwnField.TheVariants.{Val, Inp}
 use Rattle.ioc_fields.specs.Table.{row_of, numeric_input_row, numeric_row, can_put, is_link, kind_of}
@@ -35,7 +36,7 @@ unfolding numeric_input_row numeric_row
 links_by input range Inp = refl
 links_by input range _ = refl
 
-module _ {N : Type 0} (k : NumberRules N) (whole : N → ℤ) (lawful : IsLawfulNumber k) where
+module _ {N : Type 0} (k : NumberRules N) (order : LimitOrder N) (lawful : IsLawfulNumber k) where
   -- Neither the body nor a store changes INP.
   stored-source : (h : BodyState (NumericInput N)) (f : OwnField) (v : Value) → (input_stored k h f v).body.source ≡ h.body.source
   unfolding input_stored
@@ -46,7 +47,7 @@ module _ {N : Type 0} (k : NumberRules N) (whole : N → ℤ) (lawful : IsLawful
   came-source h (got.Value v) = stored-source h Val v
   came-source h _ = refl
 
-  taken-source : (h : BodyState (NumericInput N)) (got : Got) → (input_taken k whole h got).body.source ≡ h.body.source
+  taken-source : (h : BodyState (NumericInput N)) (got : Got) → (input_taken k order h got).body.source ≡ h.body.source
   unfolding input_taken
   taken-source h got = came-source h got
 
@@ -77,11 +78,11 @@ module _ {N : Type 0} (k : NumberRules N) (whole : N → ℤ) (lawful : IsLawful
   unfolding row_of
   reads_back h f v can is = reads_back_by h f v (subst can_put_by (lawful.input_row f) can) (subst (λ r. IsValueBy r v) (lawful.input_row f) is)
 
-  pub input_lawful : IsLawfulBody (numeric_input k whole)
+  pub input_lawful : IsLawfulBody (numeric_input k order)
   input_lawful = record {
     missing_links = missing-links;
     link_there = link-there;
-    type_stays = record { taken = λ h got. refl; stored = λ h f v. refl; set = λ b f l. refl; loaded = λ h. refl };
+    type_stays = record { taken = λ h got. refl; stored = λ h f v. refl; set = λ b f l. refl; loaded = λ h. refl; posted = λ b. refl };
     taken_links = λ h got. ap (λ (s : Source). source_link s.input) (taken-source h got);
     stored_links = λ h f v. ap (λ (s : Source). source_link s.input) (stored-source h f v);
     set_here = λ b f l is. source_set_here b.source f l is;
@@ -89,6 +90,7 @@ module _ {N : Type 0} (k : NumberRules N) (whole : N → ℤ) (lawful : IsLawful
     set_others = λ b f g l apart. source_set_others b.source f g l apart;
     set_twice = λ b f l m. ap (λ s. record b { source = s }) (source_set_twice b.source f l m);
     set_values = λ b f l g. refl;
+    posted_links = λ b. refl;
     loaded_links = λ h. ap (λ (s : Source). source_link s.input) (put-source h h.body.source.input.link);
     put_reads_back = reads_back;
     begin_named = λ b t is. record { field = Inp; link = b.source.input; is = refl; leads = source_begin_leads b.source.input t is };
@@ -114,5 +116,5 @@ module _ {N : Type 0} (k : NumberRules N) (whole : N → ℤ) (lawful : IsLawful
   unfolding row_of
   new_links f is = new_links_by f (subst (λ r. is_link_by r ≡ true) (lawful.input_row f) is)
 
-  pub input_new : IsNewBody (numeric_input k whole) (new_input k)
+  pub input_new : IsNewBody (numeric_input k order) (new_input k)
   input_new = record { values = new_values; links = new_links }

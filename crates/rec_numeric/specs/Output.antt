@@ -1,7 +1,8 @@
 -- The types longout and int64out. Record Reference Manual, "Long Output Record" and "64bit Integer
 -- Output Record".
-use Rattle.std.specs.Prelude.{ℤ, int_lt, if◌then◌else◌, [], Option, Some, unwrap_or}
+use Rattle.std.specs.Prelude.{if◌then◌else◌, [], Option, Some, unwrap_or}
 use Rattle.ioc_values.specs.declared.value.Value.{Value}
+use Rattle.ioc_alarms.specs.Order.{LimitOrder}
 use Rattle.ioc_fields.specs.declared.field_no.OwnField.{OwnField}
 use Rattle.ioc_fields.specs.declared.field_no.OwnField.TheVariants.{Val, Omsl, Drvh, Drvl, Ivoa, Ivov}
 use Rattle.ioc_dbcommon.specs.declared.body.Got.{Got}
@@ -49,16 +50,16 @@ abbrev pub with_value : {N : Type 0} → NumericOutput N → N → NumericOutput
 with_value b value = record b { numbers = record b.numbers { value = value } }
 
 -- The value, or the limit that it exceeds.
-unfoldable pub within : {N : Type 0} → (N → ℤ) → N → N → N → N
-within whole value low high = if int_lt (whole value) (whole low) then low else if int_lt (whole high) (whole value) then high else value
+unfoldable pub within : {N : Type 0} → LimitOrder N → N → N → N → N
+within order value low high = if order.is_less value low then low else if order.is_less high value then high else value
 
 -- VAL within the drive limits, which only apply if DRVH is greater than DRVL.
-unfoldable pub limited_value : {N : Type 0} → (N → ℤ) → NumericOutput N → N
-limited_value whole b =
-    if int_lt (whole b.drive_low) (whole b.drive_high) then within whole b.numbers.value b.drive_low b.drive_high else b.numbers.value
+unfoldable pub limited_value : {N : Type 0} → LimitOrder N → NumericOutput N → N
+limited_value order b =
+    if order.is_less b.drive_low b.drive_high then within order b.numbers.value b.drive_low b.drive_high else b.numbers.value
 
-abbrev pub limited : {N : Type 0} → (N → ℤ) → BodyState (NumericOutput N) → BodyState (NumericOutput N)
-limited whole h = record h { body = with_value h.body (limited_value whole h.body) }
+abbrev pub limited : {N : Type 0} → LimitOrder N → BodyState (NumericOutput N) → BodyState (NumericOutput N)
+limited order h = record h { body = with_value h.body (limited_value order h.body) }
 
 -- The fields with a value stored in VAL, which clears UDF.
 abbrev pub given : {N : Type 0} → NumberRules N → BodyState (NumericOutput N) → Value → BodyState (NumericOutput N)
@@ -66,38 +67,38 @@ given k h v = record { body = with_value h.body (unwrap_or (k.in_value v) h.body
 
 -- The fields after the input. A value is stored in VAL, which is kept within the drive limits, also
 -- without a value. After a fault everything stays the same.
-abbrev pub came : {N : Type 0} → NumberRules N → (N → ℤ) → BodyState (NumericOutput N) → Got → BodyState (NumericOutput N)
-came k whole h (got.Value v) = limited whole (given k h v)
-came k whole h got.Nothing = limited whole h
-came k whole h got.Fault = h
+abbrev pub came : {N : Type 0} → NumberRules N → LimitOrder N → BodyState (NumericOutput N) → Got → BodyState (NumericOutput N)
+came k order h (got.Value v) = limited order (given k h v)
+came k order h got.Nothing = limited order h
+came k order h got.Fault = h
 
 -- The fields with the alarms of the number raised.
-abbrev pub alarmed : {N : Type 0} → (N → ℤ) → BodyState (NumericOutput N) → BodyState (NumericOutput N)
-alarmed whole h =
-    let t = tested whole (record { body = h.body.numbers; condition = h.condition }) in
+abbrev pub alarmed : {N : Type 0} → LimitOrder N → BodyState (NumericOutput N) → BodyState (NumericOutput N)
+alarmed order h =
+    let t = tested order (record { body = h.body.numbers; condition = h.condition }) in
     record { body = record h.body { numbers = t.body }; condition = t.condition }
 
-unfoldable pub worked : {N : Type 0} → NumberRules N → (N → ℤ) → BodyState (NumericOutput N) → Got → BodyState (NumericOutput N)
-worked k whole h got = alarmed whole (came k whole h got)
+unfoldable pub worked : {N : Type 0} → NumberRules N → LimitOrder N → BodyState (NumericOutput N) → Got → BodyState (NumericOutput N)
+worked k order h got = alarmed order (came k order h got)
 
 -- The fields with VAL set to IVOV, unlimited, if IVOA says so.
 unfoldable pub settled : {N : Type 0} → BodyState (NumericOutput N) → BodyState (NumericOutput N)
 settled h = if sets h.body.drive.on_invalid h.condition then record h { body = with_value h.body h.body.invalid_value } else h
 
-unfoldable pub output_taken : {N : Type 0} → NumberRules N → (N → ℤ) → BodyState (NumericOutput N) → Got → BodyState (NumericOutput N)
-output_taken k whole h got = settled (worked k whole h got)
+unfoldable pub output_taken : {N : Type 0} → NumberRules N → LimitOrder N → BodyState (NumericOutput N) → Got → BodyState (NumericOutput N)
+output_taken k order h got = settled (worked k order h got)
 
 -- The output of VAL, unless IVOA says that nothing is driven.
 abbrev pub driven : {N : Type 0} → NumberRules N → BodyState (NumericOutput N) → Output
 driven k h = if drives h.body.drive.on_invalid h.condition then written h.body.drive.output (k.value h.body.numbers.value) else NoOutput
 
-unfoldable pub output_driven : {N : Type 0} → NumberRules N → (N → ℤ) → BodyState (NumericOutput N) → Got → Output
-output_driven k whole h got = driven k (output_taken k whole h got)
+unfoldable pub output_driven : {N : Type 0} → NumberRules N → LimitOrder N → BodyState (NumericOutput N) → Got → Output
+output_driven k order h got = driven k (output_taken k order h got)
 
 -- ---- All of it
 
-abbrev pub numeric_output : {N : Type 0} → NumberRules N → (N → ℤ) → BodyRules (NumericOutput N)
-numeric_output k whole = record {
+abbrev pub numeric_output : {N : Type 0} → NumberRules N → LimitOrder N → BodyRules (NumericOutput N)
+numeric_output k order = record {
   missing = new_output k;
   record_type = λ b. k.output_type;
   link = λ b. drive_link b.drive.output b.drive.desired;
@@ -107,8 +108,9 @@ numeric_output k whole = record {
   stored = output_stored k;
   begin = λ b. drive_begin b.drive.mode b.drive.desired;
   input_kind = λ h. input.Number k.range;
-  taken = output_taken k whole;
-  output = output_driven k whole;
+  taken = output_taken k order;
+  output = output_driven k order;
+  posted = λ b. b;
   constant_kind = λ h. dol_constant_kind (input.Number k.range);
   loaded = λ h. constant_loaded (output_stored k) (λ b. record b { numbers = with_last_alarmed b.numbers }) k.range h h.body.drive.desired.link;
 }

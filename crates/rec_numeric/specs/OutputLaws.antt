@@ -1,5 +1,5 @@
 -- The types longout and int64out keep the laws of record types.
-use Rattle.std.proofs.Common.{◌≡◌, ℤ, Bool, true, false, cond, [], Option, Some, None, refl, sym, ap, subst, ◌∙◌}
+use Rattle.std.proofs.Common.{◌≡◌, Bool, true, false, cond, [], Option, Some, None, refl, sym, ap, subst, ◌∙◌}
 use Rattle.std.specs.Prelude.{is_some, ◌≢◌}
 use Rattle.ioc_values.specs.declared.value.Value.{Value}
 use Rattle.ioc_values.specs.declared.kind.Range.{Range}
@@ -8,6 +8,7 @@ use Rattle.ioc_values.specs.Conversion.{Numbers, of_number}
 use Rattle.ioc_links.specs.declared.link.Link.{Link}
 use Rattle.ioc_links.specs.declared.link.Link.TheVariants.{Constant}
 use Rattle.ioc_fields.specs.declared.field_no.FieldNo.TheVariants.{Own}
+use Rattle.ioc_alarms.specs.Order.{LimitOrder}
 use Rattle.ioc_fields.specs.declared.field_no.OwnField.{OwnField}
 use Rattle.ioc_fields.specs.declared.field_no.OwnField.TheVariants.{Out, Dol, Omsl, Drvh, Drvl, Ivoa, Ivov}
 use Rattle.ioc_fields.specs.Table.{row_of, output_row, numeric_output_row, numeric_row, can_put, is_link, kind_of}
@@ -46,7 +47,7 @@ links d = drive_link d.output d.desired
 stored_drive-links : (d : Drive) (f : OwnField) (v : Value) → links (drive_stored d f v) ≡ links d
 stored_drive-links d f v = ap (λ l. drive_link l (drive_stored d f v).desired) (drive_stored-output d f v) ∙ ap (drive_link d.output) (drive_stored-desired d f v)
 
-module _ {N : Type 0} (k : NumberRules N) (whole : N → ℤ) (lawful : IsLawfulNumber k) where
+module _ {N : Type 0} (k : NumberRules N) (order : LimitOrder N) (lawful : IsLawfulNumber k) where
   -- Neither the body nor a store changes the links.
   stored-links : (h : BodyState (NumericOutput N)) (f : OwnField) (v : Value) → links (output_stored k h f v).body.drive ≡ links h.body.drive
   unfolding output_stored
@@ -54,7 +55,7 @@ module _ {N : Type 0} (k : NumberRules N) (whole : N → ℤ) (lawful : IsLawful
   stored-links h Ivoa v = stored_drive-links h.body.drive Ivoa v
   stored-links h _ v = refl
 
-  worked-drive : (h : BodyState (NumericOutput N)) (got : Got) → (worked k whole h got).body.drive ≡ h.body.drive
+  worked-drive : (h : BodyState (NumericOutput N)) (got : Got) → (worked k order h got).body.drive ≡ h.body.drive
   unfolding worked
   worked-drive h (got.Value v) = refl
   worked-drive h _ = refl
@@ -67,9 +68,9 @@ module _ {N : Type 0} (k : NumberRules N) (whole : N → ℤ) (lawful : IsLawful
   unfolding settled
   settled-drive h = either-drive (sets h.body.drive.on_invalid h.condition) (record h { body = with_value h.body h.body.invalid_value }) h h.body.drive refl refl
 
-  taken-drive : (h : BodyState (NumericOutput N)) (got : Got) → (output_taken k whole h got).body.drive ≡ h.body.drive
+  taken-drive : (h : BodyState (NumericOutput N)) (got : Got) → (output_taken k order h got).body.drive ≡ h.body.drive
   unfolding output_taken
-  taken-drive h got = settled-drive (worked k whole h got) ∙ worked-drive h got
+  taken-drive h got = settled-drive (worked k order h got) ∙ worked-drive h got
 
   stored_if-drive : (h : BodyState (NumericOutput N)) (o : Option Value) → (stored_if (output_stored k) h o).body.drive ≡ h.body.drive
   unfolding output_stored
@@ -116,21 +117,21 @@ module _ {N : Type 0} (k : NumberRules N) (whole : N → ℤ) (lawful : IsLawful
   driven_leads true out x v t is = written_leads out x v t is
   driven_leads false out x v t is = cc
 
-  output_leads : (h : BodyState (NumericOutput N)) (got : Got) (t : StandingLink) (v : Value) → output_driven k whole h got ≡ WriteLink (Standing t) v → use_of h.body.drive.output ≡ Standing t
+  output_leads : (h : BodyState (NumericOutput N)) (got : Got) (t : StandingLink) (v : Value) → output_driven k order h got ≡ WriteLink (Standing t) v → use_of h.body.drive.output ≡ Standing t
   unfolding output_driven
   output_leads h got t v is =
-      let d = output_taken k whole h got in
+      let d = output_taken k order h got in
       ap (λ (x : Drive). use_of x.output) (sym (taken-drive h got))
       ∙ driven_leads (drives d.body.drive.on_invalid d.condition) d.body.drive.output (k.value d.body.numbers.value) v t is
 
   reads_none : reads_device k.output_type ≢ true
   reads_none reads = let no : false ≡ true = sym lawful.writes ∙ reads in cc
 
-  pub output_lawful : IsLawfulBody (numeric_output k whole)
+  pub output_lawful : IsLawfulBody (numeric_output k order)
   output_lawful = record {
     missing_links = missing-links;
     link_there = link-there;
-    type_stays = record { taken = λ h got. refl; stored = λ h f v. refl; set = λ b f l. refl; loaded = λ h. refl };
+    type_stays = record { taken = λ h got. refl; stored = λ h f v. refl; set = λ b f l. refl; loaded = λ h. refl; posted = λ b. refl };
     taken_links = λ h got. ap links (taken-drive h got);
     stored_links = stored-links;
     set_here = λ b f l is. drive_set_here b.drive f l is;
@@ -138,6 +139,7 @@ module _ {N : Type 0} (k : NumberRules N) (whole : N → ℤ) (lawful : IsLawful
     set_others = λ b f g l apart. drive_set_others b.drive f g l apart;
     set_twice = λ b f l m. ap (λ d. record b { drive = d }) (drive_set_twice b.drive f l m);
     set_values = set_values-of;
+    posted_links = λ b. refl;
     loaded_links = λ h. ap links (put-drive h h.body.drive.desired.link);
     put_reads_back = reads_back;
     begin_named = λ b t is. record { field = Dol; link = b.drive.desired; is = refl; leads = begin_leads b.drive.mode b.drive.desired t is };
@@ -170,5 +172,5 @@ module _ {N : Type 0} (k : NumberRules N) (whole : N → ℤ) (lawful : IsLawful
   unfolding row_of
   new_links f is = new_links_by f (subst (λ r. is_link_by r ≡ true) (lawful.output_row f) is)
 
-  pub output_new : IsNewBody (numeric_output k whole) (new_output k)
+  pub output_new : IsNewBody (numeric_output k order) (new_output k)
   output_new = record { values = new_values; links = new_links }

@@ -4,6 +4,7 @@ use Rattle.std.specs.Option.{option_and_then}
 use Rattle.ioc_values.specs.declared.value.Value.{Value}
 use Rattle.ioc_values.specs.declared.kind.Range.{Range}
 use Rattle.ioc_values.specs.Conversion.{value_in}
+use Rattle.ioc_alarms.specs.Order.{LimitOrder}
 use Rattle.ioc_fields.specs.declared.field_no.OwnField.{OwnField}
 use Rattle.ioc_fields.specs.declared.field_no.OwnField.TheVariants.{Val}
 use Rattle.ioc_record.specs.BodyRules.{BodyRules, BodyState, number_stored}
@@ -37,13 +38,13 @@ input_with h n = record { body = record h.body { numbers = record h.body.numbers
 abbrev pub output_with : {N : Type 0} → BodyState (NumericOutput N) → N → BodyState (NumericOutput N)
 output_with h n = record { body = record h.body { numbers = record h.body.numbers { value = n } }; condition = record h.condition { undefined = 0 } }
 
-module _ {N : Type 0} (k : NumberRules N) (whole : N → ℤ) where
-  pub input_put : IsStoredAs k (numeric_input k whole) input_with
+module _ {N : Type 0} (k : NumberRules N) (order : LimitOrder N) where
+  pub input_put : IsStoredAs k (numeric_input k order) input_with
   unfolding input_stored numeric_stored
   input_put h None n is = cc
   input_put h (Some v) n is = rw (← is) refl
 
-  pub output_put : IsStoredAs k (numeric_output k whole) output_with
+  pub output_put : IsStoredAs k (numeric_output k order) output_with
   unfolding output_stored numeric_stored
   output_put h None n is = cc
   output_put h (Some v) n is = rw (← is) refl

@@ -37,7 +37,7 @@ impl<N: Number> Fresh for NumericInput<N> {
     #[tactic(auto, unfolding(crate::specs::Input::new_input))]
     fn fresh() -> Self
         ensures value { result ≡ new_input N.number }
-        ensures defaults { IsNewBody (numeric_input N.number N.whole) result }
+        ensures defaults { IsNewBody (numeric_input N.number N.order) result }
     {
         NumericInput {
             numbers: Numeric::new(),
@@ -49,11 +49,11 @@ impl<N: Number> Fresh for NumericInput<N> {
 impl<N: Number> Storing<N> for NumericInput<N> {
     ghost use Rattle.rec_numeric.specs.Stored.{input_with, input_put};
 
-    ghost rules = { numeric_input N.number N.whole };
+    ghost rules = { numeric_input N.number N.order };
 
     ghost with = { input_with };
 
-    ghost stored_as = { input_put N.number N.whole };
+    ghost stored_as = { input_put N.number N.order };
 
     fn put_value(&mut self, condition: &mut Condition, value: N) {
         self.numbers.value = value;
@@ -72,9 +72,9 @@ impl<N: Number> Storing<N> for NumericInput<N> {
 impl<N: Number> RecordBody for NumericInput<N> {
     ghost use Rattle.rec_numeric.specs.InputLaws.{input_lawful};
 
-    ghost rules = { numeric_input N.number N.whole };
+    ghost rules = { numeric_input N.number N.order };
 
-    ghost lawful = { input_lawful N.number N.whole N.lawful };
+    ghost lawful = { input_lawful N.number N.order N.lawful };
 
     fn record_type(&self) -> RecordType {
         N::input_type()
@@ -135,6 +135,8 @@ impl<N: Number> RecordBody for NumericInput<N> {
         self.numbers.test(condition);
         false
     }
+
+    fn post(&mut self) {}
 
     fn constant_kind(&self, _condition: &Condition, field: OwnField) -> Option<InputKind> {
         match field {

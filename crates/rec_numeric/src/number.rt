@@ -6,13 +6,13 @@ ghost use Rattle.ioc_record.specs.Shown.{number_shown};
 ghost use Rattle.rec_numeric.specs.Number.{NumberRules};
 ghost use Rattle.rec_numeric.specs.NumberLaws.{IsLawfulNumber};
 
-use ioc_alarms::WholeNumber;
+use ioc_alarms::LimitNumber;
 use ioc_dbcommon::{int64_in, long_in};
 use ioc_fields::RecordType;
 use ioc_values::{Range, Value};
 
 /// A type of the numbers in numeric records, with the record types that hold such numbers.
-pub trait Number: WholeNumber {
+pub trait Number: LimitNumber {
     ghost number: { NumberRules Self };
 
     fn zero() -> Self

@@ -1,6 +1,5 @@
 //! The types longout and int64out.
 ghost use Rattle.std.specs.Prelude.{◌≡◌};
-ghost use Rattle.ioc_record.specs.BodyRules.{BodyState};
 ghost use Rattle.ioc_record.specs.BodyLaws.{IsNewBody};
 ghost use Rattle.rec_numeric.specs.Output.{numeric_output, new_output, within, limited_value, worked};
 
@@ -38,11 +37,11 @@ pub type Int64out = NumericOutput<i64>;
 // Returns the value, or the limit that it exceeds.
 #[tactic(auto, unfolding(crate::specs::Output::within))]
 fn within<N: Number>(value: N, low: N, high: N) -> N
-    ensures { result ≡ within N.whole value low high }
+    ensures { result ≡ within N.order value low high }
 {
-    if value.wide() < low.wide() {
+    if value.is_less(low) {
         low
-    } else if high.wide() < value.wide() {
+    } else if high.is_less(value) {
         high
     } else {
         value
@@ -53,9 +52,9 @@ impl<N: Number> NumericOutput<N> {
     // Returns VAL within the drive limits, which only apply if DRVH is greater than DRVL.
     #[tactic(auto, unfolding(crate::specs::Output::limited_value))]
     fn limited_value(&self) -> N
-        ensures { result ≡ limited_value N.whole self.now }
+        ensures { result ≡ limited_value N.order self.now }
     {
-        if self.drive_low.wide() < self.drive_high.wide() {
+        if self.drive_low.is_less(self.drive_high) {
             within(self.numbers.value, self.drive_low, self.drive_high)
         } else {
             self.numbers.value
@@ -66,7 +65,7 @@ impl<N: Number> NumericOutput<N> {
     #[tactic(auto, unfolding(crate::specs::Output::worked))]
     fn work(&mut self, condition: &mut Condition, got: &Got)
         ensures { record { body = self.new; condition = condition.new }
-            ≡ worked N.number N.whole (record { body = self.old; condition = condition.old }) got.now }
+            ≡ worked N.number N.order (record { body = self.old; condition = condition.old }) got.now }
     {
         match got {
             Got::Value(value) => {
@@ -90,7 +89,7 @@ impl<N: Number> Fresh for NumericOutput<N> {
     #[tactic(auto, unfolding(crate::specs::Output::new_output))]
     fn fresh() -> Self
         ensures value { result ≡ new_output N.number }
-        ensures defaults { IsNewBody (numeric_output N.number N.whole) result }
+        ensures defaults { IsNewBody (numeric_output N.number N.order) result }
     {
         NumericOutput {
             numbers: Numeric::new(),
@@ -105,11 +104,11 @@ impl<N: Number> Fresh for NumericOutput<N> {
 impl<N: Number> Storing<N> for NumericOutput<N> {
     ghost use Rattle.rec_numeric.specs.Stored.{output_with, output_put};
 
-    ghost rules = { numeric_output N.number N.whole };
+    ghost rules = { numeric_output N.number N.order };
 
     ghost with = { output_with };
 
-    ghost stored_as = { output_put N.number N.whole };
+    ghost stored_as = { output_put N.number N.order };
 
     fn put_value(&mut self, condition: &mut Condition, value: N) {
         self.numbers.value = value;
@@ -135,9 +134,9 @@ impl<N: Number> Storing<N> for NumericOutput<N> {
 impl<N: Number> RecordBody for NumericOutput<N> {
     ghost use Rattle.rec_numeric.specs.OutputLaws.{output_lawful};
 
-    ghost rules = { numeric_output N.number N.whole };
+    ghost rules = { numeric_output N.number N.order };
 
-    ghost lawful = { output_lawful N.number N.whole N.lawful };
+    ghost lawful = { output_lawful N.number N.order N.lawful };
 
     fn record_type(&self) -> RecordType {
         N::output_type()
@@ -216,6 +215,8 @@ impl<N: Number> RecordBody for NumericOutput<N> {
             false
         }
     }
+
+    fn post(&mut self) {}
 
     fn constant_kind(&self, _condition: &Condition, field: OwnField) -> Option<InputKind> {
         match field {

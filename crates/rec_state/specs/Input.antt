@@ -74,6 +74,7 @@ state_input k = record {
   input_kind = state_input_kind;
   taken = input_taken k;
   output = λ h got. NoOutput;
+  posted = λ b. b;
   constant_kind = λ h. inp_constant_kind (input.Number range.ULong);
   loaded = input_loaded k;
 }

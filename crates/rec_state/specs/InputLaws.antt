@@ -61,7 +61,7 @@ module _ {S : Type 0} (k : StateRules S) (lawful : IsLawfulStates k) where
   input_lawful = record {
     missing_links = missing-links;
     link_there = link-there;
-    type_stays = record { taken = λ h got. refl; stored = λ h f v. refl; set = λ b f l. refl; loaded = λ h. refl };
+    type_stays = record { taken = λ h got. refl; stored = λ h f v. refl; set = λ b f l. refl; loaded = λ h. refl; posted = λ b. refl };
     taken_links = λ h got. refl;
     stored_links = λ h f v. refl;
     set_here = λ b f l is. source_set_here b.source f l is;
@@ -69,6 +69,7 @@ module _ {S : Type 0} (k : StateRules S) (lawful : IsLawfulStates k) where
     set_others = λ b f g l apart. source_set_others b.source f g l apart;
     set_twice = λ b f l m. ap (λ s. record b { source = s }) (source_set_twice b.source f l m);
     set_values = λ b f l g. refl;
+    posted_links = λ b. refl;
     loaded_links = λ h. refl;
     put_reads_back = reads_back;
     begin_named = λ b t is. record { field = Inp; link = b.source.input; is = refl; leads = source_begin_leads b.source.input t is };

@@ -102,6 +102,7 @@ state_output k = record {
   input_kind = λ h. state_kind;
   taken = output_taken k;
   output = output_driven k;
+  posted = λ b. b;
   constant_kind = λ h. dol_constant_kind state_kind;
   loaded = output_loaded k;
 }

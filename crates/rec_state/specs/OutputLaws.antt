@@ -115,7 +115,7 @@ module _ {S : Type 0} (k : StateRules S) (lawful : IsLawfulStates k) where
   output_lawful = record {
     missing_links = missing-links;
     link_there = link-there;
-    type_stays = record { taken = λ h got. refl; stored = λ h f v. refl; set = λ b f l. refl; loaded = λ h. refl };
+    type_stays = record { taken = λ h got. refl; stored = λ h f v. refl; set = λ b f l. refl; loaded = λ h. refl; posted = λ b. refl };
     taken_links = λ h got. refl;
     stored_links = stored-links;
     set_here = λ b f l is. drive_set_here b.drive f l is;
@@ -123,6 +123,7 @@ module _ {S : Type 0} (k : StateRules S) (lawful : IsLawfulStates k) where
     set_others = λ b f g l apart. drive_set_others b.drive f g l apart;
     set_twice = λ b f l m. ap (λ d. record b { drive = d }) (drive_set_twice b.drive f l m);
     set_values = set_values-of;
+    posted_links = λ b. refl;
     loaded_links = λ h. refl;
     put_reads_back = reads_back;
     begin_named = λ b t is. record { field = Dol; link = b.drive.desired; is = refl; leads = begin_leads b.drive.mode b.drive.desired t is };

@@ -105,6 +105,8 @@ impl<S: States> RecordBody for StateInput<S> {
         false
     }
 
+    fn post(&mut self) {}
+
     fn constant_kind(&self, _condition: &Condition, field: OwnField) -> Option<InputKind> {
         match field {
             OwnField::Inp => Some(InputKind::Number(Range::ULong)),

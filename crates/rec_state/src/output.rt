@@ -135,6 +135,8 @@ impl<S: States> RecordBody for StateOutput<S> {
         }
     }
 
+    fn post(&mut self) {}
+
     fn constant_kind(&self, _condition: &Condition, field: OwnField) -> Option<InputKind> {
         match field {
             OwnField::Dol => Some(InputKind::Number(Range::UShort)),

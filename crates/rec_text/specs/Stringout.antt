@@ -89,6 +89,7 @@ stringout = record {
   input_kind = λ h. input.Text;
   taken = stringout_taken;
   output = stringout_output;
+  posted = λ b. b;
   constant_kind = λ h. dol_constant_kind input.Text;
   loaded = stringout_loaded;
 }

@@ -122,7 +122,7 @@ unfolding reads_device
 stringout_lawful = record {
   missing_links = missing-links;
   link_there = link-there;
-  type_stays = record { taken = λ h got. refl; stored = λ h f v. refl; set = λ b f l. refl; loaded = λ h. refl };
+  type_stays = record { taken = λ h got. refl; stored = λ h f v. refl; set = λ b f l. refl; loaded = λ h. refl; posted = λ b. refl };
   taken_links = λ h got. ap (λ (d : Drive). drive_link d.output d.desired) (taken-drive h got);
   stored_links = λ h f v. ap (λ l. drive_link l (stringout_stored h f v).body.drive.desired) (stored-output h f v) ∙ ap (drive_link h.body.drive.output) (stored-desired h f v);
   set_here = λ b f l is. drive_set_here b.drive f l is;
@@ -130,6 +130,7 @@ stringout_lawful = record {
   set_others = λ b f g l apart. drive_set_others b.drive f g l apart;
   set_twice = λ b f l m. ap (λ d. record b { drive = d }) (drive_set_twice b.drive f l m);
   set_values = set-values;
+  posted_links = λ b. refl;
   loaded_links = λ h. ap (λ (d : Drive). drive_link d.output d.desired) (loaded-drive h);
   put_reads_back = reads_back;
   begin_named = λ b t is. record { field = Dol; link = b.drive.desired; is = refl; leads = begin_leads b.drive.mode b.drive.desired t is };

@@ -47,6 +47,7 @@ text_body k = record {
   input_kind = λ h. input.Text;
   taken = λ h got. outer h (k.taken (inner h) got);
   output = λ h got. k.output (k.taken (inner h) got).body;
+  posted = λ b. b;
   constant_kind = λ h. inp_constant_kind input.Text;
   loaded = λ h. outer h (constant_put (inner h) h.body.text.source.input.link);
 }

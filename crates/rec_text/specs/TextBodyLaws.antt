@@ -81,7 +81,7 @@ module _ {K : Type 0} (k : TextRules K) (lawful : IsLawfulText k) where
   text_body_lawful = record {
     missing_links = missing-links;
     link_there = link-there;
-    type_stays = record { taken = λ h got. refl; stored = λ h f v. refl; set = λ b f l. refl; loaded = λ h. refl };
+    type_stays = record { taken = λ h got. refl; stored = λ h f v. refl; set = λ b f l. refl; loaded = λ h. refl; posted = λ b. refl };
     taken_links = λ h got. ap (λ (s : Source). source_link s.input) (lawful.taken_source (inner h) got);
     stored_links = λ h f v. ap (λ (s : Source). source_link s.input) (stored-source (inner h) f v);
     set_here = λ b f l is. source_set_here b.text.source f l is;
@@ -89,6 +89,7 @@ module _ {K : Type 0} (k : TextRules K) (lawful : IsLawfulText k) where
     set_others = λ b f g l apart. source_set_others b.text.source f g l apart;
     set_twice = λ b f l m. ap (λ s. record b { text = record b.text { source = s } }) (source_set_twice b.text.source f l m);
     set_values = λ b f l g. refl;
+    posted_links = λ b. refl;
     loaded_links = λ h. ap (λ (s : Source). source_link s.input) (put-source (inner h) h.body.text.source.input.link);
     put_reads_back = reads_back;
     begin_named = λ b t is. record { field = Inp; link = b.text.source.input; is = refl; leads = source_begin_leads b.text.source.input t is };

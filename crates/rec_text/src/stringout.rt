@@ -1,6 +1,5 @@
 //! The type stringout.
 ghost use Rattle.std.specs.Prelude.{◌≡◌};
-ghost use Rattle.ioc_record.specs.BodyRules.{BodyState};
 ghost use Rattle.ioc_record.specs.BodyLaws.{IsNewBody};
 ghost use Rattle.rec_text.specs.Stringout.{stringout, new_stringout, worked};
 
@@ -127,6 +126,8 @@ impl RecordBody for Stringout {
             false
         }
     }
+
+    fn post(&mut self) {}
 
     fn constant_kind(&self, _condition: &Condition, field: OwnField) -> Option<InputKind> {
         match field {

@@ -1,7 +1,6 @@
 //! The types that read a text: stringin and event.
 ghost use Rattle.std.specs.Prelude.{◌≡◌, IsTrue};
 ghost use Rattle.ioc_dbcommon.specs.Wants.{puts_out};
-ghost use Rattle.ioc_record.specs.BodyRules.{BodyState};
 ghost use Rattle.ioc_record.specs.BodyLaws.{IsNewBody};
 ghost use Rattle.rec_text.specs.TextBody.{TextRules, text_body, new_text_body};
 ghost use Rattle.rec_text.specs.TextBodyLaws.{IsLawfulText};
@@ -114,6 +113,8 @@ impl<K: TextKind> RecordBody for TextBody<K> {
     fn take(&mut self, condition: &mut Condition, got: &Got, output: &mut Output) -> bool {
         K::take(&mut self.text, condition, got, output)
     }
+
+    fn post(&mut self) {}
 
     fn constant_kind(&self, _condition: &Condition, field: OwnField) -> Option<InputKind> {
         match field {

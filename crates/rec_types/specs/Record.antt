@@ -36,8 +36,12 @@ use Rattle.rec_flow.specs.declared.fanout.Fanout.{Fanout as Fanout-fields}
 use Rattle.rec_flow.specs.Fanout.{fanout, new_fanout}
 use Rattle.rec_flow.specs.declared.event.Posted.{Posted}
 use Rattle.rec_flow.specs.Event.{posted, event}
+use Rattle.rec_analog.specs.declared.input.Ai.{Ai as Ai-fields}
+use Rattle.rec_analog.specs.Input.{ai, new_ai}
+use Rattle.rec_analog.specs.declared.output.Ao.{Ao as Ao-fields}
+use Rattle.rec_analog.specs.Output.{ao, new_ao}
 use Rattle.rec_types.specs.declared.record.Body.{Body}
-use Rattle.rec_types.specs.declared.record.Body.TheVariants.{Longin, Longout, Int64in, Int64out, Bi, Bo, Mbbi, Mbbo, Stringin, Stringout, Fanout, Event}
+use Rattle.rec_types.specs.declared.record.Body.TheVariants.{Longin, Longout, Int64in, Int64out, Bi, Bo, Mbbi, Mbbo, Stringin, Stringout, Fanout, Event, Ai, Ao}
 
 -- The type-specific fields of a new record of a type.
 abbrev pub new_body : RecordType → Body
@@ -53,6 +57,8 @@ new_body type.Stringin = Stringin (new_text_body kept)
 new_body type.Stringout = Stringout new_stringout
 new_body type.Fanout = Fanout new_fanout
 new_body type.Event = Event (new_text_body posted)
+new_body type.Ai = Ai new_ai
+new_body type.Ao = Ao new_ao
 
 -- The type-specific fields of a record with the rules of their type, and how they become a body of
 -- any type.
@@ -76,6 +82,8 @@ typed (Stringin b) = record { Of = TextBody Kept; rules = stringin; it = b; back
 typed (Stringout b) = record { Of = Stringout-fields; rules = stringout; it = b; back = Stringout }
 typed (Fanout b) = record { Of = Fanout-fields; rules = fanout; it = b; back = Fanout }
 typed (Event b) = record { Of = TextBody Posted; rules = event; it = b; back = Event }
+typed (Ai b) = record { Of = Ai-fields; rules = ai; it = b; back = Ai }
+typed (Ao b) = record { Of = Ao-fields; rules = ao; it = b; back = Ao }
 
 -- The fields with the condition of the record.
 abbrev pub held : (b : Body) → Condition → BodyState (typed b).Of
@@ -125,6 +133,10 @@ abbrev pub output : Body → Condition → Got → Output
 output (Longin b) c got = longin.output (record { body = b; condition = c }) got
 output b c got = (typed b).rules.output (held b c) got
 
+abbrev pub after_posts : Body → Body
+after_posts (Longin b) = Longin (longin.posted b)
+after_posts b = (typed b).back ((typed b).rules.posted (typed b).it)
+
 abbrev pub constant_kind : Body → Condition → OwnField → Option InputKind
 constant_kind (Longin b) c f = longin.constant_kind (record { body = b; condition = c }) f
 constant_kind b c f = (typed b).rules.constant_kind (held b c) f
@@ -146,6 +158,7 @@ body_rules = record {
   input_kind = λ h. input_kind h.body h.condition;
   taken = λ h. taken h.body h.condition;
   output = λ h. output h.body h.condition;
+  posted = after_posts;
   constant_kind = λ h. constant_kind h.body h.condition;
   loaded = λ h. loaded h.body h.condition;
 }

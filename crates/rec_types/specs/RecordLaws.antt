@@ -26,9 +26,11 @@ use Rattle.rec_text.specs.StringinLaws.{stringin_lawful}
 use Rattle.rec_text.specs.StringoutLaws.{stringout_lawful}
 use Rattle.rec_flow.specs.FanoutLaws.{fanout_lawful}
 use Rattle.rec_flow.specs.EventLaws.{event_lawful}
+use Rattle.rec_analog.specs.InputLaws.{ai_lawful}
+use Rattle.rec_analog.specs.OutputLaws.{ao_lawful}
 use Rattle.rec_types.specs.declared.record.Body.{Body}
-use Rattle.rec_types.specs.declared.record.Body.TheVariants.{Longin, Longout, Int64in, Int64out, Bi, Bo, Mbbi, Mbbo, Stringin, Stringout, Fanout, Event}
-use Rattle.rec_types.specs.Record.{typed, held, record_type, link, with_link, states, get, stored, begin, taken, output, loaded, body_rules, record_rules}
+use Rattle.rec_types.specs.declared.record.Body.TheVariants.{Longin, Longout, Int64in, Int64out, Bi, Bo, Mbbi, Mbbo, Stringin, Stringout, Fanout, Event, Ai, Ao}
+use Rattle.rec_types.specs.Record.{typed, held, record_type, link, with_link, states, get, stored, begin, taken, output, after_posts, loaded, body_rules, record_rules}
 
 -- The bodies of each type keep the laws.
 lawful : (b : Body) → IsLawfulBody (typed b).rules
@@ -44,6 +46,8 @@ lawful (Stringin b) = stringin_lawful
 lawful (Stringout b) = stringout_lawful
 lawful (Fanout b) = fanout_lawful
 lawful (Event b) = event_lawful
+lawful (Ai b) = ai_lawful
+lawful (Ao b) = ao_lawful
 
 link_there-law : (b : Body) (f : OwnField) → is_some (link b f) ≡ is_link (record_type b) (Own f)
 link_there-law (Longin b) f = longin_lawful.link_there b f
@@ -97,6 +101,14 @@ loaded_links-law : (b : Body) (c : Condition) → link (loaded b c).body ≡ lin
 loaded_links-law (Longin b) c = longin_lawful.loaded_links (held (Longin b) c)
 loaded_links-law b c = (lawful b).loaded_links (held b c)
 
+posted_type-law : (b : Body) → record_type (after_posts b) ≡ record_type b
+posted_type-law (Longin b) = longin_lawful.type_stays.posted b
+posted_type-law b = (lawful b).type_stays.posted (typed b).it
+
+posted_links-law : (b : Body) → link (after_posts b) ≡ link b
+posted_links-law (Longin b) = longin_lawful.posted_links b
+posted_links-law b = (lawful b).posted_links (typed b).it
+
 put_reads_back-law : (b : Body) (c : Condition) (f : OwnField) (v : Value) → can_put (record_type b) (Own f) ≡ true
     → IsValueOf (sort_in (states b) (kind_of (record_type b) (Own f))) v → get (stored b c f v).body f ≡ Some v
 put_reads_back-law (Longin b) c f v can is = longin_lawful.put_reads_back (held (Longin b) c) f v can is
@@ -124,6 +136,7 @@ type_stays-law = record {
   stored = λ h. stored_type-law h.body h.condition;
   set = set_type-law;
   loaded = λ h. loaded_type-law h.body h.condition;
+  posted = posted_type-law;
 }
 
 pub body_lawful : IsLawfulBody body_rules
@@ -138,6 +151,7 @@ body_lawful = record {
   set_others = set_others-law;
   set_twice = set_twice-law;
   set_values = set_values-law;
+  posted_links = posted_links-law;
   loaded_links = λ h. loaded_links-law h.body h.condition;
   put_reads_back = λ h. put_reads_back-law h.body h.condition;
   begin_named = begin_named-law;

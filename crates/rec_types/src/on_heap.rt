@@ -55,6 +55,12 @@ pub fn take<B: RecordBody>(
     kept.get_mut().take(condition, got, output)
 }
 
+pub fn post<B: RecordBody>(kept: &mut BodyBox<B>)
+    ensures { kept.new ≡ B.rules.posted kept.old }
+{
+    kept.get_mut().post();
+}
+
 pub fn load<B: RecordBody>(kept: &mut BodyBox<B>, condition: &mut Condition)
     ensures { record { body = kept.new; condition = condition.new }
         ≡ B.rules.loaded (record { body = kept.old; condition = condition.old }) }

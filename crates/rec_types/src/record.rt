@@ -6,6 +6,7 @@ use ioc_dbcommon::{BodyBox, Condition, Fresh, Got, InputKind, LinkBox, LinkUse, 
 use ioc_fields::{OwnField, RecordType};
 use ioc_record::RecordBody;
 use ioc_values::{Range, Text, Value};
+use rec_analog::{Ai, Ao};
 use rec_flow::{EventBody, Fanout};
 use rec_numeric::{Int64in, Int64out, Longin, Longout};
 use rec_state::{Bi, Bo, Mbbi, Mbbo};
@@ -28,6 +29,8 @@ pub enum Body {
     Stringout(BodyBox<Stringout>),
     Fanout(BodyBox<Fanout>),
     Event(EventBody),
+    Ai(BodyBox<Ai>),
+    Ao(BodyBox<Ao>),
 }
 
 /// A record of any type.
@@ -57,6 +60,8 @@ macro_rules! ask {
             Body::Stringout(kept) => in_box!(kept, $body => $call),
             Body::Fanout(kept) => in_box!(kept, $body => $call),
             Body::Event($body) => $call,
+            Body::Ai(kept) => in_box!(kept, $body => $call),
+            Body::Ao(kept) => in_box!(kept, $body => $call),
         }
     };
 }
@@ -78,6 +83,8 @@ macro_rules! work {
             Body::Stringout($body) => $on_heap,
             Body::Fanout($body) => $on_heap,
             Body::Event($body) => $here,
+            Body::Ai($body) => $on_heap,
+            Body::Ao($body) => $on_heap,
         }
     };
 }
@@ -122,6 +129,8 @@ impl Body {
             RecordType::Stringout => Body::Stringout(BodyBox::<Stringout>::fresh(alloc)?),
             RecordType::Fanout => Body::Fanout(BodyBox::<Fanout>::fresh(alloc)?),
             RecordType::Event => Body::Event(EventBody::fresh()),
+            RecordType::Ai => Body::Ai(BodyBox::<Ai>::fresh(alloc)?),
+            RecordType::Ao => Body::Ao(BodyBox::<Ao>::fresh(alloc)?),
         })
     }
 }
@@ -192,6 +201,10 @@ impl RecordBody for Body {
         work!(self, body => body.take(condition, got, output), on_heap::take(body, condition, got, output))
     }
 
+    fn post(&mut self) {
+        work!(self, body => body.post(), on_heap::post(body))
+    }
+
     fn constant_kind(&self, condition: &Condition, field: OwnField) -> Option<InputKind> {
         ask!(self, body => body.constant_kind(condition, field))
     }
@@ -214,6 +227,8 @@ impl RecordBody for Body {
             Body::Stringout(kept) => Body::Stringout(copy_kept(alloc, kept)?),
             Body::Fanout(kept) => Body::Fanout(copy_kept(alloc, kept)?),
             Body::Event(body) => Body::Event(body.copy(alloc)?),
+            Body::Ai(kept) => Body::Ai(copy_kept(alloc, kept)?),
+            Body::Ao(kept) => Body::Ao(copy_kept(alloc, kept)?),
         })
     }
 
@@ -232,6 +247,8 @@ impl RecordBody for Body {
                 where_same!(other, Stringout => on_heap::copy_from(kept, other)),
             Body::Fanout(kept) => where_same!(other, Fanout => on_heap::copy_from(kept, other)),
             Body::Event(body) => where_same!(other, Event => body.copy_from(other)),
+            Body::Ai(kept) => where_same!(other, Ai => on_heap::copy_from(kept, other)),
+            Body::Ao(kept) => where_same!(other, Ao => on_heap::copy_from(kept, other)),
         }
     }
 }

@@ -63,6 +63,7 @@ fn run<R: Clock + ReplaceFiles + Threads + Wait + Sync>(
                 first: 0,
             },
             restored: Vec::new(alloc),
+            sizes: None,
         }),
         asks: &asks,
         saving: None,

@@ -152,7 +152,7 @@ fn loaded_texts(rt: HostRuntime) {
 static REFUSED: [Refused; 13] = [
     (
         BadDbKind::BadType,
-        &[(1, b"record(ai,a){}"), (1, b"record(ai,\na){}")],
+        &[(1, b"record(waveform,a){}"), (1, b"record(waveform,\na){}")],
     ),
     (
         BadDbKind::BadName,
@@ -189,6 +189,8 @@ static REFUSED: [Refused; 13] = [
             (1, b"record(longin,a){field(NAME,b)}"),
             (2, b"record(longin,a){\nfield(STAT\n,1)}"),
             (1, b"record(bo,a){field(LALM,1)}"),
+            (1, b"record(ai,a){field(INIT,0)}"),
+            (1, b"record(ao,a){field(OVAL,1)}"),
         ],
     ),
     (
@@ -210,6 +212,11 @@ static REFUSED: [Refused; 13] = [
             (1, b"record(mbbi,l){field(INP,\"1.\")}"),
             (1, b"record(mbbo,l){field(DOL,\"1.\")}"),
             (1, b"record(fanout,l){field(SELL,\"1.\")}"),
+            (1, b"record(ai,a){field(INP,\"1e999\")}"),
+            (1, b"record(ao,a){field(DOL,\"-1.e999\")}"),
+            (1, b"record(ai,a){field(PREC,16)}"),
+            (1, b"record(ai,a){field(LINR,typeKdegC)}"),
+            (1, b"record(ao,a){field(VAL,\"1.5 mm\")}"),
             (2, b"record(longin,a){field(VAL,\nbad\n"),
         ],
     ),

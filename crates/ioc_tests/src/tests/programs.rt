@@ -1,6 +1,6 @@
 //! Databases with a script and the expected output: the tables of the other files, which share one
 //! function.
-use crate::tests::{devices, lock_sets, notifications, relinks, rows, scans, types};
+use crate::tests::{analog, devices, lock_sets, notifications, relinks, rows, scans, types};
 use ioc_dbfile::Macros;
 use ioc_main::run;
 use std::alloc::Global;
@@ -27,9 +27,10 @@ fn first_wrong(alloc: Global, programs: &[Program]) -> Option<&'static str> {
 
 #[test]
 fn programs(rt: HostRuntime) {
-    let tables: [&[Program]; 7] = [
+    let tables: [&[Program]; 8] = [
         &rows::PROGRAMS,
         &types::PROGRAMS,
+        &analog::PROGRAMS,
         &devices::PROGRAMS,
         &scans::PROGRAMS,
         &notifications::PROGRAMS,

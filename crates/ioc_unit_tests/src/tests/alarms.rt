@@ -2,6 +2,7 @@
 use ioc_alarms::*;
 use ioc_links::Mode;
 use ioc_menus::{Severity, Status};
+use ioc_values::Double;
 use std::process::Abort;
 
 const QUIET: Alarms = Alarms {
@@ -166,4 +167,45 @@ fn graver_alarm_stays(rt: HostRuntime) {
     assert!(rt; graver.limits(25, 3, &FOUR_LIMITS) == 3);
     assert!(rt; graver == alarms(Status::Read, Severity::Invalid));
     assert!(rt; FOUR_LIMITS.first_reached(0, 0).is_none());
+}
+
+// Returns limits of doubles of which only HIGH is tested, with the severity MINOR.
+fn high_of(high: f64, hysteresis: f64) -> AlarmLimits<Double> {
+    AlarmLimits {
+        hihi: Double::new(0.0),
+        lolo: Double::new(0.0),
+        high: Double::new(high),
+        low: Double::new(0.0),
+        hihi_severity: Severity::NoAlarm,
+        lolo_severity: Severity::NoAlarm,
+        high_severity: Severity::Minor,
+        low_severity: Severity::NoAlarm,
+        hysteresis: Double::new(hysteresis),
+    }
+}
+
+// A limit with its hysteresis, a value and LALM before it, and whether HIGH is raised.
+static DOUBLES: [(f64, f64, f64, f64, bool); 9] = [
+    (0.3, 0.1, 0.3, 0.0, true),
+    (0.3, 0.1, 0.19999999999999998, 0.3, true),
+    (0.3, 0.1, 0.19999999999999996, 0.3, false),
+    (0.3, 0.1, 0.25, 0.0, false),
+    (f64::NAN, 0.0, 1.0, 0.0, false),
+    (1.0, 0.0, f64::NAN, 1.0, false),
+    (1.0, f64::NAN, 0.9, 1.0, false),
+    (f64::INFINITY, 0.0, f64::MAX, 0.0, false),
+    (0.0, 1.0, -0.5, -0.0, true),
+];
+
+#[test]
+fn limits_of_doubles(rt: HostRuntime) {
+    for (high, hysteresis, value, last, wanted) in &DOUBLES {
+        let mut a = QUIET;
+        let _ = a.limits(
+            Double::new(*value),
+            Double::new(*last),
+            &high_of(*high, *hysteresis),
+        );
+        assert!(rt; (a.new_status == Status::High) == *wanted);
+    }
 }

@@ -22,6 +22,10 @@ const USHORT: FieldKind = FieldKind::Number(Range::UShort);
 
 const INT64: FieldKind = FieldKind::Number(Range::Int64);
 
+const DIGITS: FieldKind = FieldKind::Number(Range::Digits);
+
+const DOUBLE: FieldKind = FieldKind::Double;
+
 const BITS: FieldKind = FieldKind::Number(Range::Bits);
 
 const UCHAR: FieldKind = FieldKind::Number(Range::UChar);
@@ -121,7 +125,7 @@ static OUTPUTS: [Fact; 5] = [
 ];
 
 // The facts that don't depend on the type, and then those of each type.
-static TYPES: [Fact; 123] = [
+static TYPES: [Fact; 156] = [
     Role(LinkRole::Input, LinkKind::WithDevice),
     Role(LinkRole::Output, LinkKind::WithDevice),
     Role(LinkRole::InputWithoutDevice, LinkKind::NoDevice),
@@ -254,6 +258,39 @@ static TYPES: [Fact; 123] = [
     Row("VAL", FieldKind::Text, Mark::P),
     Row("INP", INPUT, Mark::Set),
     NoField("IVOV"),
+    Type(RecordType::Ai, "ai", true, 3),
+    Rows(&["VAL", "HIHI", "LOLO", "HIGH", "LOW"], DOUBLE, Mark::P),
+    Row("PREC", DIGITS, Mark::Plain),
+    Row("EGU", FieldKind::Text, Mark::K),
+    Rows(&["HOPR", "LOPR", "EGUF", "EGUL"], DOUBLE, Mark::K),
+    Rows(&["HHSV", "LLSV", "HSV", "LSV"], SEVERITY, Mark::P),
+    Rows(&["HYST", "MDEL", "ADEL", "SMOO"], DOUBLE, Mark::Plain),
+    Rows(&["LALM", "MLST", "ALST"], DOUBLE, Mark::N),
+    Row("LINR", FieldKind::Menu(Menu::Linr), Mark::P),
+    Rows(&["ESLO", "EOFF", "ASLO", "AOFF"], DOUBLE, Mark::P),
+    Row("ROFF", ULONG, Mark::P),
+    Row("RVAL", LONG, Mark::Plain),
+    Row("INIT", UCHAR, Mark::N),
+    Row("INP", INPUT, Mark::Set),
+    Default("INIT", 1),
+    Default("PREC", 0),
+    Default("LINR", 0),
+    NoField("ORAW"),
+    NoField("DRVH"),
+    Type(RecordType::Ao, "ao", false, 4),
+    Rows(&["VAL", "DRVH", "DRVL", "IVOV"], DOUBLE, Mark::P),
+    Row("OIF", FieldKind::Menu(Menu::Oif), Mark::Plain),
+    Row("OROC", DOUBLE, Mark::Plain),
+    Rows(&["OVAL", "PVAL", "MLST", "ALST"], DOUBLE, Mark::N),
+    Row("RVAL", LONG, Mark::Plain),
+    Row("ROFF", ULONG, Mark::P),
+    Row("ASLO", DOUBLE, Mark::P),
+    Default("OIF", 0),
+    Default("RVAL", 0),
+    NoField("SMOO"),
+    NoField("INIT"),
+    NoField("OMOD"),
+    NoField("INP"),
 ];
 
 // Returns the row of a field in the tables of fields.
@@ -359,6 +396,7 @@ fn fields(rt: HostRuntime) {
         RecordType::Int64out,
         RecordType::Mbbo,
         RecordType::Stringout,
+        RecordType::Ao,
     ];
     for writer in &writers {
         assert_eq!(rt; first_wrong(*writer, &OUTPUTS), None);

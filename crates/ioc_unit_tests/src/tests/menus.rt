@@ -1,7 +1,7 @@
 //! The texts and numbers of choices.
 use ioc_menus::*;
 
-static TEXTS: [(Menu, u16, Option<&str>); 11] = [
+static TEXTS: [(Menu, u16, Option<&str>); 13] = [
     (Menu::Severity, 3, Some("INVALID")),
     (Menu::Severity, 4, None),
     (Menu::Status, 7, Some("STATE")),
@@ -13,6 +13,8 @@ static TEXTS: [(Menu, u16, Option<&str>); 11] = [
     (Menu::Omsl, 1, Some("closed_loop")),
     (Menu::Ivoa, 1, Some("Don't drive outputs")),
     (Menu::Selm, 2, Some("Mask")),
+    (Menu::Linr, 0, Some("NO CONVERSION")),
+    (Menu::Oif, 1, Some("Incremental")),
 ];
 
 static NUMBERS: [(Menu, &str, Option<u16>); 7] = [
@@ -47,8 +49,10 @@ fn numbers_of_choices(rt: HostRuntime) {
         Omsl::Supervisory.number(),
         Ivoa::DontDriveOutputs.number(),
         Selm::Mask.number(),
+        Linr::Linear.number(),
+        Oif::Incremental.number(),
     ];
-    assert!(rt; numbers == [3, 17, 9, 0, 1, 0, 1, 2]);
+    assert!(rt; numbers == [3, 17, 9, 0, 1, 0, 1, 2, 2, 1]);
     let held = [
         Severity::from_number(1) == Some(Severity::Minor),
         Status::from_number(22) == None,
@@ -58,6 +62,8 @@ fn numbers_of_choices(rt: HostRuntime) {
         Omsl::from_number(1) == Some(Omsl::ClosedLoop),
         Ivoa::from_number(2) == Some(Ivoa::SetOutputToIvov),
         Selm::from_number(1) == Some(Selm::Specified),
+        Linr::from_number(3) == None,
+        Oif::from_number(0) == Some(Oif::Full),
     ];
-    assert!(rt; held == [true; 8]);
+    assert!(rt; held == [true; 10]);
 }

@@ -9,6 +9,7 @@ returns c = record {
   devices = c.in_ok-devices.ensures;
   workers = c.in_ok-workers.ensures;
   journal = first_is c.args.matches.now (codes "journal") c.get_str-2.result c.get_str-2.ensures;
+  journal_size = c.in_ok-journal_size.ensures;
   overwrites = c.is_given.ensures;
   seals = c.is_given-2.ensures;
   syncs = c.is_given-3.ensures;

@@ -1,5 +1,5 @@
 use Rattle.std.proofs.lemmas.Result.{err_from_is_err_and}
-use Rattle.std.proofs.Common.{◌≡◌, ℕ, List, sym, ap, ◌∙◌, subst, inl, inr, ⊎_elim}
+use Rattle.std.proofs.Common.{◌≡◌, List, sym, ap, ◌∙◌, subst, inl, inr, ⊎_elim}
 use Rattle.std.specs.Prelude.{Contains}
 use Rattle.std.specs.FinMap.{keys}
 use Rattle.ioc_journal.specs.declared.entry.Note.{Note}
@@ -44,3 +44,9 @@ returns-in_err-add_seen-clause-refused g c =
       sound = subst (λ (s : HeldView g.row.K.Denot g.row.D.Denot). IsSoundlyHeld k base s) (c.deref.ensures ∙ sym is) c.is_sound.ensures;
       none = none;
     })))) c.in_err-add_seen.ensures.refused)
+
+pub take_mark-requires-clause-there : goal.take_mark-requires-clause-there
+take_mark-requires-clause-there g c =
+    let first = subst (λ (s : HeldView g.row.K.Denot g.row.D.Denot). Contains (numbers_of s) c.args.number) (sym c.deref_mut.ensures.value) c.in_ok-held.ensures.here in
+    let then = subst (λ (h : SetState g.row.K.Denot g.row.D.Denot). Contains (keys h.records) c.args.number) (sym c.learn.ensures.set) first in
+    subst (λ (s : HeldView g.row.K.Denot g.row.D.Denot). Contains (numbers_of s) c.args.number) (sym c.deref_mut-2.ensures.value) then

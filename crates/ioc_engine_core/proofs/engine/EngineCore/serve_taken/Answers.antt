@@ -6,3 +6,6 @@ returns-in-Some g c = served_or_none _ _ _ _ _ _ _ _ _ c.request-told.result c.r
 
 pub returns-in_default : goal.returns-in_default
 returns-in_default g c = served_or_none _ _ _ _ _ _ _ _ _ c.request-told.result c.request-told.ensures.served c.request-told.ensures.err
+
+pub returns-else-is_err : goal.returns-else-is_err
+returns-else-is_err g c = served_or_none _ _ _ _ _ _ _ _ _ c.request-told.result c.request-told.ensures.served c.request-told.ensures.err

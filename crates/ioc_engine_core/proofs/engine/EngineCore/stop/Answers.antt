@@ -1,4 +1,4 @@
-use Rattle.std.proofs.Common.{List, map, sym, ap, ◌∙◌, subst}
+use Rattle.std.proofs.Common.{List, sym, ap, ◌∙◌, subst}
 use Rattle.std.specs.Prelude.{ℕ, All, IsSome, ◌≡◌, ◌<◌, ◌↔◌}
 use Rattle.std.specs.FinMap.{get, keys}
 use Rattle.ioc_graph.specs.Paths.{Connected}
@@ -17,6 +17,7 @@ use Rattle.ioc_engine_core.specs.Ended.{ShareASet}
 use Rattle.ioc_engine_core.specs.Loading.{IsSpare}
 use Rattle.ioc_engine_core.proofs.Counts.{counts_alike}
 use Rattle.ioc_engine_core.proofs.Ending.{still_hold_each, still_in}
+use Rattle.ioc_watched.specs.Watched.{AreFresh}
 use Rattle.ioc_engine_core.proofs.SharedSets.{are_joined, share_a_set}
 use Rattle.ioc_engine_core.proofs.engine.EngineCore.stop.Goals as goal
 
@@ -39,6 +40,7 @@ returns-clause-end g c =
       each = each;
       sound = e.sound;
       devices = subst (λ (l : List (HeldView g.row.K.Denot g.row.D.Denot)). All (λ (h : HeldView g.row.K.Denot g.row.D.Denot). KeepsDevices (IsDeviceOf g.D.Device.gives g.B.SetsName.devices) h.set) l) c.as_slice.ensures.value c.all_keep_devices.ensures;
+      fresh = subst (λ (l : List (HeldView g.row.K.Denot g.row.D.Denot)). All (λ (h : HeldView g.row.K.Denot g.row.D.Denot). AreFresh k base h.set.records h.watched) l) c.as_slice-2.ensures.value c.all_end_as_told.ensures;
       in_all = subst (λ (l : List Note). All (IsIn (map_of k base l)) c.settle-ended.result.items) (sym filled) in_all;
       legal = subst (λ (l : List Note). IsAccount k base l) (sym filled) c.is_legal.ensures.account;
       joined = λ p q below_p below_q. subst (λ (l : List Note). ShareASet sets p q ↔ Connected (Joined (links_of k (map_of k base l).records)) p q) (sym filled) (

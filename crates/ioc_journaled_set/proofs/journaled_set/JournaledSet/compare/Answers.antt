@@ -40,6 +40,7 @@ invariant_of-self g c =
         devices = held.devices;
       },
       c.self.invariant.1,
+      c.self.invariant.2,
     )
 
 pub invariant_of-other : goal.invariant_of-other
@@ -57,6 +58,7 @@ invariant_of-other g c =
         devices = held.devices;
       },
       c.other.invariant.1,
+      c.other.invariant.2,
     )
 
 pub returns-clause-apart : goal.returns-clause-apart

@@ -9,7 +9,8 @@ use Rattle.ioc_journal.specs.Legal.{map_of}
 use Rattle.ioc_journal.specs.declared.cell.View.{View}
 use Rattle.ioc_journal.specs.Account.{HasCalled, Pass}
 use Rattle.ioc_set.specs.SetState.{now_of}
-use Rattle.ioc_journaled_set.specs.Holding.{HeldView, held_view, numbers_of, IsHeld, Tells}
+use Rattle.ioc_journaled_set.specs.Holding.{HeldView, watching, numbers_of, IsHeld, Tells}
+use Rattle.ioc_watched.specs.Watched.{watched_by}
 use Rattle.ioc_journaled_set.specs.SameDevice.{IsDeviceOf}
 use Rattle.ioc_journaled_set.proofs.Keys.{key_there}
 use Rattle.ioc_journaled_set.proofs.Serving.{owner_on, get_may_follow, held_after_get}
@@ -69,6 +70,7 @@ invariant_of-self g c =
         devices = held.devices;
       },
       c.self.invariant.1,
+      c.self.invariant.2,
     )
 
 pub returns-clause-tells : goal.returns-clause-tells
@@ -81,10 +83,11 @@ returns-clause-tells g c =
     let none = c.new-2.ensures ∙ c.new.ensures.items in
     let set = c.append-appended.ensures.set in
     subst (λ (v : HeldView g.row.K.Denot g.row.D.Denot). Tells k g.B.JournalName.base v c.args.desk.now c.args.moment c.args.number c.args.field c.in_ok-text.text
-    (held_view c.self.inside.set (cell_view c.append-appended.new.set).seen) c.append-appended.new.desk) c.self.view_is
+    (watching c.self.inside.set (cell_view c.append-appended.new.set).seen (watched_by c.self.inside.watched)) c.append-appended.new.desk) c.self.view_is
     (record {
       answer = sym c.in_ok-text.ensures;
       set = refl;
+      watched = refl;
       call = subst (λ (l : List Answer). HasCalled k g.B.JournalName.base c.args.desk.now (record { moment = c.args.moment; call = calling.Get c.args.number c.args.field (Ok c.in_ok-text.text); answers = l }) c.append-appended.new.desk) none c.append-appended.ensures.call;
       seen = ap (λ (v : View). v.seen) set.1;
     })

@@ -9,8 +9,8 @@ use Rattle.ioc_journaled_set.specs.SameDevice.{IsDeviceOf}
 use Rattle.ioc_journaled_set.proofs.Nothing.{nothing_known}
 use Rattle.ioc_journaled_set.proofs.journaled_set.JournaledSet.into_parts.Goals as goal
 
-pub returns-in-None-clause-lent : goal.returns-in-None-clause-lent
-returns-in-None-clause-lent g c =
+pub returns-clause-lent : goal.returns-clause-lent
+returns-clause-lent g c =
     let k = g.K.RecordKind.rules in
     let base = g.B.JournalName.base in
     let held = subst (λ (o : Option Pass). IsHeld k base (IsDeviceOf g.D.Device.gives g.B.SetsName.devices) g.B.CellName.table o c.self.inside.set) c.in-None.is c.self.invariant.0 in

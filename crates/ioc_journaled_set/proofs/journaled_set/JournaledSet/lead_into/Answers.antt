@@ -1,4 +1,4 @@
-use Rattle.std.proofs.Common.{◌≡◌, ◌≤◌, ℕ, false, List, [], ◌∷◌, ◌++◌, Option, Some, None, sym, ap, ◌∙◌, subst}
+use Rattle.std.proofs.Common.{◌≡◌, ◌≤◌, ℕ, false, List, [], ◌∷◌, ◌++◌, Option, Some, None, refl, sym, ap, ◌∙◌, subst}
 use Rattle.std.specs.Prelude.{IsSome, is_some}
 use Rattle.std.specs.FinMap.{get, len}
 use Rattle.crossbeam_utils.specs.Seq.{cell_view}
@@ -21,6 +21,8 @@ use Rattle.ioc_journal.specs.declared.cell.View.{View}
 use Rattle.ioc_set.specs.SetState.{SetState, now_of}
 use Rattle.ioc_set.specs.Linking.{MayBeOne}
 use Rattle.ioc_set.specs.SetStore.{world_of}
+use Rattle.ioc_watched.specs.Watched.{watched_by}
+use Rattle.ioc_journaled_set.proofs.Fresh.{none_fresh}
 use Rattle.ioc_journaled_set.specs.Holding.{HeldView, IsHeld, IsCounted}
 use Rattle.ioc_journaled_set.specs.LinkChanges.{link_change}
 use Rattle.ioc_journaled_set.specs.SameDevice.{IsDeviceOf}
@@ -215,6 +217,7 @@ invariant_of-self-2 g c =
       share_joins k c.self.inside.set c.other.inside.set c.lead_into.new.self c.lead_into.new.other c.in-Ok.rest c.args.change.moment c.args.change.number c.args.change.field c.args.change.link (world_of c.lead_into.new.buffers.store)
           (takes g at) c.in-Ok.ensures.led (apart g at) c.divide_share-rest_share.new.share c.take_share-others.result c.merge.new.self
           (share_stays k c.self.inside.set led.stay c.in-Ok.rest (cut g at) c.args.change.number led.falls (freed g at) c.take_share-share.result c.divide_share-rest_share.new.share (own g at) c.divide_share-rest_share.ensures.share) others c.merge.ensures,
+      none_fresh g.K.RecordKind.rules g.B.JournalName.base c.lead_into.new.self.records (watched_by c.self.inside.watched) (ap (λ (v : HeldView g.row.K.Denot g.row.D.Denot). v.watched) c.self.view_is ∙ c.compare.ensures.watched.0 ∙ c.requires.unwatched.0),
     )
 
 pub invariant_of-rest : goal.invariant_of-rest
@@ -232,6 +235,7 @@ invariant_of-rest g c =
             (takes g at) c.in-Ok.ensures.led (apart g at) (IsDeviceOf g.D.Device.gives g.B.SetsName.devices) (held g at).devices (also_held g at).devices c.devices_are_owned.ensures c.devices_are_owned-2.ensures c.devices_are_owned-3.ensures c.devices_are_owned-4.ensures;
       },
       share_leaves k c.self.inside.set led.stay c.in-Ok.rest (cut g at) c.args.change.number led.falls (freed g at) c.divide_share-rest_share.result c.divide_share-rest_share.ensures.rest,
+      none_fresh g.K.RecordKind.rules g.B.JournalName.base c.in-Ok.rest.records [] refl,
     )
 
 pub invariant_of-other-2 : goal.invariant_of-other-2
@@ -240,4 +244,5 @@ invariant_of-other-2 g c =
     let nothing = nothing_is_held k g.met.K.RecordKind.lawful.missing_targets g.B.JournalName.base (IsDeviceOf g.D.Device.gives g.B.SetsName.devices) g.B.CellName.table c.lead_into.new.other c.in-Ok.ensures.led.joins.emptied in (
       subst (λ (o : Option Pass). IsHeld k g.B.JournalName.base (IsDeviceOf g.D.Device.gives g.B.SetsName.devices) g.B.CellName.table o c.lead_into.new.other) (sym c.take-2.ensures.after) nothing,
       subst (λ (o : Option ShareView). IsCounted o c.lead_into.new.other) (sym c.take_share-others.ensures.taken) (none_counted c.lead_into.new.other c.in-Ok.ensures.led.joins.emptied),
+      none_fresh g.K.RecordKind.rules g.B.JournalName.base c.lead_into.new.other.records (watched_by c.other.inside.watched) (ap (λ (v : HeldView g.row.K.Denot g.row.D.Denot). v.watched) c.other.view_is ∙ c.compare.ensures.watched.1 ∙ c.requires.unwatched.1),
     )

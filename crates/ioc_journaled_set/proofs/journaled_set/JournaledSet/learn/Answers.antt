@@ -1,8 +1,7 @@
-use Rattle.std.proofs.Common.{◌≡◌, ℕ, Option, Some, None, sym, ap, ◌∙◌, subst}
+use Rattle.std.proofs.Common.{◌≡◌, ℕ, Option, Some, None, sym, ◌∙◌, subst}
 use Rattle.std.specs.Prelude.{Contains}
 use Rattle.crossbeam_utils.specs.Seq.{cell_view}
 use Rattle.ioc_set.specs.SetState.{now_of}
-use Rattle.ioc_journal.specs.declared.cell.View.{View}
 use Rattle.ioc_journal.specs.Account.{Pass}
 use Rattle.ioc_journaled_set.specs.Holding.{HeldView, IsHeld, numbers_of}
 use Rattle.ioc_journaled_set.specs.SameDevice.{IsDeviceOf}
@@ -32,6 +31,7 @@ invariant_of-self g c =
         devices = held.devices;
       },
       c.self.invariant.1,
+      c.self.invariant.2,
     )
 
 pub tell_both-requires : goal.tell_both-requires

@@ -37,12 +37,13 @@ invariant_of-self-2 g c =
         devices = held.devices;
       },
       c.self.invariant.1,
+      c.self.invariant.2,
     )
 
 pub invariant_of-self : goal.invariant_of-self
 invariant_of-self g c =
     let none : c.self.inside.pass ≡ None = sym c.take.ensures.value ∙ c.in_default.is in
-    (subst (λ (o : Option Pass). IsHeld g.K.RecordKind.rules g.B.JournalName.base (IsDeviceOf g.D.Device.gives g.B.SetsName.devices) g.B.CellName.table o c.self.inside.set) (none ∙ sym c.take.ensures.after) c.self.invariant.0, c.self.invariant.1)
+    (subst (λ (o : Option Pass). IsHeld g.K.RecordKind.rules g.B.JournalName.base (IsDeviceOf g.D.Device.gives g.B.SetsName.devices) g.B.CellName.table o c.self.inside.set) (none ∙ sym c.take.ensures.after) c.self.invariant.0, c.self.invariant.1, c.self.invariant.2)
 
 pub returns-clause-told : goal.returns-clause-told
 returns-clause-told g c n some = (holds g (goal.at.returns-clause-told g c).After-tell_all).records n some

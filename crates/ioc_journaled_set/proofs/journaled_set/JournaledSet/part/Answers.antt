@@ -1,4 +1,4 @@
-use Rattle.std.proofs.Common.{◌≡◌, ◌≤◌, ℕ, false, List, ◌++◌, Option, Some, sym, ap, ◌∙◌, subst}
+use Rattle.std.proofs.Common.{◌≡◌, ◌≤◌, ℕ, false, List, [], ◌++◌, Option, Some, refl, sym, ap, ◌∙◌, subst}
 use Rattle.std.specs.Prelude.{Contains, IsSome, is_some}
 use Rattle.std.specs.FinMap.{get, len}
 use Rattle.crossbeam_utils.specs.Seq.{cell_view}
@@ -18,7 +18,9 @@ use Rattle.ioc_journal.specs.Account.{IsHolder, AreRecords, BothMayFollow, HasCa
 use Rattle.ioc_journal.specs.declared.entry.Note.{Note}
 use Rattle.ioc_journal.specs.declared.cell.View.{View}
 use Rattle.ioc_set.specs.SetState.{now_of}
-use Rattle.ioc_journaled_set.specs.Holding.{HeldView, held_view, IsHeld}
+use Rattle.ioc_watched.specs.Watched.{watched_by}
+use Rattle.ioc_journaled_set.proofs.Fresh.{none_fresh}
+use Rattle.ioc_journaled_set.specs.Holding.{HeldView, held_view, watching, IsHeld}
 use Rattle.ioc_journaled_set.specs.LinkChanges.{link_change, Parts}
 use Rattle.ioc_set.specs.SetStore.{world_of}
 use Rattle.ioc_journaled_set.specs.SameDevice.{IsDeviceOf}
@@ -163,6 +165,7 @@ invariant_of-self-2 g c =
         devices = stay_keeps k c.self.inside.set c.part.new.self c.in-Ok.rest c.args.change.moment c.args.change.number c.args.change.field c.args.change.link (takes g at) c.in-Ok.ensures.apart (IsDeviceOf g.D.Device.gives g.B.SetsName.devices) (held g at).devices c.devices_are_owned-2.ensures;
       },
       share_stays k c.self.inside.set c.part.new.self c.in-Ok.rest (changed g at).records c.args.change.number c.in-Ok.ensures.apart (same g at) c.take_share-share.result c.divide_share-rest_share.new.share (own g at) c.divide_share-rest_share.ensures.share,
+      none_fresh g.K.RecordKind.rules g.B.JournalName.base c.part.new.self.records (watched_by c.self.inside.watched) (ap (λ (v : HeldView g.row.K.Denot g.row.D.Denot). v.watched) c.self.view_is ∙ c.requires.unwatched),
     )
 
 pub invariant_of-rest : goal.invariant_of-rest
@@ -177,6 +180,7 @@ invariant_of-rest g c =
         devices = rest_keeps k c.self.inside.set c.part.new.self c.in-Ok.rest c.args.change.moment c.args.change.number c.args.change.field c.args.change.link (takes g at) c.in-Ok.ensures.apart (IsDeviceOf g.D.Device.gives g.B.SetsName.devices) (held g at).devices c.devices_are_owned.ensures;
       },
       share_leaves k c.self.inside.set c.part.new.self c.in-Ok.rest (changed g at).records c.args.change.number c.in-Ok.ensures.apart (same g at) c.divide_share-rest_share.result c.divide_share-rest_share.ensures.rest,
+      none_fresh g.K.RecordKind.rules g.B.JournalName.base c.in-Ok.rest.records [] refl,
     )
 
 pub returns-clause-parts : goal.returns-clause-parts
@@ -184,7 +188,7 @@ returns-clause-parts g c =
     let k = g.K.RecordKind.rules in
     let base = g.B.JournalName.base in
     let kept = c.keep_change-receipt in
-    subst (λ (v : HeldView g.row.K.Denot g.row.D.Denot). Parts k base v c.args.desk.now c.args.change.moment c.args.change.number c.args.change.field c.args.change.link (held_view c.part.new.self (cell_view kept.new.one).seen)
+    subst (λ (v : HeldView g.row.K.Denot g.row.D.Denot). Parts k base v c.args.desk.now c.args.change.moment c.args.change.number c.args.change.field c.args.change.link (watching c.part.new.self (cell_view kept.new.one).seen (watched_by c.self.inside.watched))
     (held_view c.in-Ok.rest (cell_view kept.new.other).seen) kept.new.desk (world_of c.part.new.buffers.store)) c.self.view_is
     (record {
       falls = c.in-Ok.ensures.apart;

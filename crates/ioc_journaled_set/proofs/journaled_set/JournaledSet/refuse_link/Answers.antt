@@ -11,8 +11,9 @@ use Rattle.ioc_journal.specs.Legal.{map_of}
 use Rattle.ioc_journal.specs.declared.cell.View.{View}
 use Rattle.ioc_journal.specs.Account.{HasCalled, Pass}
 use Rattle.ioc_set.specs.SetState.{now_of}
-use Rattle.ioc_journaled_set.specs.Holding.{HeldView, held_view, IsHeld}
+use Rattle.ioc_journaled_set.specs.Holding.{HeldView, watching, IsHeld}
 use Rattle.ioc_journaled_set.specs.LinkChanges.{Refuses}
+use Rattle.ioc_watched.specs.Watched.{watched_by}
 use Rattle.ioc_journaled_set.specs.SameDevice.{IsDeviceOf}
 use Rattle.ioc_journaled_set.proofs.Serving.{owner_on}
 use Rattle.ioc_journaled_set.proofs.Refusing.{link_there, link_has, refusal_may_follow, refusal_counts_nothing, held_after_refusal}
@@ -98,6 +99,7 @@ invariant_of-self g c =
         devices = held.devices;
       },
       c.self.invariant.1,
+      c.self.invariant.2,
     )
 
 pub returns-clause-refuses : goal.returns-clause-refuses
@@ -106,7 +108,7 @@ returns-clause-refuses g c =
     let none = c.new-2.ensures ∙ c.new.ensures.items in
     let set = c.append-appended.ensures.set in
     subst (λ (v : HeldView g.row.K.Denot g.row.D.Denot). Refuses k g.B.JournalName.base v c.args.desk.now c.args.change.now.moment c.args.change.now.number c.args.change.now.field c.args.change.now.link
-    (held_view c.self.inside.set (cell_view c.append-appended.new.set).seen) c.append-appended.new.desk) c.self.view_is
+    (watching c.self.inside.set (cell_view c.append-appended.new.set).seen (watched_by c.self.inside.watched)) c.append-appended.new.desk) c.self.view_is
     (record {
       forbidden = subst (λ (v : HeldView g.row.K.Denot g.row.D.Denot). stops_put (common_at k (now_of v.set) c.args.change.now.number) c.args.change.now.field ≡ true) (sym c.self.view_is) c.requires.forbidden;
       set = refl;

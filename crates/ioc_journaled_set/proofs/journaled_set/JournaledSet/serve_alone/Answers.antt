@@ -1,5 +1,5 @@
 use Rattle.ioc_journal.specs.Line.{noted}
-use Rattle.std.proofs.Common.{◌≡◌, ◌++◌, ℕ, Option, Some, None, sym, ap, ◌∙◌, subst, arith}
+use Rattle.std.proofs.Common.{refl, ◌≡◌, ◌++◌, ℕ, Option, Some, None, sym, ap, ◌∙◌, subst, arith}
 use Rattle.std.specs.Prelude.{Contains}
 use Rattle.crossbeam_utils.specs.Seq.{cell_view}
 use Rattle.ioc_store.specs.World.{Has}
@@ -16,8 +16,10 @@ use Rattle.ioc_journal.proofs.Numbers.{begins_none}
 use Rattle.ioc_set.specs.SetState.{NoneIsLive, now_of}
 use Rattle.ioc_set.specs.NoCalls.{no_call}
 use Rattle.ioc_set.specs.SetStore.{world_of}
-use Rattle.ioc_journaled_set.specs.Holding.{HeldView, held_view, numbers_of, IsHeld, Serves}
+use Rattle.ioc_journaled_set.specs.Holding.{HeldView, watching, numbers_of, IsHeld, Serves}
 use Rattle.ioc_journaled_set.specs.SameDevice.{IsDeviceOf}
+use Rattle.ioc_watched.specs.Watched.{watched_by}
+use Rattle.ioc_journaled_set.proofs.Fresh.{none_fresh}
 use Rattle.ioc_journaled_set.proofs.Keys.{key_there}
 use Rattle.ioc_journaled_set.proofs.Devices.{worked_there, keeps_on}
 use Rattle.ioc_journaled_set.proofs.Ended.{none_have_ended, ends_so}
@@ -118,6 +120,7 @@ invariant_of-self-2 g c =
       counted_then c.take_share-share.result c.self.inside.share c.counts_since-counts.result.share c.append-appended.result.share c.self.inside.set c.run_with_answers.new.set c.counts_since-counts.result.after c.take_share-share.ensures.share c.counts_since-counts.ensures.share c.self.invariant.1
           c.append-appended.ensures.share c.counts_since-counts.ensures.counts.1
           (as_many g.K.RecordKind.rules g.D.Device.gives c.self.inside.set c.run_with_answers.new.set c.args.moment c.args.event.now c.in-Ok.done.0 (world_of c.run_with_answers.new.buffers.store) c.in-Ok.ensures.ok (there g at) c.calls_have_laws.ensures.events held.holds.shut),
+      none_fresh g.K.RecordKind.rules g.B.JournalName.base c.run_with_answers.new.set.records (watched_by c.self.inside.watched) (ap (λ (v : HeldView g.row.K.Denot g.row.D.Denot). v.watched) c.self.view_is ∙ c.requires.unwatched),
     )
 
 pub returns-clause-serves : goal.returns-clause-serves
@@ -127,12 +130,13 @@ returns-clause-serves g c =
     let k = g.K.RecordKind.rules in
     let set = c.append-appended.ensures.set in
     subst (λ (v : HeldView g.row.K.Denot g.row.D.Denot). Serves k g.D.Device.gives g.B.JournalName.base v c.args.desk.now c.args.moment c.args.event.now c.in-Ok.done.0
-    (held_view c.run_with_answers.new.set (cell_view c.append-appended.new.set).seen) c.append-appended.new.desk (world_of c.run_with_answers.new.buffers.store)) c.self.view_is
+    (watching c.run_with_answers.new.set (cell_view c.append-appended.new.set).seen (watched_by c.self.inside.watched)) c.append-appended.new.desk (world_of c.run_with_answers.new.buffers.store)) c.self.view_is
     (record {
       is_call = subst (λ (v : HeldView g.row.K.Denot g.row.D.Denot). no_call k (now_of v.set) c.args.event.now ≡ None) (sym c.self.view_is) c.requires.is_call;
       does = c.in-Ok.ensures.ok;
       call = subst (λ (x : Entry). HasCalled k g.B.JournalName.base c.args.desk.now x c.append-appended.new.desk) (sym (done g at).entry_is) c.append-appended.ensures.call;
       seen = ap (λ (v : View). v.seen) set.1;
+      watched = refl;
     })
 
 pub returns-clause-ended : goal.returns-clause-ended

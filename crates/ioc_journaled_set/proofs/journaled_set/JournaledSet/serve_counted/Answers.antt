@@ -16,7 +16,9 @@ use Rattle.ioc_set.specs.SetState.{now_of}
 use Rattle.ioc_set.specs.NoCalls.{no_call}
 use Rattle.ioc_set.specs.declared.set_store.SetStore.{SetStore}
 use Rattle.ioc_set.specs.SetStore.{world_of}
-use Rattle.ioc_journaled_set.specs.Holding.{HeldView, held_view, numbers_of, IsHeld, Serves}
+use Rattle.ioc_journaled_set.specs.Holding.{HeldView, watching, numbers_of, IsHeld, Serves}
+use Rattle.ioc_watched.specs.Watched.{watched_by}
+use Rattle.ioc_journaled_set.proofs.Fresh.{none_fresh}
 use Rattle.ioc_journaled_set.specs.Puts.{CanBegin, AreMoved, AreCounted, HaveEnded, PutsView, puts_view}
 use Rattle.ioc_journaled_set.specs.SameDevice.{IsDeviceOf}
 use Rattle.ioc_journaled_set.proofs.Keys.{key_there}
@@ -132,6 +134,7 @@ invariant_of-self-2 g c =
       counted_then c.take_share-share.result c.self.inside.share c.counts_since-counts.result.share c.keep_beside-appended.result.share c.self.inside.set c.run_counted.new.set c.counts_since-counts.result.after c.take_share-share.ensures.share c.counts_since-counts.ensures.share c.self.invariant.1
           c.keep_beside-appended.ensures.share c.counts_since-counts.ensures.counts.1
           (as_many g.K.RecordKind.rules g.D.Device.gives c.self.inside.set c.run_counted.new.set c.args.moment c.args.event.now c.in_ok-ran.ran.reply (world_of c.run_counted.new.buffers.store) does (there g at) c.calls_have_laws.ensures.events held.holds.shut),
+      none_fresh g.K.RecordKind.rules g.B.JournalName.base c.run_counted.new.set.records (watched_by c.self.inside.watched) (ap (λ (v : HeldView g.row.K.Denot g.row.D.Denot). v.watched) c.self.view_is ∙ c.requires.unwatched),
     )
 
 pub returns-clause-serves : goal.returns-clause-serves
@@ -140,7 +143,7 @@ returns-clause-serves g c =
     let at = (goal.at.returns-clause-serves g c).After-is_counted in
     let k = g.K.RecordKind.rules in
     let base = g.B.JournalName.base in
-    let then = held_view c.run_counted.new.set (cell_view c.keep_beside-appended.new.pass).seen in
+    let then = watching c.run_counted.new.set (cell_view c.keep_beside-appended.new.pass).seen (watched_by c.self.inside.watched) in
     subst (λ (x : SetStore g.row.K.Denot g.row.D.Denot). Serves k g.D.Device.gives base c.args.self.now c.args.desk.now c.args.moment c.args.event.now c.in_ok-ran.ran.reply then c.keep_beside-appended.new.desk (world_of x)) (sym c.keep_beside-appended.ensures.store)
     (subst (λ (v : HeldView g.row.K.Denot g.row.D.Denot). Serves k g.D.Device.gives base v c.args.desk.now c.args.moment c.args.event.now c.in_ok-ran.ran.reply then c.keep_beside-appended.new.desk (world_of c.run_counted.new.buffers.store)) c.self.view_is
     (record {
@@ -148,6 +151,7 @@ returns-clause-serves g c =
       does = c.in_ok-ran.ensures.does;
       call = subst (λ (x : Entry). HasCalled k base c.args.desk.now x c.keep_beside-appended.new.desk) (sym (done g at).entry_is) c.keep_beside-appended.ensures.call;
       seen = ap (λ (v : View). v.seen) c.keep_beside-appended.ensures.pass.1;
+      watched = refl;
     }))
 
 pub returns-clause-ended : goal.returns-clause-ended

@@ -1,4 +1,5 @@
-use Rattle.std.proofs.Common.{◌⊎◌, ◌≤◌, ℕ, length, ap, sym, ◌∙◌, subst}
+use Rattle.std.proofs.Common.{◌⊎◌, ◌≤◌, ℕ, List, length, ap, sym, ◌∙◌, subst, arith}
+use Rattle.ioc_notify.specs.declared.waiting_lists.Waiting.{Waiting}
 use Rattle.ioc_store.specs.World.{World}
 use Rattle.ioc_events.specs.Holding.{IsCounted}
 use Rattle.ioc_set.specs.SetStore.{world_of}
@@ -59,3 +60,10 @@ returns-clause-short g c =
     let grown = c.push_reserved.new.self.items in
     subst (λ (most : ℕ). (length grown ≤ most) ⊎ (length grown ≤ 1)) c.make_room.ensures.history
     (is_short c.make_room.new.self.history c.make_place.new.history.items grown c.run_set_event-kept.result c.push_reserved.ensures.items c.in_ok-make_place.ensures.few)
+
+pub make_place-requires-clause-fits : goal.make_place-requires-clause-fits
+make_place-requires-clause-fits g c =
+    let one = c.self.inside in
+    let few = c.are_few.ensures in
+    let fewer = c.held_records_are_sound.ensures.fewer (held_by one.members one.puts one.base_tally one.tally one.history.items) c.self.invariant.0 in
+    subst (λ (ws : List Waiting). length ws ≤ 256) (sym c.make_room_for.ensures.waiting) (omega (arith, few, fewer))

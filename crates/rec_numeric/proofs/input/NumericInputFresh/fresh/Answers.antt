@@ -4,4 +4,4 @@ use Rattle.rec_numeric.proofs.input.NumericInputFresh.fresh.Goals as goal
 
 pub returns-clause-defaults : goal.returns-clause-defaults
 unfolding new_input
-returns-clause-defaults g c = rw (c.new.ensures, c.new-2.ensures) (input_new g.N.Number.number g.N.WholeNumber.whole g.met.N.Number.lawful)
+returns-clause-defaults g c = rw (c.new.ensures, c.new-2.ensures) (input_new g.N.Number.number g.N.LimitNumber.order g.met.N.Number.lawful)

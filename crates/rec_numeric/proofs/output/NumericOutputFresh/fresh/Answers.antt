@@ -4,4 +4,4 @@ use Rattle.rec_numeric.proofs.output.NumericOutputFresh.fresh.Goals as goal
 
 pub returns-clause-defaults : goal.returns-clause-defaults
 unfolding new_output
-returns-clause-defaults g c = rw (c.new.ensures, c.new-2.ensures, c.zero.ensures, c.zero-2.ensures, c.zero-3.ensures) (output_new g.N.Number.number g.N.WholeNumber.whole g.met.N.Number.lawful)
+returns-clause-defaults g c = rw (c.new.ensures, c.new-2.ensures, c.zero.ensures, c.zero-2.ensures, c.zero-3.ensures) (output_new g.N.Number.number g.N.LimitNumber.order g.met.N.Number.lawful)

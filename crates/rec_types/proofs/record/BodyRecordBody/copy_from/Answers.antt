@@ -42,3 +42,9 @@ copy_from-requires-in-Fanout-other-clause-same_links c = same_links c.in-Fanout.
 
 pub copy_from-requires-in-Event-other-clause-same_links : goal.copy_from-requires-in-Event-other-clause-same_links
 copy_from-requires-in-Event-other-clause-same_links c = same_links c.in-Event.is c.in-Event-other.is c.requires.same_links
+
+pub copy_from-requires-in-Ai-other-clause-same_links : goal.copy_from-requires-in-Ai-other-clause-same_links
+copy_from-requires-in-Ai-other-clause-same_links c = same_links c.in-Ai.is c.in-Ai-other.is c.requires.same_links
+
+pub copy_from-requires-in-Ao-other-clause-same_links : goal.copy_from-requires-in-Ao-other-clause-same_links
+copy_from-requires-in-Ao-other-clause-same_links c = same_links c.in-Ao.is c.in-Ao-other.is c.requires.same_links

@@ -1,0 +1,4 @@
+pub mod Content
+pub mod Rules
+pub mod Due
+pub mod Lines
