@@ -1,8 +1,12 @@
-use super::*;
+//! The lines of a journal: each entry and each part of a base has its line, which reads back as it.
 use ioc_dbcommon::{FieldAddress, Lead, LinkField};
 use ioc_device::Answer;
 use ioc_events::{Call, Event, Reply};
 use ioc_fields::{FieldNo, FieldSlot, OwnField};
+use ioc_journal_file::{
+    BaseItem, HiddenState, LineError, Mark, NextFile, Part, add_item, add_next, item_of, next_of,
+    parse, print, print_entry,
+};
 use ioc_ledger::Outcome;
 use ioc_links::{Flags, Link, Mode, Target};
 use ioc_names::RecordNo;

@@ -1,4 +1,7 @@
-use super::*;
+//! The lines of a journal's file that are no entries.
+use ioc_journal_lines::{
+    Header, Seals, add_base, add_header, add_seal, base_of, end_of, header_of, seal_of,
+};
 use ioc_saved::{SavedText, SavedValue};
 use ioc_values::{FieldName, Name, Short};
 use std::alloc::AllocError;

@@ -1,4 +1,8 @@
-use super::*;
+//! Files of saved values, lines of a request file, and the blocks of a database that set saved values.
+use ioc_saved::{
+    RequestLine, SavedFault, SavedText, SavedValue, add_block, add_saved, begin_saved, end_saved,
+    has_block, parse_saved, request_line, saved_in,
+};
 use ioc_values::{FieldName, Name};
 use std::alloc::Global;
 use std::test::*;
