@@ -28,6 +28,9 @@ TYPES = {
     }.items()
 }
 LINKS = {"INP", "OUT", "DOL", "SDIS", "SELL", "FLNK", *SLOTS}
+# The links into which a constant with a point may go by any type, and the types that take one in INP and DOL.
+REAL_LINKS = {"OUT", "FLNK", *SLOTS}
+REAL_TYPES = {"ai", "ao", "stringin", "stringout", "event"}
 FIXED = set("NAME STAT NSTA SEVR NSEV LCNT PACT PUTF RPRO TIME LALM MLST ALST INIT OVAL PVAL".split())
 EVERY_FIELD = sorted({name for names in TYPES.values() for name in names}) + ["NOPE", "val", ""]
 SCANS = ["Passive", "Event", "I/O Intr", "10 second", "5 second", "2 second", "1 second", ".5 second", ".2 second", ".1 second"]
@@ -104,13 +107,14 @@ def holds(kind: str, name: str) -> str:
     return "flag" if name == "UDF" else "int64" if kind.startswith("int64") else "long"
 
 
-def drawn_link(generator: random.Random, of: Database, name: str, good: bool = False) -> str:
+def drawn_link(generator: random.Random, of: Database, name: str, kind: str, good: bool = False) -> str:
     """A text for a link field: mostly a link to a record that is there, in one of its spellings."""
     draw = generator.random()
     if draw < 0.05:
         return ""
     if draw < 0.1:
-        return generator.choice(["0", "1", "+1", "0x1"])
+        takes_real = name in REAL_LINKS or (name in ("INP", "DOL") and kind in REAL_TYPES)
+        return generator.choice(["0", "1", "+1", "0x1"] + ["2.5", "-.5E-3", "1e3", "5."] * takes_real)
     if draw < 0.45 and name in ("INP", "OUT"):
         return "@" + generator.choice(DEVICES)
     if draw > 0.98 and not good:
@@ -156,7 +160,7 @@ def drawn_database(generator: random.Random, good: bool) -> Database:
         weights = [20 if it in ("INP", "OUT") else 4 if it in ("DOL", "OMSL", "FLNK", "SCAN", "VAL") else 1 for it in settable]
         body = []
         for it in generator.choices(settable, weights, k=generator.randint(0, 9)):
-            value = "1" if it in FIXED else drawn_link(generator, made, it, good) if it in LINKS else drawn_value(generator, kind, it, good)
+            value = "1" if it in FIXED else drawn_link(generator, made, it, kind, good) if it in LINKS else drawn_value(generator, kind, it, good)
             body.append(f"field({it}, {spelled(generator, value, macros)})")
             if value.startswith("@"):
                 made.devices.append(name)
@@ -227,7 +231,7 @@ def drawn_script(generator: random.Random, of: Database) -> bytes:
             case "link":
                 links = [it for it in TYPES[kind] if it in LINKS] if generator.random() < 0.95 else EVERY_FIELD
                 at = generator.choice(links)
-                lines.append(f"link {name}.{at} {drawn_link(generator, of, at)}")
+                lines.append(f"link {name}.{at} {drawn_link(generator, of, at, kind)}")
             case "next":
                 lines += [f"next {name} {generator.choice(['done ' + text, 'fault', 'later'])}"] * generator.choice([1, 1, 3])
             case "done":
