@@ -2,6 +2,7 @@
 mod analog;
 mod devices;
 mod directory;
+mod doubles;
 mod endings;
 mod entries;
 mod facts;
