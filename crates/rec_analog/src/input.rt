@@ -11,7 +11,7 @@ use ioc_dbcommon::{
 };
 use ioc_fields::{OwnField, RecordType};
 use ioc_links::Link;
-use ioc_record::RecordBody;
+use ioc_record::{RecordBody, real_in};
 use ioc_values::{Double, Kind, Range, Text, Value};
 use std::alloc::{AllocError, Global};
 
@@ -153,14 +153,29 @@ impl RecordBody for Ai {
         &[]
     }
 
-    // Not inlined: a read of another type would pay for its room on the stack.
-    #[tactic(auto, unfolding(crate::specs::Input::ai_get))]
-    #[inline(never)]
+    #[tactic(auto, unfolding(crate::specs::Input::ai_get, crate::specs::Scale::scale_get))]
     fn get(&self, field: OwnField) -> Option<Value> {
         match field {
             OwnField::Smoo => Some(Value::Double(self.smoothing)),
             OwnField::Init => Some(Value::UChar(self.initial)),
-            _ => self.scale.get(field).or(self.analog.get(field)),
+            OwnField::Linr
+            | OwnField::Eguf
+            | OwnField::Egul
+            | OwnField::Eslo
+            | OwnField::Eoff
+            | OwnField::Aslo
+            | OwnField::Aoff
+            | OwnField::Roff
+            | OwnField::Rval => self.scale.get(field),
+            _ => self.analog.get(field),
+        }
+    }
+
+    #[tactic(auto, unfolding(crate::specs::Input::ai_get, crate::specs::Scale::scale_get, crate::specs::Analog::analog_get))]
+    fn real(&self, field: OwnField) -> Option<Double> {
+        match field {
+            OwnField::Val => Some(self.analog.value),
+            _ => real_in(self.get(field)),
         }
     }
 

@@ -14,7 +14,7 @@ use ioc_dbcommon::{
 use ioc_fields::{OwnField, RecordType};
 use ioc_links::Link;
 use ioc_menus::Oif;
-use ioc_record::RecordBody;
+use ioc_record::{RecordBody, real_in};
 use ioc_values::{Double, Kind, Text, Value};
 use std::alloc::{AllocError, Global};
 
@@ -226,9 +226,7 @@ impl RecordBody for Ao {
         &[]
     }
 
-    // Not inlined: a read of another type would pay for its room on the stack.
-    #[tactic(auto, unfolding(crate::specs::Output::ao_get))]
-    #[inline(never)]
+    #[tactic(auto, unfolding(crate::specs::Output::ao_get, crate::specs::Scale::scale_get))]
     fn get(&self, field: OwnField) -> Option<Value> {
         match field {
             OwnField::Oif => Some(Value::Enum(self.increment.number())),
@@ -239,7 +237,24 @@ impl RecordBody for Ao {
             OwnField::Pval => Some(Value::Double(self.previous)),
             OwnField::Ivov => Some(Value::Double(self.invalid_value)),
             OwnField::Omsl | OwnField::Ivoa => self.drive.get(field),
-            _ => self.scale.get(field).or(self.analog.get(field)),
+            OwnField::Linr
+            | OwnField::Eguf
+            | OwnField::Egul
+            | OwnField::Eslo
+            | OwnField::Eoff
+            | OwnField::Aslo
+            | OwnField::Aoff
+            | OwnField::Roff
+            | OwnField::Rval => self.scale.get(field),
+            _ => self.analog.get(field),
+        }
+    }
+
+    #[tactic(auto, unfolding(crate::specs::Output::ao_get, crate::specs::Scale::scale_get, crate::specs::Analog::analog_get))]
+    fn real(&self, field: OwnField) -> Option<Double> {
+        match field {
+            OwnField::Val => Some(self.analog.value),
+            _ => real_in(self.get(field)),
         }
     }
 

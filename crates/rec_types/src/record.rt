@@ -5,7 +5,7 @@ use crate::on_heap;
 use ioc_dbcommon::{BodyBox, Condition, Fresh, Got, InputKind, LinkBox, LinkUse, Need, Output};
 use ioc_fields::{OwnField, RecordType};
 use ioc_record::RecordBody;
-use ioc_values::{Range, Text, Value};
+use ioc_values::{Double, Range, Text, Value};
 use rec_analog::{Ai, Ao};
 use rec_flow::{EventBody, Fanout};
 use rec_numeric::{Int64in, Int64out, Longin, Longout};
@@ -167,6 +167,10 @@ impl RecordBody for Body {
         ask!(self, body => body.number(field))
     }
 
+    fn real(&self, field: OwnField) -> Option<Double> {
+        ask!(self, body => body.real(field))
+    }
+
     fn store(&mut self, condition: &mut Condition, field: OwnField, value: Value) {
         work!(self, body => body.store(condition, field, value), on_heap::store(body, condition, field, value))
     }
@@ -201,6 +205,7 @@ impl RecordBody for Body {
         work!(self, body => body.take(condition, got, output), on_heap::take(body, condition, got, output))
     }
 
+    #[inline(always)]
     fn post(&mut self) {
         work!(self, body => body.post(), on_heap::post(body))
     }
