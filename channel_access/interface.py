@@ -95,20 +95,11 @@ GotReading = Callable[[Optional[Reading]], None]
 Told = Callable[[int, Reading], None]
 
 
-class Wanted(NamedTuple):
-    """What is watched: a field by its text, or by the number behind it if it has one, perhaps with the record's properties."""
-
-    record: Record
-    field: Field
-    is_text: bool
-    with_properties: bool
-
-
 class Watch:
     """A field that is watched."""
 
-    def __init__(self, wanted: Wanted, told: Told) -> None:
-        self.wanted, self.told = wanted, told
+    def __init__(self, record: Record, field: Field, told: Told) -> None:
+        self.record, self.field, self.told = record, field, told
 
 
 class PutCallback:
@@ -138,11 +129,11 @@ class Ioc(Protocol):
     def cancel(self, begun: PutCallback, freed: Callable[[], None]) -> None:
         """Gives up a put with notification: its `done` is never called. `freed` is called when it has its place no more."""
 
-    def watch(self, wanted: Wanted, told: Told) -> Watch:
+    def watch(self, record: Record, field: Field, told: Told) -> Watch:
         """Watches a field: `told` hears of each change from the first `look` on."""
 
     def look(self, watch: Watch, first: GotReading) -> None:
-        """Gives a watched field as it is now. What comes to `told` behind `first` is of later moments."""
+        """Reads a watched field now; its `told` is called before `first` if that shows a change."""
 
     def unwatch(self, watch: Watch) -> None:
         """Ends a watch: its `told` is never called again."""

@@ -5,19 +5,14 @@
 #![tactic(auto)]
 
 use ioc_app::{
-    Console, Header, JournalFile, Outputs, Plant, RunFault, Saving, Sizes, Ticks, database_hash,
-    ioc_run,
+    Args, Asks, Console, CreateFiles, Devices, FileSeries, Header, JournalFile, Mode, Outputs,
+    PROGRAM, Plant, ReplaceFiles, Requested, Restored, RunFault, Saving, Sizes, Ticks,
+    counting_devices, database_hash, file_name, ioc_args, ioc_run, path_of, saved_values,
 };
-use ioc_arguments::{Args, Devices, Mode, PROGRAM, ioc_args};
 use ioc_command_line::{
     Ending, FileRole, Reason, Stage, Stop, bad_database, given, read_whole, show,
 };
-use ioc_devices::{Asks, counting_devices};
 use ioc_engine::{Database, Device, DeviceName, LoadError, SystemClock, load};
-use ioc_files::{
-    CreateFiles, FileSeries, ReplaceFiles, Requested, Restored, path_of, saved_values,
-};
-use ioc_listing::file_name;
 use ioc_saved::SavedValue;
 use ioc_values::Short;
 use std::alloc::{Alloc, Global};

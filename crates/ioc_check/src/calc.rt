@@ -1,20 +1,13 @@
 //! The expression of a calc record, tried on numbers.
-use ioc_calc::{CalcFault, CalcFaultKind, LeftOut, compile};
+use ioc_calc::{CalcFault, compile};
 use ioc_double::{Double, double_of_text, exact_text};
 use ioc_site::{Finding, Place, Severity};
 use ioc_site_reader::Definition;
-use ioc_spelling::nearest;
+use ioc_site_rules::expression_fault;
 use std::alloc::{AllocError, Global};
-use std::fmt;
 
 /// The names of what findings of a trial are of: the expression, and the words behind it.
 pub const NAMES: [&[u8]; 2] = [b"CALC", b"input"];
-
-/// The words of an expression, but for its inputs and for numbers.
-const WORDS: [&str; 16] = [
-    "ABS", "AND", "CEIL", "FINITE", "FLOOR", "ISINF", "ISNAN", "MAX", "MIN", "NINT", "NOT", "OR",
-    "SQR", "SQRT", "VAL", "XOR",
-];
 
 /// What an expression gives, or what is wrong with it.
 #[derive(Drop)]
@@ -92,116 +85,10 @@ impl Inputs {
     }
 }
 
-// What may have been meant where an expression can't go on.
-#[derive(Clone, Copy)]
-enum Meant {
-    Nothing,
-    Word(&'static str),
-    /// `A?B:C`
-    Choice,
-    /// A letter from A to L.
-    Input,
-    /// `)` at the end.
-    Bracket,
-    /// `:` and a value at the end.
-    Colon,
-}
-
-impl fmt::Display for Meant {
-    fn fmt<W: fmt::Write>(&self, f: &mut fmt::Formatter<W>) -> fmt::Result {
-        match self {
-            Meant::Nothing => Ok(()),
-            Meant::Word(word) => write!(f, "; did you mean {word}?"),
-            Meant::Choice => f.write_str("; write A?B:C"),
-            Meant::Input => f.write_str("; inputs are A to L"),
-            Meant::Bracket => f.write_str("; put ')' at its end"),
-            Meant::Colon => f.write_str("; put ':' and a value at its end"),
-        }
-    }
-}
-
-// Returns the word at a byte of an expression, and where it begins.
-fn word_at(text: &[u8], byte: usize) -> (usize, &[u8]) {
-    let before = text.get(..byte).unwrap_or(text);
-    let count = before
-        .iter()
-        .rev()
-        .take_while(|b| b.is_ascii_alphanumeric())
-        .count();
-    let first = before.len().saturating_sub(count);
-    let rest = text.get(first..).unwrap_or(&[]);
-    let length = rest
-        .iter()
-        .take_while(|b| b.is_ascii_alphanumeric())
-        .count();
-    (first, rest.get(..length).unwrap_or(rest))
-}
-
-// Returns how often the byte is in the text.
-fn count_of(sign: u8, text: &[u8]) -> usize {
-    text.iter().filter(|byte| **byte == sign).count()
-}
-
-// Returns what is missing at the end of an expression.
-fn missing_in(text: &[u8]) -> Meant {
-    if count_of(b')', text) < count_of(b'(', text) {
-        Meant::Bracket
-    } else if count_of(b':', text) < count_of(b'?', text) {
-        Meant::Colon
-    } else {
-        Meant::Nothing
-    }
-}
-
-// Returns what may have been meant at this byte of an expression or before it, and where it begins.
-fn meant(alloc: Global, text: &[u8], byte: usize) -> Result<(usize, Meant), AllocError> {
-    for first in [byte.saturating_sub(1), byte] {
-        if text.get(first..).unwrap_or(&[]).starts_with(b"<>") {
-            return Ok((first, Meant::Word("#")));
-        }
-    }
-    if byte >= text.len() {
-        return Ok((byte, missing_in(text)));
-    }
-    let (first, word) = word_at(text, byte);
-    let known: &'static [&'static str] = &WORDS;
-    Ok(match word {
-        [] => (byte, Meant::Nothing),
-        [b'M'..=b'Z' | b'm'..=b'z'] => (first, Meant::Input),
-        [b'I' | b'i', b'F' | b'f'] => (first, Meant::Choice),
-        _ => match nearest(alloc, word, known)? {
-            Some(name) if name.as_bytes() != word => (first, Meant::Word(name)),
-            _ => (byte, Meant::Nothing),
-        },
-    })
-}
-
-// Returns what is said of a function or a sign that is left out: what there is in its place.
-fn replaced_by(word: LeftOut) -> &'static str {
-    match word {
-        LeftOut::Caret | LeftOut::Stars => {
-            ", unless a whole number from 0 to 64 follows it; SQR gives the square root"
-        }
-        _ => "; a driver can compute it (docs/DRIVERS.md)",
-    }
-}
-
 // Returns the finding of a text that is no expression.
 fn refused(alloc: Global, text: &[u8], fault: CalcFault) -> Result<Finding, AllocError> {
-    let (byte, hint) = meant(alloc, text, fault.byte)?;
-    let said = match fault.kind {
-        CalcFaultKind::LeftOut(word) => {
-            let (name, rest) = (word.name(), replaced_by(word));
-            let said = format!(in alloc; "{name} is known to EPICS and left out here{rest}")?;
-            return Ok(fault_at(0, 1, fault.byte, said));
-        }
-        CalcFaultKind::Bad if text.is_empty() => String::from_str(alloc, "there is no expression")?,
-        CalcFaultKind::Bad if text.len() > 79 => {
-            String::from_str(alloc, "an expression has at most 79 bytes")?
-        }
-        CalcFaultKind::Bad => format!(in alloc; "the expression can't go on like this{hint}")?,
-    };
-    Ok(fault_at(0, 1, byte, said))
+    let found = expression_fault(alloc, text, fault)?;
+    Ok(fault_at(0, 1, found.byte, found.text))
 }
 
 // Appends a number with all its digits; a whole one without a point.

@@ -49,8 +49,6 @@ pub struct Words<'a> {
     /// The paths of the database files.
     pub paths: Vec<&'a [u8]>,
     pub definitions: Vec<Definition>,
-    /// The words that define them, in the order in which the other programs take them.
-    pub defining: Vec<&'a str>,
     /// The folders in which included files are looked for.
     pub folders: Vec<&'a [u8]>,
     /// Whether the lock sets are printed.
@@ -130,7 +128,7 @@ fn with_outputs<'a>(alloc: Global, command: Command<'a>) -> Result<Command<'a>, 
 
 impl<'a> Words<'a> {
     // Adds the macros of `NAME=VALUE`, or of several with commas between them.
-    fn define(&mut self, alloc: Global, word: &'a str) -> Result<(), Stop> {
+    fn define(&mut self, alloc: Global, word: &str) -> Result<(), Stop> {
         let mut defined = parse_definitions(alloc, word.as_bytes())?;
         if defined.fault.is_some() {
             let text = String::from_str(alloc, word)?;
@@ -139,14 +137,13 @@ impl<'a> Words<'a> {
         self.definitions
             .append(&mut defined.list)
             .map_err(AllocError::from)?;
-        self.defining.push(word).map_err(AllocError::from)?;
         Ok(())
     }
 
     // Adds what the words of the command line say.
     fn add(&mut self, alloc: Global, matches: &ArgMatches<'a>) -> Result<(), Stop> {
         for word in matches.get_strs(MACROS).unwrap_or(&[]) {
-            self.define(alloc, *word)?;
+            self.define(alloc, word)?;
         }
         for folder in matches.get_strs(FOLDERS).unwrap_or(&[]) {
             self.folders
@@ -155,7 +152,7 @@ impl<'a> Words<'a> {
         }
         for word in matches.get_strs(FILES).unwrap_or(&[]) {
             if word.contains('=') {
-                self.define(alloc, *word)?;
+                self.define(alloc, word)?;
             } else {
                 self.paths.push(word.as_bytes()).map_err(AllocError::from)?;
             }
@@ -175,7 +172,6 @@ impl<'a> Words<'a> {
         let mut said = Words {
             paths: Vec::new(alloc),
             definitions: Vec::new(alloc),
-            defining: Vec::new(alloc),
             folders: Vec::new(alloc),
             sets: matches.get_flag(SETS),
             dot: matches.get_flag(DOT),

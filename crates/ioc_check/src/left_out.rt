@@ -1,7 +1,7 @@
 //! Leaves out what EPICS has and this project doesn't.
 use ioc_fields::RecordType;
 use ioc_site::{Entry, EntryKind, Finding, RecordText, Statement, Word};
-use ioc_site_rules::{left_out_field, left_out_type};
+use ioc_site_rules::{is_left_out_field, is_left_out_type};
 use ioc_site_writer::{Reason, Standing, Subject, Types};
 use std::alloc::{AllocError, Global};
 
@@ -45,7 +45,7 @@ impl Sieve {
         let name = record.record_type.text.as_slice();
         if self.left_out_types == LeftOutTypes::Keep || name == b"*".as_slice() {
             None
-        } else if left_out_type(name).is_some() {
+        } else if is_left_out_type(name) {
             Some(Reason::LeftOutType)
         } else if RecordType::from_name(name).is_none() {
             Some(Reason::UnknownType)
@@ -63,8 +63,7 @@ impl Sieve {
         let mut kept = Vec::new(self.alloc);
         for entry in entries {
             let name = entry.name.text.as_slice();
-            let is_left_out = left_out_field(record_type, name).is_some();
-            if entry.kind == EntryKind::Field && is_left_out {
+            if entry.kind == EntryKind::Field && is_left_out_field(record_type, name) {
                 self.drop_named("field", &entry.name, Reason::LeftOut)?;
             } else {
                 kept.push(entry)?;

@@ -93,10 +93,8 @@ pub fn prepared(alloc: Global, words: &Words<'_>, reading: Reading) -> Result<Re
     }
     let Reading {
         files,
-        texts,
         statements,
         mut findings,
-        first_loss,
     } = reading;
     let Kept {
         statements,
@@ -105,10 +103,8 @@ pub fn prepared(alloc: Global, words: &Words<'_>, reading: Reading) -> Result<Re
     findings.append(&mut dropped).map_err(AllocError::from)?;
     Ok(Reading {
         files,
-        texts,
         statements,
         findings,
-        first_loss,
     })
 }
 

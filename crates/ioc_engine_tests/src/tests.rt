@@ -4,6 +4,7 @@ mod calling;
 mod calls;
 mod eight;
 mod moments;
+mod programs;
 mod replayed;
 mod running;
 mod scanned;

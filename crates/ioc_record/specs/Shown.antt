@@ -16,8 +16,3 @@ number_shown (Some (value.Int64 z)) = Some z
 number_shown (Some (value.Enum n)) = None
 number_shown (Some (value.Double x)) = None
 number_shown (Some (value.Text text)) = None
-
--- The double that a value is, in a field of any sort.
-abbrev pub real_shown : Option Value → Option Double
-real_shown (Some (value.Double x)) = Some x
-real_shown _ = None

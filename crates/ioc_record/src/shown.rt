@@ -1,8 +1,8 @@
 //! Values shown as numbers.
 ghost use Rattle.std.specs.Prelude.{◌≡◌};
-ghost use Rattle.ioc_record.specs.Shown.{number_shown, real_shown};
+ghost use Rattle.ioc_record.specs.Shown.{number_shown};
 
-use ioc_values::{Double, Value};
+use ioc_values::Value;
 
 /// Returns the whole number that a value shows in a field of any kind, or `None` if it is a double, a
 /// choice, a state or a text.
@@ -17,15 +17,5 @@ pub fn number_in(value: Option<Value>) -> Option<i64>
         Some(Value::UChar(number)) => Some(i64::from(number)),
         Some(Value::Int64(number)) => Some(number),
         Some(Value::Double(_) | Value::Enum(_) | Value::Text(_)) | None => None,
-    }
-}
-
-/// Returns the double that a value is, or `None` if it is none.
-pub fn real_in(value: Option<Value>) -> Option<Double>
-    ensures { result ≡ real_shown value }
-{
-    match value {
-        Some(Value::Double(number)) => Some(number),
-        _ => None,
     }
 }

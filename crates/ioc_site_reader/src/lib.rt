@@ -4,11 +4,12 @@
 
 mod entries;
 mod files;
-mod first_words;
 mod reader;
 mod sources;
 mod statements;
 mod substitutions;
+#[cfg(test)]
+mod tests;
 mod words;
 
 pub use ioc_site_lines::{Definition, Definitions, parse_definitions};

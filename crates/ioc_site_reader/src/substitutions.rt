@@ -23,9 +23,6 @@ struct Items {
 /// The words that begin statements.
 const HEADINGS: [&str; 2] = ["file", "global"];
 
-/// The word before the names of the macros that sets give values.
-const PATTERN: [&str; 1] = ["pattern"];
-
 /// Returns the word that begins a statement and may have been meant by this one.
 fn near_heading(alloc: Global, text: &[u8]) -> Result<Option<&'static str>, AllocError> {
     let known: &'static [&'static str] = &HEADINGS;
@@ -50,9 +47,8 @@ fn unquoted(text: &[u8]) -> &[u8] {
     }
 }
 
-/// Passes what is before the next statement, of which something can't be read.
+/// Passes what is before the next statement.
 fn skip_to_heading(words: &mut Words) -> Result<(), AllocError> {
-    words.lacks_records = true;
     for _ in 0..u64::MAX {
         words.stream.look()?;
         let stops = match &words.stream.ahead {
@@ -129,9 +125,8 @@ fn extend(
     Ok(())
 }
 
-/// Adds the definitions of items `NAME=VALUE`. The first that is none is reported. Returns whether each is
-/// one.
-fn define(words: &mut Words, items: &Items, set: &mut Vec<Definition>) -> Result<bool, AllocError> {
+/// Adds the definitions of items `NAME=VALUE`. The first that is none is reported.
+fn define(words: &mut Words, items: &Items, set: &mut Vec<Definition>) -> Result<(), AllocError> {
     let mut is_reported = false;
     for item in &items.list {
         let text = item.text.as_slice();
@@ -147,29 +142,22 @@ fn define(words: &mut Words, items: &Items, set: &mut Vec<Definition>) -> Result
             }
         }
     }
-    Ok(!is_reported)
+    Ok(())
 }
 
-/// Returns the number with the word, which has an `s` unless it is one.
-fn counted(alloc: Global, number: usize, word: &str) -> Result<String, AllocError> {
-    let ending = if number == 1 { "" } else { "s" };
-    format!(in alloc; "{number} {word}{ending}")
-}
-
-/// Adds the definitions of the pattern's macros by the values of a set. Returns whether each has one.
+/// Adds the definitions of the pattern's macros by the values of a set.
 fn define_by(
     words: &mut Words,
     pattern: &Items,
     items: &Items,
     set: &mut Vec<Definition>,
-) -> Result<bool, AllocError> {
+) -> Result<(), AllocError> {
     let alloc = words.stream.alloc;
-    let (count, given) = (pattern.list.len(), items.list.len());
-    if count != given {
-        let macros = counted(alloc, count, "macro")?;
-        let values = counted(alloc, given, "value")?;
+    if pattern.list.len() != items.list.len() {
+        let macros = pattern.list.len();
+        let values = items.list.len();
         let text = format!(in alloc;
-            "the pattern has {macros} and this set {values}; give one for each"
+            "the pattern has {macros} macros and this set {values} values; give one for each"
         )?;
         words.report(items.place, &[text.as_bytes()])?;
     }
@@ -177,34 +165,17 @@ fn define_by(
         let name = unquoted(name.text.as_slice());
         set.push(Definition::new(alloc, name, value.text.as_slice())?)?;
     }
-    Ok(count <= given)
-}
-
-/// Returns whether the word `pattern` is next, or one that is near to it, which is reported.
-fn is_at_pattern(words: &mut Words) -> Result<bool, AllocError> {
-    words.stream.look()?;
-    let Some(token) = &words.stream.ahead else {
-        return Ok(false);
-    };
-    if token.kind != Kind::Word || token.is_word("pattern") {
-        return Ok(token.kind == Kind::Word);
-    }
-    let (place, text) = (
-        token.place,
-        token.text.as_slice().to_vec(words.stream.alloc)?,
-    );
-    let known: &'static [&'static str] = &PATTERN;
-    let is_near = nearest(words.stream.alloc, text.as_slice(), known)?.is_some();
-    if is_near {
-        let remedy = b"' begins no set; did you mean pattern?";
-        words.report(place, &[b"'", text.as_slice(), remedy])?;
-    }
-    Ok(is_near)
+    Ok(())
 }
 
 /// Takes `pattern { .. }` if it is next.
 fn take_pattern(words: &mut Words) -> Result<Option<Items>, AllocError> {
-    if !is_at_pattern(words)? {
+    words.stream.look()?;
+    let is_pattern = match &words.stream.ahead {
+        Some(token) => token.is_word("pattern"),
+        None => false,
+    };
+    if !is_pattern {
         return Ok(None);
     }
     words.take()?;
@@ -232,15 +203,11 @@ fn read_sets(
             };
             let mut set = Vec::new(alloc);
             extend(alloc, &mut set, globals)?;
-            let is_whole = match &pattern {
+            match &pattern {
                 Some(pattern) => define_by(words, pattern, &items, &mut set)?,
                 None => define(words, &items, &mut set)?,
-            };
-            if is_whole {
-                group.sets.push(set)?;
-            } else {
-                words.lacks_records = true;
             }
+            group.sets.push(set)?;
         }
     }
     Ok(())
@@ -284,11 +251,7 @@ pub fn read_groups(words: &mut Words) -> Result<Vec<Group>, AllocError> {
             None => skip_to_heading(words)?,
             Some(true) => read_group(words, globals.as_slice(), &mut groups)?,
             Some(false) => match expect_items(words)? {
-                Some(items) => {
-                    if !define(words, &items, &mut globals)? {
-                        words.lacks_records = true;
-                    }
-                }
+                Some(items) => define(words, &items, &mut globals)?,
                 None => skip_to_heading(words)?,
             },
         }

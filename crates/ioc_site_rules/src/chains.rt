@@ -1,12 +1,12 @@
 //! Records that process each other, and records that nothing processes.
-use crate::links::{Followed, Lead};
+use crate::links::Lead;
 use crate::report::Report;
 use crate::scanning::{is_closed_loop, is_passive, is_processed_at_start, own_link};
 use crate::site::{Site, SiteRecord};
 use crate::wording::Shown;
-use ioc_fields::{OwnField, RecordType};
+use ioc_fields::{FieldSlot, OwnField, RecordType};
 use ioc_links::Link;
-use std::alloc::{AllocError, Global};
+use std::alloc::AllocError;
 use std::fmt;
 
 /// How many records of a cycle are named.
@@ -198,70 +198,43 @@ fn leads_on(link: Option<Link>) -> bool {
     matches!(link, Some(Link::Device(_) | Link::Database(..)))
 }
 
+// Returns whether one of INPA to INPL leads to a record.
+fn has_input(record: &SiteRecord<'_>) -> bool {
+    (0..12).filter_map(FieldSlot::from_index).any(|slot| leads_on(own_link(
+        record,
+        OwnField::InputLink(slot),
+    )))
+}
+
 // Returns whether the record has something to do that only processing does: an input reads its
-// INP, an output follows its DOL, and a fanout processes other records. A put to VAL processes any
-// other record.
+// INP, an output follows its DOL, a calc, calcout or sel reads its inputs, and a fanout processes
+// other records. A put to VAL, or to one of A to L, processes any other record.
 fn has_work(record: &SiteRecord<'_>, record_type: RecordType) -> bool {
     match record_type {
         RecordType::Fanout => true,
+        RecordType::Calc | RecordType::Calcout | RecordType::Sel => has_input(record),
         _ if record_type.reads_device() => leads_on(own_link(record, OwnField::Inp)),
         _ => is_closed_loop(record) && leads_on(own_link(record, OwnField::Dol)),
     }
 }
 
-// Returns the record that a text would lead to as a link.
-fn named_by(site: &Site<'_>, text: &[u8]) -> Option<usize> {
-    let solid = text.trim_ascii_start();
-    let end = solid.iter().position(|byte| b" \t.".contains(byte));
-    let name = solid.get(..end.unwrap_or(solid.len()))?;
-    Some(site.find(name)?.record)
-}
-
-// Returns for each record whether a link requests it, or may be meant to.
-fn requested(
-    site: &Site<'_>,
-    followed: &Followed<'_>,
-    alloc: Global,
-) -> Result<Vec<bool>, AllocError> {
-    let mut all = vec![in alloc; false; site.records.len()]?;
-    let by_links = followed.leads.iter().filter(|lead| requests(site, lead));
-    for lead in by_links {
-        mark_place(all.as_mut_slice(), lead.to);
-    }
-    for record in followed.meant.iter() {
-        mark_place(all.as_mut_slice(), *record);
-    }
-    for word in site.suspects.iter() {
-        if let Some(record) = named_by(site, word.text.as_slice()) {
-            mark_place(all.as_mut_slice(), record);
-        }
-    }
-    Ok(all)
-}
-
-// Marks one of the places.
-fn mark_place(all: &mut [bool], place: usize) {
-    if let Some(is_marked) = all.get_mut(place) {
-        *is_marked = true;
-    }
-}
-
-/// Reports records that have something to do and that nothing processes. Where not all of the text could
-/// be read nothing is reported: it may have what processes them.
+/// Reports records that have something to do and that nothing processes.
 ///
 /// # Errors
 ///
 /// [`AllocError`] if allocation fails.
 pub fn check_unprocessed(
     site: &Site<'_>,
-    followed: &Followed<'_>,
+    leads: &[Lead<'_>],
     report: &mut Report,
 ) -> Result<(), AllocError> {
-    if report.lacks_records || site.lacks_entries {
-        return Ok(());
+    let mut requested = vec![in report.alloc; false; site.records.len()]?;
+    for lead in leads.iter().filter(|lead| requests(site, lead)) {
+        if let Some(is_requested) = requested.get_mut(lead.to) {
+            *is_requested = true;
+        }
     }
-    let all = requested(site, followed, report.alloc)?;
-    for (record, is_requested) in site.records.iter().zip(all.iter()) {
+    for (record, is_requested) in site.records.iter().zip(requested.iter()) {
         let Some(record_type) = record.record_type else {
             continue;
         };

@@ -1,7 +1,6 @@
 //! All checks of a site.
 use crate::chains::{check_cycles, check_unprocessed};
 use crate::gathering::gather;
-use crate::limits::check_numbers;
 use crate::links::follow_links;
 use crate::report::Report;
 use crate::scanning::check_devices;
@@ -33,10 +32,9 @@ pub fn check(alloc: Global, reading: &Reading) -> Result<Vec<Finding>, AllocErro
     let site = gather(reading, &mut report)?;
     check_emptiness(reading, &mut report)?;
     check_devices(&site, &mut report)?;
-    check_numbers(&site, &mut report)?;
-    let followed = follow_links(&site, &mut report)?;
-    check_cycles(&site, followed.leads.as_slice(), &mut report)?;
-    check_unprocessed(&site, &followed, &mut report)?;
+    let leads = follow_links(&site, &mut report)?;
+    check_cycles(&site, leads.as_slice(), &mut report)?;
+    check_unprocessed(&site, leads.as_slice(), &mut report)?;
     let Report { findings, .. } = report;
     Ok(findings)
 }

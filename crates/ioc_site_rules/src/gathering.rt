@@ -7,21 +7,6 @@ use crate::wording::Shown;
 use ioc_site::{Reading, RecordText, Statement, Word};
 use std::alloc::AllocError;
 
-// Adds the values of a statement whose record isn't known: they may be links.
-fn add_suspects<'a>(site: &mut Site<'a>, text: &'a RecordText) -> Result<(), AllocError> {
-    for entry in text.entries.iter() {
-        site.suspects.push(&entry.value)?;
-    }
-    Ok(())
-}
-
-// Notes whether there may be more records above the statement with this number.
-fn note_loss(reading: &Reading, number: usize, report: &mut Report) {
-    if reading.first_loss.is_some_and(|first| first <= number) {
-        report.lacks_records = true;
-    }
-}
-
 // Adds what the statement says of its record.
 fn add_statement<'a>(
     site: &mut Site<'a>,
@@ -30,12 +15,8 @@ fn add_statement<'a>(
     report: &mut Report,
 ) -> Result<(), AllocError> {
     let Some(number) = opened(site, text, report)? else {
-        return add_suspects(site, text);
+        return Ok(());
     };
-    if text.lacks_entries {
-        site.lacks_entries = true;
-        site.mark_faulty(number);
-    }
     for entry in text.entries.iter() {
         add_entry(site, number, statement, entry, report)?;
     }
@@ -48,9 +29,7 @@ fn add_statement<'a>(
 // Reports a statement that has no part in records.
 fn report_skipped(word: &Word, report: &mut Report) -> Result<(), AllocError> {
     let shown = Shown(word.text.as_slice());
-    let text = format!(in report.alloc;
-        "statement {shown} is known to EPICS and left out here; the load refuses it"
-    )?;
+    let text = format!(in report.alloc; "statement {shown} is known to EPICS and left out here")?;
     report.warning(word.place, text)
 }
 
@@ -62,7 +41,6 @@ fn report_skipped(word: &Word, report: &mut Report) -> Result<(), AllocError> {
 pub fn gather<'a>(reading: &'a Reading, report: &mut Report) -> Result<Site<'a>, AllocError> {
     let mut site = Site::new(report.alloc, reading.files.as_slice());
     for (number, statement) in reading.statements.iter().enumerate() {
-        note_loss(reading, number, report);
         match statement {
             Statement::Record(text) => add_statement(&mut site, number, text, report)?,
             Statement::Alias { record, alias } => {
@@ -71,6 +49,5 @@ pub fn gather<'a>(reading: &'a Reading, report: &mut Report) -> Result<Site<'a>,
             Statement::Skipped(word) => report_skipped(word, report)?,
         }
     }
-    note_loss(reading, reading.statements.len(), report);
     Ok(site)
 }

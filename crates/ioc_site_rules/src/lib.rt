@@ -4,9 +4,10 @@
 
 mod chains;
 mod checking;
+mod expressions;
 mod gathering;
+mod instances;
 mod known;
-mod limits;
 mod link_texts;
 mod links;
 mod names;
@@ -15,11 +16,15 @@ mod report;
 mod scanning;
 mod sets;
 mod site;
+#[cfg(test)]
+mod tests;
 mod types_and_fields;
 mod values;
 mod wording;
 
 pub use checking::{check, put_in_order};
-pub use known::{left_out_field, left_out_type};
+pub use expressions::{ExpressionFault, expression_fault};
+pub use instances::told_once;
+pub use known::{is_left_out_field, is_left_out_type};
 pub use picture::add_picture;
 pub use sets::add_sets;

@@ -1,9 +1,9 @@
 //! The texts of link fields.
-use crate::known::{LINK_WORDS, left_out_link_word};
+use crate::known::{LINK_WORDS, is_left_out_link_word};
 use crate::names::{NameFault, name_fault};
 use crate::report::Report;
 use crate::values::{FieldOf, Limits};
-use crate::wording::{Instead, Meant, Shown};
+use crate::wording::{Meant, Shown};
 use ioc_fields::{CommonField, FieldNo, LinkRole, OwnField, RecordType};
 use ioc_links::{Link, LinkKind, MAX_LINK_BYTES, parse};
 use ioc_site::Word;
@@ -36,8 +36,8 @@ pub enum LinkFault<'a> {
     Record(&'a [u8], NameFault),
     /// It names a field, and no field can have this name.
     Field(&'a [u8]),
-    /// It has this word of EPICS behind the name, which is left out, and what does the same here.
-    LeftOutWord(&'a [u8], &'static str),
+    /// It has this word of EPICS behind the name, which is left out.
+    LeftOutWord(&'a [u8]),
     /// It has this word behind the name.
     Word(&'a [u8]),
 }
@@ -72,9 +72,8 @@ impl fmt::Display for LinkFault<'_> {
                 "names field '{}', and fields have at most 8 capital letters or digits",
                 Shown(*name)
             ),
-            LinkFault::LeftOutWord(word, instead) => {
-                let (word, instead) = (Shown(*word), Instead(*instead));
-                write!(f, "has the word {word}, which is left out here{instead}")
+            LinkFault::LeftOutWord(word) => {
+                write!(f, "has the word {}, which is left out here", Shown(*word))
             }
             LinkFault::Word(word) => write!(
                 f,
@@ -118,8 +117,8 @@ fn is_fraction(text: &[u8]) -> bool {
 // Returns the fault of the words behind the name.
 fn words_fault(words: &[u8]) -> Option<LinkFault<'_>> {
     for word in words.split(|b| *b == b' ' || *b == b'\t') {
-        if let Some(instead) = left_out_link_word(word) {
-            return Some(LinkFault::LeftOutWord(word, instead));
+        if is_left_out_link_word(word) {
+            return Some(LinkFault::LeftOutWord(word));
         }
         let is_known = LINK_WORDS.iter().any(|known| known.as_bytes() == word);
         if !word.is_empty() && !is_known {
@@ -201,7 +200,8 @@ pub enum ConstantKind {
 pub fn constant_kind(record_type: RecordType, field: FieldNo) -> Option<ConstantKind> {
     match (record_type, field) {
         (RecordType::Ai, FieldNo::Own(OwnField::Inp))
-        | (RecordType::Ao, FieldNo::Own(OwnField::Dol)) => Some(ConstantKind::Double),
+        | (RecordType::Ao, FieldNo::Own(OwnField::Dol))
+        | (_, FieldNo::Own(OwnField::InputLink(_))) => Some(ConstantKind::Double),
         _ => constant_range(record_type, field).map(ConstantKind::Whole),
     }
 }
@@ -216,7 +216,8 @@ fn constant_range(record_type: RecordType, field: FieldNo) -> Option<Range> {
         | (RecordType::Int64out, FieldNo::Own(OwnField::Dol)) => Some(Range::Int64),
         (RecordType::Bi | RecordType::Mbbi, FieldNo::Own(OwnField::Inp)) => Some(Range::ULong),
         (RecordType::Bo | RecordType::Mbbo, FieldNo::Own(OwnField::Dol))
-        | (RecordType::Fanout, FieldNo::Own(OwnField::Sell)) => Some(Range::UShort),
+        | (RecordType::Fanout, FieldNo::Own(OwnField::Sell))
+        | (RecordType::Sel, FieldNo::Own(OwnField::Nvl)) => Some(Range::UShort),
         _ => None,
     }
 }
@@ -280,7 +281,6 @@ pub fn accepts_link(
                 )?
             }
         },
-        Err(_) if report.begins_refused(trim(value, true)) => return Ok(false),
         Err(_) => match link_fault(role.link_kind(), value) {
             Some(fault) => {
                 let meant = Meant(meant_by(report.alloc, &fault)?);

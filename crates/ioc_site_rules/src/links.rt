@@ -42,15 +42,6 @@ impl Lead<'_> {
     }
 }
 
-/// The links of a site that lead to fields, and what others may have been meant for.
-#[derive(Drop)]
-pub struct Followed<'a> {
-    /// The links, in the order of their records.
-    pub leads: Vec<Lead<'a>>,
-    /// The numbers of the records that links which lead nowhere were probably meant for.
-    pub meant: Vec<usize>,
-}
-
 /// How many names that are no record's are compared with all names. More of them are reported
 /// without a guess.
 const MOST_GUESSES: u32 = 100;
@@ -61,9 +52,10 @@ struct Follower<'s, 'a> {
     site: &'s Site<'a>,
     /// The record that owns each device: the first that names it.
     owners: IndexMap<Short<MAX_DEVICE_BYTES>, usize>,
+    /// For each alias, whether a link names it.
+    used: Vec<bool>,
     leads: Vec<Lead<'a>>,
-    meant: Vec<usize>,
-    /// The names of all records, and all aliases.
+    /// The names of all records.
     names: Vec<&'a str>,
     guesses: u32,
 }
@@ -82,16 +74,15 @@ impl<'s, 'a> Follower<'s, 'a> {
         let alloc = report.alloc;
         let mut names = Vec::new(alloc);
         for record in site.records.iter() {
-            add_name(&mut names, record.name)?;
-        }
-        for alias in site.aliases.iter() {
-            add_name(&mut names, alias.word)?;
+            if let Ok(name) = str::from_utf8(record.name.text.as_slice()) {
+                names.push(name)?;
+            }
         }
         Ok(Follower {
             site,
             owners: IndexMap::new(alloc),
+            used: vec![in alloc; false; site.aliases.len()]?,
             leads: Vec::new(alloc),
-            meant: Vec::new(alloc),
             names,
             guesses: 0,
         })
@@ -105,16 +96,10 @@ impl<'s, 'a> Follower<'s, 'a> {
         report: &mut Report,
     ) -> Result<(), AllocError> {
         let name = target.record_name.as_slice();
-        if report.lacks_records || report.is_refused_name(name) {
-            return Ok(());
-        }
         let mut meant = Meant(None);
         if self.guesses < MOST_GUESSES {
             self.guesses = self.guesses.saturating_add(1);
             meant = Meant(nearest(report.alloc, name, self.names.as_slice())?);
-        }
-        if let Some(named) = meant.0.and_then(|name| self.site.find(name.as_bytes())) {
-            self.meant.push(named.record)?;
         }
         let (owner, shown) = (link.owner, Shown(name));
         let text = format!(in report.alloc;
@@ -167,21 +152,27 @@ impl<'s, 'a> Follower<'s, 'a> {
         let Some(named) = self.site.find(target.record_name.as_slice()) else {
             return self.report_missing(link, target, report);
         };
+        if let Some(alias) = named.alias {
+            if let Some(used) = self.used.get_mut(alias) {
+                *used = true;
+            }
+        }
         let Some(record) = self.site.records.get(named.record) else {
             return Ok(());
         };
         let Some(record_type) = record.record_type else {
             return Ok(());
         };
-        match field(record_type, target.field.as_slice()) {
-            Some(found) if !is_link(record_type, found) => {
-                return self.add_lead(link, flags, named, found, report);
-            }
-            _ if record.has_two_types => {}
-            Some(_) => report_link_field(link, target, report)?,
-            None => report_no_field(link, record, record_type, target, report)?,
+        let Some(found) = field(record_type, target.field.as_slice()) else {
+            return report_no_field(link, record, record_type, target, report);
+        };
+        if is_expression(record_type, found) {
+            return report_expression_field(link, target, report);
         }
-        Ok(self.meant.push(named.record)?)
+        if is_link(record_type, found) {
+            return report_link_field(link, target, report);
+        }
+        self.add_lead(link, flags, named, found, report)
     }
 
     // Adds a link to a device.
@@ -243,14 +234,23 @@ impl<'s, 'a> Follower<'s, 'a> {
             Link::Empty | Link::Constant(_) | Link::Real(_) => Ok(()),
         }
     }
+
+    // Reports aliases that no link names.
+    fn report_unused(&self, report: &mut Report) -> Result<(), AllocError> {
+        for (alias, is_used) in self.site.aliases.iter().zip(self.used.iter()) {
+            if !*is_used {
+                let shown = Shown(alias.word.text.as_slice());
+                let text = format!(in report.alloc; "no link names alias {shown}")?;
+                report.warning(alias.word.place, text)?;
+            }
+        }
+        Ok(())
+    }
 }
 
-// Adds a name, if it is a text.
-fn add_name<'a>(names: &mut Vec<&'a str>, word: &'a Word) -> Result<(), AllocError> {
-    if let Ok(name) = str::from_utf8(word.text.as_slice()) {
-        names.push(name)?;
-    }
-    Ok(())
+// Returns whether the type has the field with an expression.
+fn is_expression(record_type: RecordType, field: FieldNo) -> bool {
+    matches!(kind_of(record_type, field), Some(FieldKind::Expression))
 }
 
 // Returns whether the type has the field as a link field.
@@ -277,6 +277,19 @@ fn report_no_field(
     report.warning(link.word.place, text)
 }
 
+// Reports a link to a field that holds an expression.
+fn report_expression_field(
+    link: &LinkOf<'_>,
+    target: &Target,
+    report: &mut Report,
+) -> Result<(), AllocError> {
+    let (owner, shown) = (link.owner, Shown(target.field.as_slice()));
+    let text = format!(in report.alloc;
+        "{owner} names the expression {shown}, and leads nowhere here; name VAL"
+    )?;
+    report.warning(link.word.place, text)
+}
+
 // Reports a link to a link field.
 fn report_link_field(
     link: &LinkOf<'_>,
@@ -290,18 +303,20 @@ fn report_link_field(
     report.warning(link.word.place, text)
 }
 
-/// Returns the links that lead to fields, and reports those that lead nowhere.
+/// Returns the links that lead to fields, in the order of their records, and reports those that
+/// lead nowhere, and aliases that no link names.
 ///
 /// # Errors
 ///
 /// [`AllocError`] if allocation fails.
-pub fn follow_links<'a>(site: &Site<'a>, report: &mut Report) -> Result<Followed<'a>, AllocError> {
+pub fn follow_links<'a>(site: &Site<'a>, report: &mut Report) -> Result<Vec<Lead<'a>>, AllocError> {
     let mut follower = Follower::new(site, report)?;
     for (number, record) in site.records.iter().enumerate() {
         for setting in record.settings.iter() {
             follower.add_setting(number, record, setting, report)?;
         }
     }
-    let Follower { leads, meant, .. } = follower;
-    Ok(Followed { leads, meant })
+    follower.report_unused(report)?;
+    let Follower { leads, .. } = follower;
+    Ok(leads)
 }

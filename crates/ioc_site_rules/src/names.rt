@@ -63,20 +63,7 @@ fn is_name(word: &Word, report: &mut Report) -> Result<bool, AllocError> {
     let name = Shown(word.text.as_slice());
     let text = format!(in report.alloc; "'{name}' is no name of a record: {fault}")?;
     report.error(word.place, text)?;
-    report.refuse_name(word.text.as_slice())?;
     Ok(false)
-}
-
-// Reports that there is no record of this name, unless there may be one, or that is reported already.
-fn report_no_record(word: &Word, rest: &str, report: &mut Report) -> Result<(), AllocError> {
-    let name = word.text.as_slice();
-    if report.lacks_records || report.is_refused_name(name) || !is_name(word, report)? {
-        return Ok(());
-    }
-    let shown = Shown(name);
-    let text = format!(in report.alloc; "there is no record {shown} above {rest}")?;
-    report.error(word.place, text)?;
-    report.refuse_name(name)
 }
 
 // Finds the record that a statement continues.
@@ -88,7 +75,11 @@ fn continued(
     if let Some(named) = site.find(name.text.as_slice()) {
         return Ok(Some(named.record));
     }
-    report_no_record(name, "to go on with", report)?;
+    if is_name(name, report)? {
+        let shown = Shown(name.text.as_slice());
+        let text = format!(in report.alloc; "there is no record {shown} above to go on with")?;
+        report.error(name.place, text)?;
+    }
     Ok(None)
 }
 
@@ -99,7 +90,7 @@ fn added<'a>(
     report: &mut Report,
 ) -> Result<Option<usize>, AllocError> {
     let word = &statement.record_type;
-    let record_type = checked_type(statement, report)?;
+    let record_type = checked_type(word, report)?;
     if site.records.len() == MAX_RECORDS {
         let text = format!(in report.alloc; "this is more than {MAX_RECORDS} records")?;
         report.error(statement.place, text)?;
@@ -109,51 +100,6 @@ fn added<'a>(
         site.mark_faulty(number);
     }
     Ok(Some(number))
-}
-
-// Warns of a record whose name is an alias of another one.
-fn warn_of_alias(
-    site: &Site<'_>,
-    name: &Word,
-    record: usize,
-    report: &mut Report,
-) -> Result<(), AllocError> {
-    let Some(owner) = site.records.get(record) else {
-        return Ok(());
-    };
-    let (shown, holder) = (
-        Shown(name.text.as_slice()),
-        Shown(owner.name.text.as_slice()),
-    );
-    let at = site.at(owner.name.place);
-    let text = format!(in report.alloc;
-        "{shown} is an alias of record {holder} of {at}, and no record of its own; its fields are set there"
-    )?;
-    report.warning(name.place, text)
-}
-
-// Reports a statement whose type isn't that of its record, unless something else is wrong with one of the
-// types.
-fn report_two_types(
-    site: &mut Site<'_>,
-    number: usize,
-    statement: &RecordText,
-    report: &mut Report,
-) -> Result<(), AllocError> {
-    let Some(before) = site.records.get(number) else {
-        return Ok(());
-    };
-    if before.record_type.is_none() || checked_type(statement, report)?.is_none() {
-        return Ok(());
-    }
-    let kind = Shown(before.type_word.text.as_slice());
-    let shown = Shown(statement.name.text.as_slice());
-    let other = Shown(statement.record_type.text.as_slice());
-    let at = site.at(before.name.place);
-    let text = format!(in report.alloc;
-        "record {shown} is of type {kind} since {at}, and can't be of type {other} too"
-    )?;
-    report.error(statement.name.place, text)
 }
 
 /// Finds or adds the record of a statement, and returns its number. Returns `None` if the statement
@@ -179,16 +125,15 @@ pub fn opened<'a>(
         return Ok(None);
     };
     if before.type_word.text.as_slice() == type_name {
-        if named.alias.is_some() {
-            warn_of_alias(site, &statement.name, named.record, report)?;
-        }
         return Ok(Some(named.record));
     }
-    report_two_types(site, named.record, statement, report)?;
-    if let Some(record) = site.records.get_mut(named.record) {
-        record.is_faulty = true;
-        record.has_two_types = true;
-    }
+    let (shown, kind) = (Shown(name), Shown(before.type_word.text.as_slice()));
+    let (at, other) = (site.at(before.name.place), Shown(type_name));
+    let text = format!(in report.alloc;
+        "record {shown} is of type {kind} since {at}, and can't be of type {other} too"
+    )?;
+    report.error(statement.name.place, text)?;
+    site.mark_faulty(named.record);
     Ok(None)
 }
 
@@ -235,6 +180,10 @@ pub fn add_alias_of<'a>(
     if let Some(named) = site.find(record.text.as_slice()) {
         return add_alias(site, named.record, alias, report);
     }
-    report_no_record(record, "for an alias", report)?;
-    report.refuse_name(alias.text.as_slice())
+    if is_name(record, report)? {
+        let shown = Shown(record.text.as_slice());
+        let text = format!(in report.alloc; "there is no record {shown} above for an alias")?;
+        report.error(record.place, text)?;
+    }
+    Ok(())
 }

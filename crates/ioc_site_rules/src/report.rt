@@ -15,11 +15,7 @@ struct Line {
 pub struct Report {
     pub alloc: Global,
     pub findings: Vec<Finding>,
-    /// Whether there may be more records than those that were gathered so far.
-    pub lacks_records: bool,
-    /// The names of which it is reported that no record has them, or can have them.
-    refused_names: Vec<Vec<u8>>,
-    /// The lines whose words aren't known, since macros of them can't be replaced.
+    /// The lines that have a macro which can't be replaced.
     refused: IndexSet<Line>,
 }
 
@@ -29,6 +25,11 @@ fn line_of(place: Place) -> Line {
         file: place.file,
         line: place.line,
     }
+}
+
+// Returns whether the finding is of a macro that can't be replaced.
+fn is_of_macro(finding: &Finding) -> bool {
+    finding.text.as_slice().starts_with(b"macro ")
 }
 
 impl Report {
@@ -42,47 +43,14 @@ impl Report {
         for finding in reading
             .findings
             .iter()
-            .filter(|finding| finding.hides_line())
+            .filter(|finding| is_of_macro(finding))
         {
             refused.insert(line_of(finding.place))?;
         }
         Ok(Report {
             alloc,
             findings: Vec::new(alloc),
-            lacks_records: false,
-            refused_names: Vec::new(alloc),
             refused,
-        })
-    }
-
-    /// Notes that no record has this name, or can have it. That is reported once. A macro in it that can't
-    /// be replaced hides the names of records.
-    ///
-    /// # Errors
-    ///
-    /// [`AllocError`] if allocation fails.
-    pub fn refuse_name(&mut self, name: &[u8]) -> Result<(), AllocError> {
-        if name.contains(&b'$') {
-            self.lacks_records = true;
-        }
-        if !self.is_refused_name(name) {
-            self.refused_names.push(name.to_vec(self.alloc)?)?;
-        }
-        Ok(())
-    }
-
-    /// Returns whether it is reported that no record has this name.
-    pub fn is_refused_name(&self, name: &[u8]) -> bool {
-        self.refused_names
-            .iter()
-            .any(|refused| refused.as_slice() == name)
-    }
-
-    /// Returns whether a link begins with a name of which it is reported that no record can have it.
-    pub fn begins_refused(&self, link: &[u8]) -> bool {
-        self.refused_names.iter().any(|refused| {
-            let begins = !refused.is_empty() && link.starts_with(refused.as_slice());
-            begins && matches!(link.get(refused.len()), None | Some(b' ' | b'\t' | b'.'))
         })
     }
 

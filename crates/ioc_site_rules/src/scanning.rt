@@ -1,9 +1,9 @@
 //! When records are processed, and the devices of those that wait for interrupts.
-use crate::known::{DEVICE_TYPES, left_out_device_type};
+use crate::known::{DEVICE_TYPES, is_left_out_device_type};
 use crate::report::Report;
 use crate::site::{Site, SiteRecord};
 use crate::values::FieldOf;
-use crate::wording::{Instead, Meant, Shown};
+use crate::wording::{Meant, Shown};
 use ioc_fields::{CommonField, FieldNo, OwnField, RecordType};
 use ioc_links::{Link, LinkKind, parse};
 use ioc_menus::{Menu, Omsl, Pini, Scan, choices};
@@ -12,8 +12,8 @@ use ioc_spelling::nearest;
 use ioc_values::{Kind, Value, convert_text};
 use std::alloc::AllocError;
 
-/// Returns the number of the choice that the text sets in a field of this menu, or 0.
-pub fn choice_in(record: &SiteRecord<'_>, field: FieldNo, menu: Menu) -> u16 {
+// Returns the number of the choice that the text sets in a field of this menu, or 0.
+fn choice_in(record: &SiteRecord<'_>, field: FieldNo, menu: Menu) -> u16 {
     let Some(word) = record.value(field) else {
         return 0;
     };
@@ -57,12 +57,7 @@ fn has_device(record: &SiteRecord<'_>) -> bool {
 fn has_raw_value(record_type: RecordType) -> bool {
     matches!(
         record_type,
-        RecordType::Bi
-            | RecordType::Bo
-            | RecordType::Mbbi
-            | RecordType::Mbbo
-            | RecordType::Ai
-            | RecordType::Ao
+        RecordType::Bi | RecordType::Bo | RecordType::Mbbi | RecordType::Mbbo
     )
 }
 
@@ -91,11 +86,8 @@ fn check_device_type(
         record: record.name.text.as_slice(),
     };
     let shown = Shown(name);
-    let text = if name == b"Raw Soft Channel".as_slice() {
+    let text = if is_left_out_device_type(name) || name == b"Raw Soft Channel".as_slice() {
         format!(in report.alloc; "{owner} is '{shown}', which has no effect here")?
-    } else if let Some(instead) = left_out_device_type(name) {
-        let instead = Instead(instead);
-        format!(in report.alloc; "{owner} is '{shown}', which has no effect here{instead}")?
     } else {
         let meant = Meant(nearest(report.alloc, name, &DEVICE_TYPES)?);
         format!(in report.alloc; "{owner} is '{shown}', which is unknown{meant}")?
@@ -110,7 +102,7 @@ fn check_interrupts(record: &SiteRecord<'_>, report: &mut Report) -> Result<(), 
     let Some(word) = record.value(field).filter(|_| waits) else {
         return Ok(());
     };
-    if has_device(record) {
+    if record.is_faulty || has_device(record) {
         return Ok(());
     }
     let owner = FieldOf {
@@ -127,7 +119,7 @@ fn check_interrupts(record: &SiteRecord<'_>, report: &mut Report) -> Result<(), 
 ///
 /// [`AllocError`] if allocation fails.
 pub fn check_devices(site: &Site<'_>, report: &mut Report) -> Result<(), AllocError> {
-    for record in site.records.iter().filter(|record| !record.is_faulty) {
+    for record in site.records.iter() {
         check_interrupts(record, report)?;
         let (Some(record_type), Some(word)) = (
             record.record_type,

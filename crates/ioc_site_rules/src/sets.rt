@@ -1,6 +1,6 @@
 //! The lock sets of a site: the records that links join.
 use crate::gathering::gather;
-use crate::links::{Followed, Lead, follow_links};
+use crate::links::{Lead, follow_links};
 use crate::report::Report;
 use crate::site::Site;
 use ioc_graph::{Edge, are_below, parts_of_all};
@@ -92,7 +92,7 @@ fn add_set(
 pub fn add_sets(alloc: Global, reading: &Reading, out: &mut Vec<u8>) -> Result<(), AllocError> {
     let mut report = Report::new(alloc, reading)?;
     let site = gather(reading, &mut report)?;
-    let Followed { leads, .. } = follow_links(&site, &mut report)?;
+    let leads = follow_links(&site, &mut report)?;
     let mut sets = lock_sets(alloc, leads.as_slice(), site.records.len())?;
     sets.as_mut_slice()
         .sort_by_key(alloc, |set| Reverse(set.len()))?;

@@ -28,10 +28,6 @@ pub struct SiteRecord<'a> {
     pub settings: Vec<Setting<'a>>,
     /// Whether something is wrong in its text, so that it isn't known what it does.
     pub is_faulty: bool,
-    /// Whether its text has a field that EPICS doesn't know either, which may be meant for any other.
-    pub has_unknown_field: bool,
-    /// Whether statements give it two types.
-    pub has_two_types: bool,
 }
 
 impl<'a> SiteRecord<'a> {
@@ -100,10 +96,6 @@ pub struct Site<'a> {
     files: &'a [Vec<u8>],
     pub records: Vec<SiteRecord<'a>>,
     pub aliases: Vec<Alias<'a>>,
-    /// The values in which something is wrong, or whose field is unknown: they may be links.
-    pub suspects: Vec<&'a Word>,
-    /// Whether an entry of a record couldn't be read.
-    pub lacks_entries: bool,
     names: IndexMap<Name, Named>,
 }
 
@@ -115,8 +107,6 @@ impl<'a> Site<'a> {
             files,
             records: Vec::new(alloc),
             aliases: Vec::new(alloc),
-            suspects: Vec::new(alloc),
-            lacks_entries: false,
             names: IndexMap::new(alloc),
         }
     }
@@ -161,8 +151,6 @@ impl<'a> Site<'a> {
             record_type,
             settings: Vec::new(self.alloc),
             is_faulty: record_type.is_none(),
-            has_unknown_field: false,
-            has_two_types: false,
         })?;
         Ok(record)
     }

@@ -1,40 +1,28 @@
 //! The types of records and the fields that they have.
-use crate::known::{TYPES, left_out_field, left_out_type};
+use crate::known::{TYPES, is_left_out_field, is_left_out_type};
 use crate::report::Report;
 use crate::site::{Setting, Site, SiteRecord};
 use crate::values::accepts;
-use crate::wording::{Instead, Meant, Shown};
+use crate::wording::{Meant, Shown};
 use ioc_fields::field_list::fields;
 use ioc_fields::{FieldNo, RecordType, Row, field, name_of, row_of};
-use ioc_site::{Entry, EntryKind, RecordText, Word};
+use ioc_site::{Entry, EntryKind, Word};
 use ioc_spelling::nearest;
 use std::alloc::{AllocError, Global};
 
-/// Returns the type of a statement, and reports a word that names none.
+/// Returns the type that the word names, and reports a word that names none.
 ///
 /// # Errors
 ///
 /// [`AllocError`] if allocation fails.
-pub fn checked_type(
-    statement: &RecordText,
-    report: &mut Report,
-) -> Result<Option<RecordType>, AllocError> {
-    let word = &statement.record_type;
+pub fn checked_type(word: &Word, report: &mut Report) -> Result<Option<RecordType>, AllocError> {
     let name = word.text.as_slice();
     if let Some(record_type) = RecordType::from_name(name) {
         return Ok(Some(record_type));
     }
     let shown = Shown(name);
-    let text = if let Some(instead) = left_out_type(name) {
-        let instead = Instead(instead);
-        format!(in report.alloc;
-            "record type '{shown}' is known to EPICS and left out here{instead}"
-        )?
-    } else if let Some(swapped) = RecordType::from_name(statement.name.text.as_slice()) {
-        let swapped = swapped.name();
-        format!(in report.alloc;
-            "record type '{shown}' is unknown; write record({swapped}, \"{shown}\")"
-        )?
+    let text = if is_left_out_type(name) {
+        format!(in report.alloc; "record type '{shown}' is known to EPICS and left out here")?
     } else {
         let meant = Meant(nearest(report.alloc, name, &TYPES)?);
         format!(in report.alloc; "record type '{shown}' is unknown{meant}")?
@@ -63,24 +51,19 @@ pub fn settable_names(
 
 // Reports that a record of this type has no such field.
 fn report_unknown(
-    record: &mut SiteRecord<'_>,
+    record: &SiteRecord<'_>,
     record_type: RecordType,
     word: &Word,
     report: &mut Report,
 ) -> Result<(), AllocError> {
-    if record.has_two_types {
-        return Ok(());
-    }
     let name = word.text.as_slice();
     let (shown, owner) = (Shown(name), Shown(record.name.text.as_slice()));
     let kind = record_type.name();
-    let text = if let Some(instead) = left_out_field(record_type, name) {
-        let instead = Instead(instead);
+    let text = if is_left_out_field(record_type, name) {
         format!(in report.alloc;
-            "field {shown} of record {owner} ({kind}) is known to EPICS and left out here{instead}"
+            "field {shown} of record {owner} ({kind}) is known to EPICS and left out here"
         )?
     } else {
-        record.has_unknown_field = true;
         let names = settable_names(report.alloc, record_type)?;
         let meant = Meant(nearest(report.alloc, name, names.as_slice())?);
         format!(in report.alloc; "record {owner} ({kind}) has no field {shown}{meant}")?
@@ -91,7 +74,7 @@ fn report_unknown(
 // Returns the field that the word names in a record of this type, with its row, and reports a word
 // that names none that can be set.
 fn checked_field(
-    record: &mut SiteRecord<'_>,
+    record: &SiteRecord<'_>,
     record_type: RecordType,
     word: &Word,
     report: &mut Report,
@@ -175,13 +158,11 @@ pub fn add_entry<'a>(
     let Some(record) = site.records.get_mut(number) else {
         return Ok(());
     };
-    let is_set = match record.record_type {
-        Some(record_type) => set_entry(record, record_type, statement, entry, report)?,
-        None => false,
+    let Some(record_type) = record.record_type else {
+        return Ok(());
     };
-    if !is_set {
+    if !set_entry(record, record_type, statement, entry, report)? {
         record.is_faulty = true;
-        site.suspects.push(&entry.value)?;
     }
     Ok(())
 }

@@ -1,9 +1,10 @@
 //! The values of fields that aren't links.
-use crate::known::left_out_choice;
+use crate::expressions::accepts_expression;
+use crate::known::is_left_out_choice;
 use crate::link_texts::{accepts_link, constant_kind};
 use crate::report::Report;
 use crate::site::SiteRecord;
-use crate::wording::{Instead, Listed, Meant, Shown};
+use crate::wording::{Listed, Meant, Shown};
 use ioc_fields::{CommonField, FieldKind, FieldNo, FieldSlot, OwnField, RecordType, name_of};
 use ioc_menus::{Menu, choices};
 use ioc_site::Word;
@@ -105,10 +106,9 @@ fn accepts_choice(
         return Ok(true);
     }
     let shown = Shown(value);
-    let text = if let Some(instead) = left_out_choice(menu, value) {
-        let instead = Instead(instead);
+    let text = if menu == Menu::Pini && is_left_out_choice(value) {
         format!(in report.alloc;
-            "{owner} has '{shown}', which is known to EPICS and left out here{instead}"
+            "{owner} has '{shown}', which is known to EPICS and left out here"
         )?
     } else if let Some(choice) = nearest(report.alloc, value, texts)? {
         let meant = Meant(Some(choice));
@@ -163,9 +163,6 @@ fn accepts_state(
     if value.is_empty() || is_state(record, record_type, value) {
         return Ok(true);
     }
-    if record.has_unknown_field && !is_number(trim(value, false)) {
-        return Ok(false);
-    }
     let last = match record_type {
         RecordType::Bi | RecordType::Bo => 1,
         _ => 15,
@@ -207,45 +204,6 @@ fn is_json(word: &Word) -> bool {
     !word.quoted && matches!(word.text.as_slice(), [b'{' | b'[', ..])
 }
 
-/// The end of a finding that names the constant of a JSON value, if it is one.
-#[derive(Clone, Copy)]
-struct Constant<'a>(Option<&'a [u8]>);
-
-impl fmt::Display for Constant<'_> {
-    fn fmt<W: fmt::Write>(&self, f: &mut fmt::Formatter<W>) -> fmt::Result {
-        match self.0 {
-            Some(constant) => write!(f, "; write {}", Shown(constant)),
-            None => Ok(()),
-        }
-    }
-}
-
-// Returns the bytes without blanks and quotes around them.
-fn bare(text: &[u8]) -> &[u8] {
-    match text.trim_ascii() {
-        [b'"', inner @ .., b'"'] => inner,
-        [b'\'', inner @ .., b'\''] => inner,
-        other => other,
-    }
-}
-
-// Returns the constant of a JSON value as `{const: 3}`.
-fn json_constant(text: &[u8]) -> Option<&[u8]> {
-    let inner = match text.trim_ascii() {
-        [b'{', inner @ .., b'}'] => inner,
-        _ => &[],
-    };
-    let at = inner.iter().position(|byte| *byte == b':')?;
-    let (name, value) = (inner.get(..at)?, inner.get(at.saturating_add(1)..)?);
-    let constant = bare(value);
-    let is_plain = !constant.is_empty() && !constant.iter().any(|byte| b"{[,:".contains(byte));
-    if bare(name) == b"const".as_slice() && is_plain {
-        Some(constant)
-    } else {
-        None
-    }
-}
-
 /// Checks the value of a field of this kind, and returns whether it is allowed. What is wrong is
 /// reported, and so is a text that is too long.
 ///
@@ -265,16 +223,14 @@ pub fn accepts(
         record: record.name.text.as_slice(),
     };
     if is_json(word) {
-        let shown = Constant(json_constant(word.text.as_slice()));
-        let text = format!(in report.alloc;
-            "{owner} has a JSON value, which is left out here{shown}"
-        )?;
+        let text = format!(in report.alloc; "{owner} has a JSON value, which is left out here")?;
         report.error(word.place, text)?;
         return Ok(false);
     }
     match kind {
         FieldKind::Number(range) => accepts_number(&owner, range, word, report),
         FieldKind::Double => accepts_double(&owner, word, report),
+        FieldKind::Expression => accepts_expression(&owner, word, report),
         FieldKind::Menu(menu) => accepts_choice(&owner, menu, word, report),
         FieldKind::State => accepts_state(record, record_type, &owner, word, report),
         FieldKind::Link(role) => {

@@ -51,20 +51,6 @@ impl fmt::Display for Meant<'_> {
     }
 }
 
-/// The end of a finding that names what does here what is left out, if anything does.
-#[derive(Clone, Copy)]
-pub struct Instead(pub &'static str);
-
-impl fmt::Display for Instead {
-    fn fmt<W: fmt::Write>(&self, f: &mut fmt::Formatter<W>) -> fmt::Result {
-        if self.0.is_empty() {
-            Ok(())
-        } else {
-            write!(f, "; {}", self.0)
-        }
-    }
-}
-
 /// Choices with commas between them.
 #[derive(Clone, Copy)]
 pub struct Listed<'a>(pub &'a [&'static str]);

@@ -92,10 +92,8 @@ impl Analog {
         }
     }
 
-    /// Returns the value of one of these fields. It isn't inlined, so that a read of another type
-    /// doesn't pay for its room on the stack.
+    /// Returns the value of one of these fields.
     #[tactic(auto, unfolding(crate::specs::Analog::analog_get))]
-    #[inline(never)]
     pub fn get(&self, field: OwnField) -> Option<Value>
         ensures { result ≡ analog_get self.now field }
     {

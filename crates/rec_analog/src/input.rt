@@ -6,12 +6,12 @@ ghost use Rattle.rec_analog.specs.Input.{ai, new_ai, smoothed, value_taken, raw_
 use crate::analog::{Analog, define_by, undefine_if_nan};
 use crate::scale::Scale;
 use ioc_dbcommon::{
-    Condition, Fresh, Got, InputKind, LinkBox, LinkUse, Need, Output, Source, constant_in,
-    double_in, long_in,
+    Calculation, Condition, Fresh, Got, InputKind, LinkBox, LinkUse, Need, Output, Source,
+    constant_in, double_in, long_in,
 };
 use ioc_fields::{OwnField, RecordType};
 use ioc_links::Link;
-use ioc_record::{RecordBody, real_in};
+use ioc_record::RecordBody;
 use ioc_values::{Double, Kind, Range, Text, Value};
 use std::alloc::{AllocError, Global};
 
@@ -149,33 +149,24 @@ impl RecordBody for Ai {
         self.source.set_link(field, link);
     }
 
+    fn calculation(&self, _field: OwnField) -> Option<&Calculation> {
+        None
+    }
+
+    fn set_calculation(&mut self, _field: OwnField, _calculation: Calculation) {}
+
     fn states(&self) -> &[Text] {
         &[]
     }
 
-    #[tactic(auto, unfolding(crate::specs::Input::ai_get, crate::specs::Scale::scale_get))]
+    // Not inlined: a read of another type would pay for its room on the stack.
+    #[tactic(auto, unfolding(crate::specs::Input::ai_get))]
+    #[inline(never)]
     fn get(&self, field: OwnField) -> Option<Value> {
         match field {
             OwnField::Smoo => Some(Value::Double(self.smoothing)),
             OwnField::Init => Some(Value::UChar(self.initial)),
-            OwnField::Linr
-            | OwnField::Eguf
-            | OwnField::Egul
-            | OwnField::Eslo
-            | OwnField::Eoff
-            | OwnField::Aslo
-            | OwnField::Aoff
-            | OwnField::Roff
-            | OwnField::Rval => self.scale.get(field),
-            _ => self.analog.get(field),
-        }
-    }
-
-    #[tactic(auto, unfolding(crate::specs::Input::ai_get, crate::specs::Scale::scale_get, crate::specs::Analog::analog_get))]
-    fn real(&self, field: OwnField) -> Option<Double> {
-        match field {
-            OwnField::Val => Some(self.analog.value),
-            _ => real_in(self.get(field)),
+            _ => self.scale.get(field).or(self.analog.get(field)),
         }
     }
 
@@ -203,6 +194,10 @@ impl RecordBody for Ai {
         self.source.wanted_link()
     }
 
+    fn inputs(&self, _got: &Got) -> u16 {
+        0
+    }
+
     #[tactic(auto, unfolding(crate::specs::Input::ai_input_kind))]
     fn input_kind(&self, condition: &Condition) -> InputKind {
         if condition.is_raw_soft() {
@@ -220,7 +215,7 @@ impl RecordBody for Ai {
         false
     }
 
-    fn post(&mut self) {
+    fn post(&mut self, _alarm_changed: bool) {
         self.analog.post();
     }
 

@@ -8,13 +8,13 @@ ghost use Rattle.ioc_dbcommon.specs.Wants.{puts_out};
 use crate::analog::{Analog, define_by, undefine_if_nan};
 use crate::scale::Scale;
 use ioc_dbcommon::{
-    Condition, Drive, Fresh, Got, InputKind, LinkBox, LinkUse, Need, Output, constant_in,
-    double_in, oif_in,
+    Calculation, Condition, Drive, Fresh, Got, InputKind, LinkBox, LinkUse, Need, Output,
+    constant_in, double_in, oif_in,
 };
 use ioc_fields::{OwnField, RecordType};
 use ioc_links::Link;
 use ioc_menus::Oif;
-use ioc_record::{RecordBody, real_in};
+use ioc_record::RecordBody;
 use ioc_values::{Double, Kind, Text, Value};
 use std::alloc::{AllocError, Global};
 
@@ -222,11 +222,19 @@ impl RecordBody for Ao {
         self.drive.set_link(field, link);
     }
 
+    fn calculation(&self, _field: OwnField) -> Option<&Calculation> {
+        None
+    }
+
+    fn set_calculation(&mut self, _field: OwnField, _calculation: Calculation) {}
+
     fn states(&self) -> &[Text] {
         &[]
     }
 
-    #[tactic(auto, unfolding(crate::specs::Output::ao_get, crate::specs::Scale::scale_get))]
+    // Not inlined: a read of another type would pay for its room on the stack.
+    #[tactic(auto, unfolding(crate::specs::Output::ao_get))]
+    #[inline(never)]
     fn get(&self, field: OwnField) -> Option<Value> {
         match field {
             OwnField::Oif => Some(Value::Enum(self.increment.number())),
@@ -237,24 +245,7 @@ impl RecordBody for Ao {
             OwnField::Pval => Some(Value::Double(self.previous)),
             OwnField::Ivov => Some(Value::Double(self.invalid_value)),
             OwnField::Omsl | OwnField::Ivoa => self.drive.get(field),
-            OwnField::Linr
-            | OwnField::Eguf
-            | OwnField::Egul
-            | OwnField::Eslo
-            | OwnField::Eoff
-            | OwnField::Aslo
-            | OwnField::Aoff
-            | OwnField::Roff
-            | OwnField::Rval => self.scale.get(field),
-            _ => self.analog.get(field),
-        }
-    }
-
-    #[tactic(auto, unfolding(crate::specs::Output::ao_get, crate::specs::Scale::scale_get, crate::specs::Analog::analog_get))]
-    fn real(&self, field: OwnField) -> Option<Double> {
-        match field {
-            OwnField::Val => Some(self.analog.value),
-            _ => real_in(self.get(field)),
+            _ => self.scale.get(field).or(self.analog.get(field)),
         }
     }
 
@@ -287,6 +278,10 @@ impl RecordBody for Ao {
         self.drive.wanted_link()
     }
 
+    fn inputs(&self, _got: &Got) -> u16 {
+        0
+    }
+
     fn input_kind(&self, _condition: &Condition) -> InputKind {
         InputKind::Double
     }
@@ -298,7 +293,7 @@ impl RecordBody for Ao {
         self.write_driven(condition, output)
     }
 
-    fn post(&mut self) {
+    fn post(&mut self, _alarm_changed: bool) {
         self.analog.post();
     }
 

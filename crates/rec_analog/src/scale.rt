@@ -82,10 +82,8 @@ impl Scale {
         }
     }
 
-    /// Returns the value of one of these fields. It isn't inlined, so that a read of another type
-    /// doesn't pay for its room on the stack.
+    /// Returns the value of one of these fields.
     #[tactic(auto, unfolding(crate::specs::Scale::scale_get))]
-    #[inline(never)]
     pub fn get(&self, field: OwnField) -> Option<Value>
         ensures { result ≡ scale_get self.now field }
     {
