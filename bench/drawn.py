@@ -16,10 +16,6 @@ STATES = [state + part for state in "ZR ON TW TH FR FV SX SV EI NI TE EL TV TT F
 MULTI = "VAL RVAL MASK SHFT NOBT UNSV COSV LALM " + " ".join(STATES)
 ANALOG = ("VAL PREC EGU HOPR LOPR HIHI LOLO HIGH LOW HHSV LLSV HSV LSV HYST MDEL ADEL LALM MLST ALST LINR EGUF EGUL ESLO EOFF ASLO AOFF"
           " ROFF RVAL")
-SHOWN = "VAL PREC EGU HOPR LOPR HIHI LOLO HIGH LOW HHSV LLSV HSV LSV HYST MDEL ADEL LALM MLST ALST"
-LETTERS = "ABCDEFGHIJKL"
-INPUTS = " ".join([*LETTERS, *("L" + letter for letter in LETTERS), *("INP" + letter for letter in LETTERS)])
-CALC = SHOWN + " CALC " + INPUTS
 SLOTS = ["LNK" + digit for digit in "0123456789ABCDEF"]
 TYPES = {
     kind: f"{COMMON} {own}".split()
@@ -29,11 +25,13 @@ TYPES = {
         "bi": BINARY + " INP", "bo": BINARY + DRIVE, "mbbi": MULTI + " INP", "mbbo": MULTI + DRIVE,
         "stringin": "VAL INP", "stringout": "VAL" + DRIVE, "event": "VAL INP", "fanout": "VAL SELM SELN SELL OFFS SHFT " + " ".join(SLOTS),
         "ai": ANALOG + " INP SMOO INIT", "ao": ANALOG + DRIVE + " DRVH DRVL OIF OROC OVAL PVAL",
-        "calc": CALC, "calcout": CALC + " OUT OOPT DOPT OCAL OVAL PVAL IVOA IVOV", "sel": SHOWN + " SELM SELN NVL " + INPUTS,
     }.items()
 }
-LINKS = {"INP", "OUT", "DOL", "SDIS", "SELL", "FLNK", "NVL", *SLOTS, *("INP" + letter for letter in LETTERS)}
-FIXED = set("NAME STAT NSTA SEVR NSEV LCNT PACT PUTF RPRO TIME LALM MLST ALST INIT OVAL PVAL".split()) | {"L" + letter for letter in LETTERS}
+LINKS = {"INP", "OUT", "DOL", "SDIS", "SELL", "FLNK", *SLOTS}
+# The links into which a constant with a point may go by any type, and the types that take one in INP and DOL.
+REAL_LINKS = {"OUT", "FLNK", *SLOTS}
+REAL_TYPES = {"ai", "ao", "stringin", "stringout", "event"}
+FIXED = set("NAME STAT NSTA SEVR NSEV LCNT PACT PUTF RPRO TIME LALM MLST ALST INIT OVAL PVAL".split())
 EVERY_FIELD = sorted({name for names in TYPES.values() for name in names}) + ["NOPE", "val", ""]
 SCANS = ["Passive", "Event", "I/O Intr", "10 second", "5 second", "2 second", "1 second", ".5 second", ".2 second", ".1 second"]
 EVENTS = ["go", " go ", "stop", "0", "", "e" * 39]
@@ -53,15 +51,10 @@ VALUES = {
     "double": ["0", "1", "-1", "2.5", "-2.5", "0.1", "1e-3", "100", "1e10", "-3e9", "1e300", "5e-324", "-0", "nan", "inf", "-inf", "0x10"],
     "state": ["0", "1"],
 }
-EXPRESSIONS = ["A", "A+B*C", "VAL+1", "B:=A+1;A*B", "A>5?B:C", "1/A", "0/0", "MAX(A,B,C,D)", "A:=VAL;B", "!(A&B)", "NINT(A^3)", "INF",
-               "-A % 7", "SQRT(L)"]
 BY_NAME = {
     "DTYP": ["Soft Channel", "Raw Soft Channel", "Raw Soft Channel", ""], "SCAN": SCANS + ["Passive"] * 14, "PINI": ["NO", "YES", "1"],
     "EVNT": EVENTS, "TSE": ["0"], "PRIO": ["LOW", "MEDIUM", "HIGH", "2"], "OMSL": ["supervisory", "closed_loop", "closed_loop", "1"],
     "IVOA": ["Continue normally", "Don't drive outputs", "Set output to IVOV", "2"], "SELM": ["All", "Specified", "Mask"],
-    "SELM of sel": ["Specified", "High Signal", "Low Signal", "Median Signal", "2"],
-    "OOPT": ["Every Time", "On Change", "When Zero", "When Non-zero", "Transition To Zero", "Transition To Non-zero", "5"],
-    "DOPT": ["Use CALC", "Use OCAL", "1"], "CALC": EXPRESSIONS, "OCAL": EXPRESSIONS,
     "LINR": ["NO CONVERSION", "SLOPE", "LINEAR", "1"], "OIF": ["Full", "Incremental", "0"],
     "DISV": ["1", "1", "0", "7"], "DISA": ["0", "0", "0", "1", "7"], "PROC": ["0", "1", "255"], "DISP": ["0", "0", "0", "0", "1"],
 }
@@ -97,9 +90,7 @@ def holds(kind: str, name: str) -> str:
         return "text"
     if name in ("DISS", "UDFS") or name.endswith("SV"):
         return "severity"
-    if name == "SELN":
-        return "ushort"
-    if kind in ("ai", "ao", "calc", "calcout", "sel") and name in ANALOG.split() + ["SMOO", "DRVH", "DRVL", "OROC", "IVOV", *LETTERS]:
+    if kind in ("ai", "ao") and name in ANALOG.split() + ["SMOO", "DRVH", "DRVL", "OROC", "IVOV"]:
         return {"PREC": "digits", "ROFF": "ulong", "RVAL": "long"}.get(name, "double")
     if name in ("VAL", "IVOV") and kind in ("stringin", "stringout", "event"):
         return "text"
@@ -107,7 +98,7 @@ def holds(kind: str, name: str) -> str:
         return "state"
     if name in ("RVAL", "MASK") or (name in STATES and name.endswith("VL")):
         return "ulong"
-    if name == "IVOV" and kind in ("bo", "mbbo"):
+    if name == "SELN" or (name == "IVOV" and kind in ("bo", "mbbo")):
         return "ushort"
     if name == "NOBT" or (name == "SHFT" and kind != "fanout"):
         return "bits"
@@ -116,13 +107,14 @@ def holds(kind: str, name: str) -> str:
     return "flag" if name == "UDF" else "int64" if kind.startswith("int64") else "long"
 
 
-def drawn_link(generator: random.Random, of: Database, name: str, good: bool = False) -> str:
+def drawn_link(generator: random.Random, of: Database, name: str, kind: str, good: bool = False) -> str:
     """A text for a link field: mostly a link to a record that is there, in one of its spellings."""
     draw = generator.random()
     if draw < 0.05:
         return ""
     if draw < 0.1:
-        return generator.choice(["0", "1", "+1", "0x1"])
+        takes_real = name in REAL_LINKS or (name in ("INP", "DOL") and kind in REAL_TYPES)
+        return generator.choice(["0", "1", "+1", "0x1"] + ["2.5", "-.5E-3", "1e3", "5."] * takes_real)
     if draw < 0.45 and name in ("INP", "OUT"):
         return "@" + generator.choice(DEVICES)
     if draw > 0.98 and not good:
@@ -141,7 +133,7 @@ def drawn_link(generator: random.Random, of: Database, name: str, good: bool = F
 def drawn_value(generator: random.Random, kind: str, name: str, good: bool = False) -> str:
     if not good and generator.random() < 0.06:
         return generator.choice(BAD_VALUES)
-    return generator.choice(BY_NAME.get(f"{name} of {kind}") or BY_NAME.get(name) or VALUES[holds(kind, name)])
+    return generator.choice(BY_NAME.get(name) or VALUES[holds(kind, name)])
 
 
 def spelled(generator: random.Random, text: str, macros: dict[str, str]) -> str:
@@ -164,13 +156,11 @@ def drawn_database(generator: random.Random, good: bool) -> Database:
             made.aliases["to:" + name[:50]] = name
     statements = []
     for name, kind in made.records.items():
-        fixed = FIXED | ({"VAL"} if kind == "sel" else set())
-        settable = [it for it in TYPES[kind] if it not in fixed or (not good and generator.random() < 0.02)]
-        often = ("DOL", "OMSL", "FLNK", "SCAN", "VAL", "INPA", "INPB", "INPC", "SELM")
-        weights = [20 if it in ("INP", "OUT", "CALC") else 4 if it in often else 1 for it in settable]
+        settable = [it for it in TYPES[kind] if it not in FIXED or (not good and generator.random() < 0.02)]
+        weights = [20 if it in ("INP", "OUT") else 4 if it in ("DOL", "OMSL", "FLNK", "SCAN", "VAL") else 1 for it in settable]
         body = []
         for it in generator.choices(settable, weights, k=generator.randint(0, 9)):
-            value = "1" if it in fixed else drawn_link(generator, made, it, good) if it in LINKS else drawn_value(generator, kind, it, good)
+            value = "1" if it in FIXED else drawn_link(generator, made, it, kind, good) if it in LINKS else drawn_value(generator, kind, it, good)
             body.append(f"field({it}, {spelled(generator, value, macros)})")
             if value.startswith("@"):
                 made.devices.append(name)
@@ -241,7 +231,7 @@ def drawn_script(generator: random.Random, of: Database) -> bytes:
             case "link":
                 links = [it for it in TYPES[kind] if it in LINKS] if generator.random() < 0.95 else EVERY_FIELD
                 at = generator.choice(links)
-                lines.append(f"link {name}.{at} {drawn_link(generator, of, at)}")
+                lines.append(f"link {name}.{at} {drawn_link(generator, of, at, kind)}")
             case "next":
                 lines += [f"next {name} {generator.choice(['done ' + text, 'fault', 'later'])}"] * generator.choice([1, 1, 3])
             case "done":
@@ -297,4 +287,4 @@ def standing(of: Database, link: str) -> str | None:
     if not parts:
         return None
     name = of.aliases.get(parts[1], parts[1])
-    return name if name in of.records and parts[2] in TYPES[of.records[name]] and parts[2] not in {*LINKS, "CALC", "OCAL"} else None
+    return name if name in of.records and parts[2] in TYPES[of.records[name]] and parts[2] not in LINKS else None

@@ -46,6 +46,8 @@ SESSION_FORM = {verb: re.compile(f"({form}|bad)", re.S) for verb, form in SESSIO
 # The fields that ioc prints at its end.
 SHOWN = ("VAL", "STAT", "SEVR")
 NOT_OF_A_CONSOLE = ("at", "next", "tally")
+# How many bytes a line of a console may have.
+LONGEST_OF_A_CONSOLE = 4096
 # Lines of journals, of which some are no entries.
 JOURNAL_WORDS = [
     *"0 1 2 7 00 -1 18446744073709551615 18446744073709551616 process put get notify cancel complete live link post interrupt".split(),
@@ -261,7 +263,9 @@ class Case:
         ran = self.runner.run("ioc-check", self.database, *self.macros, *words)
         kinds, told = self.judge_check(ran, words)
         text = self.of.text
-        if is_drawn(text, False) and not ("--write" in words and b"TPRO" in text):
+        # What is dropped by the options is no error here, and one of the load.
+        is_dropped = ("--write" in words and b"TPRO" in text) or any(" dropped record(" in it for it in told)
+        if is_drawn(text, False) and not is_dropped:
             want((ran.status == 1) == (plain.status == 1), "ioc-check and the load disagree", (ran, plain))
             if plain.status == 1:
                 errors = [(line, rest.encode("latin-1")) for line, rest in re.findall(r"x\.db:(\d+):\d+: error: (.*)", "\n".join(told))]
@@ -393,14 +397,14 @@ class Case:
         told = told[::-1]
         last, refused, sets, is_ended = 0, [], None, False
         for number, line in enumerate(text.split("\n")[:-1], 1):
-            if (line == "" or line.startswith("#")) and len(line) <= 1024:
+            if (line == "" or line.startswith("#")) and len(line) <= LONGEST_OF_A_CONSOLE:
                 continue
             if line == "exit":
                 is_ended = True
                 break
             want(told, f"no reply to {line!r}", ran)
             verb = line.partition(" ")[0]
-            if len(line) <= 1024 and verb in ("dbl", "dbpr", "help"):
+            if len(line) <= LONGEST_OF_A_CONSOLE and verb in ("dbl", "dbpr", "help"):
                 count = 0
                 while told and not re.fullmatch(r"ok \d+|ok|bad|E1 NoRecord", told[-1]):
                     count += 1
@@ -411,7 +415,7 @@ class Case:
             else:
                 reply = told.pop()
                 form = SESSION_FORM.get(verb) if " " in line or line in ("event", "sets", "tick", "checkpoint") else None
-                is_bad = len(line) > 1024 or verb in NOT_OF_A_CONSOLE or not form
+                is_bad = len(line) > LONGEST_OF_A_CONSOLE or verb in NOT_OF_A_CONSOLE or not form
                 want(reply == "bad" if is_bad else form.fullmatch(reply), f"{line!r}: {reply!r}", ran)
                 want(not (verb in ("sets", "checkpoint") and (reply == "bad") != (line != verb)), f"{line!r}: {reply!r}", ran)
                 if reply.startswith("ok notify "):

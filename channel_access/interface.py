@@ -95,11 +95,20 @@ GotReading = Callable[[Optional[Reading]], None]
 Told = Callable[[int, Reading], None]
 
 
+class Wanted(NamedTuple):
+    """What is watched: a field by its text, or by the number behind it if it has one, perhaps with the record's properties."""
+
+    record: Record
+    field: Field
+    is_text: bool
+    with_properties: bool
+
+
 class Watch:
     """A field that is watched."""
 
-    def __init__(self, record: Record, field: Field, told: Told) -> None:
-        self.record, self.field, self.told = record, field, told
+    def __init__(self, wanted: Wanted, told: Told) -> None:
+        self.wanted, self.told = wanted, told
 
 
 class PutCallback:
@@ -129,11 +138,11 @@ class Ioc(Protocol):
     def cancel(self, begun: PutCallback, freed: Callable[[], None]) -> None:
         """Gives up a put with notification: its `done` is never called. `freed` is called when it has its place no more."""
 
-    def watch(self, record: Record, field: Field, told: Told) -> Watch:
+    def watch(self, wanted: Wanted, told: Told) -> Watch:
         """Watches a field: `told` hears of each change from the first `look` on."""
 
     def look(self, watch: Watch, first: GotReading) -> None:
-        """Reads a watched field now; its `told` is called before `first` if that shows a change."""
+        """Gives a watched field as it is now. What comes to `told` behind `first` is of later moments."""
 
     def unwatch(self, watch: Watch) -> None:
         """Ends a watch: its `told` is never called again."""

@@ -1,8 +1,8 @@
 """Subscriptions: who hears of the changes of a field. A client that doesn't read keeps the latest value of each, and no more."""
-from typing import TYPE_CHECKING, Dict, Optional, Tuple
+from typing import TYPE_CHECKING, Dict, Optional
 
-from .interface import Ioc, Reading, Watch
-from .values import Served
+from .interface import PROPERTY, Extent, Ioc, Reading, Wanted, Watch
+from .values import Served, extent_of, is_text_form
 
 if TYPE_CHECKING:
     from .channels import Circuit
@@ -28,8 +28,15 @@ class Subscription:
             self.circuit.kept[self.number] = self
 
 
+def _wanted(subscription: Subscription) -> Wanted:
+    """What has to be watched for a subscription."""
+    channel, form = subscription.channel, subscription.form
+    with_properties = extent_of(form) is Extent.PROPERTIES or subscription.mask & PROPERTY > 0
+    return Wanted(channel.record, channel.field, is_text_form(channel, form), with_properties)
+
+
 class _Shared:
-    """A field with its subscriptions. The first value of each is read for it."""
+    """What is watched, with its subscriptions. The first value of each is asked for it."""
 
     watch: Watch
 
@@ -43,19 +50,19 @@ class _Shared:
 
 
 class Monitors:
-    """All subscriptions, by fields."""
+    """All subscriptions, by what is watched for them."""
 
     def __init__(self, ioc: Ioc) -> None:
         self._ioc = ioc
-        self._fields: Dict[Tuple[bytes, str], _Shared] = {}
+        self._shared: Dict[Wanted, _Shared] = {}
 
     def subscribe(self, subscription: Subscription) -> None:
         """Adds a subscription: its first value comes, and then each change that its mask has."""
-        record, field = subscription.channel.record, subscription.channel.field
-        shared = self._fields.get((record.name, field.name))
+        wanted = _wanted(subscription)
+        shared = self._shared.get(wanted)
         if shared is None:
-            shared = self._fields[record.name, field.name] = _Shared()
-            shared.watch = self._ioc.watch(record, field, shared.told)
+            shared = self._shared[wanted] = _Shared()
+            shared.watch = self._ioc.watch(wanted, shared.told)
         subscriptions = shared.subscriptions
         subscriptions[subscription] = None
 
@@ -69,9 +76,8 @@ class Monitors:
 
     def cancel(self, subscription: Subscription) -> None:
         """Removes a subscription: nothing more is sent for it."""
-        key = subscription.channel.record.name, subscription.channel.field.name
-        shared = self._fields[key]
+        shared = self._shared[_wanted(subscription)]
         del shared.subscriptions[subscription]
         if not shared.subscriptions:
             self._ioc.unwatch(shared.watch)
-            del self._fields[key]
+            del self._shared[_wanted(subscription)]

@@ -146,6 +146,11 @@ def extent_of(form: int) -> Extent:
     return Extent.PROPERTIES if WITH_UNITS <= form < STSACK_STRING else Extent.ALARM
 
 
+def is_text_form(channel: Served, form: int) -> bool:
+    """Returns whether a form has the text of a value, and not the number behind it."""
+    return channel.is_long_text or form == STSACK_STRING or form % 7 == Base.STRING
+
+
 def given_value(channel: Served, form: int, count: int, body: bytes) -> Given:
     """Returns what a client puts. NO_VALUE if it is none."""
     if form == Base.STRING:

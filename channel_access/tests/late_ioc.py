@@ -2,7 +2,7 @@
 """A stand-in for `ioc DB --live`, which runs bin/ioc behind it: puts with notification to records `late*` end only when that is asked for.
 
 `put late:release N` ends N of them, the oldest first; `late:live` and `late:cancelled` show how many are live and were cancelled, and
-`late:reads` how many lines have read fields. The record `torn` is processed again and again between readings, and `off` is disabled and enabled.
+`late:watches` how many words watch. The record `torn` is processed again and again between readings, and `off` is disabled and enabled.
 A reply of bin/ioc that doesn't come ends the stand-in by SIGALRM, so the front ends too, and its test fails.
 """
 import pathlib
@@ -10,7 +10,7 @@ import random
 import signal
 import subprocess
 import sys
-from typing import List
+from typing import List, Set
 
 IOC = pathlib.Path(__file__).resolve().parent.parent.parent / "bin" / "ioc"
 MOST_LIVE = 256
@@ -24,7 +24,8 @@ class Stand:
     def __init__(self, words: List[str]) -> None:
         self.ioc = subprocess.Popen([IOC, *words], stdin=subprocess.PIPE, stdout=subprocess.PIPE, stderr=subprocess.DEVNULL)
         self.live: List[int] = []
-        self.number = self.cancelled = self.reads = 0
+        self.number = self.cancelled = 0
+        self.watching: Set[bytes] = set()
         self.is_high, self.chance = False, random.Random(7)
 
     def ask(self, line: bytes) -> List[bytes]:
@@ -34,7 +35,7 @@ class Stand:
         self.ioc.stdin.flush()
         signal.alarm(SECONDS)
         replies = [self.ioc.stdout.readline().rstrip(b"\n")]
-        while replies[-1].startswith((b"- ", b"? ")):  # a device may be asked at any time
+        while replies[-1].startswith((b"- ", b"? ", b"! ")):  # a device may be asked at any time, and a field may change
             replies.append(self.ioc.stdout.readline().rstrip(b"\n"))
         signal.alarm(0)
         return replies
@@ -54,9 +55,8 @@ class Stand:
 
     def read(self, words: bytes) -> List[bytes]:
         """The reply to a reading: records that show counts take them first."""
-        self.reads += 1
         name = words.partition(b" ")[0]
-        counts = {b"late:live": len(self.live), b"late:cancelled": self.cancelled, b"late:reads": self.reads}
+        counts = {b"late:live": len(self.live), b"late:cancelled": self.cancelled, b"late:watches": len(self.watching)}
         if name in counts:
             self.ask(b"put %b.VAL %d" % (name, counts[name]))
         if name in (b"torn", b"off") and self.chance.random() < 1 / 6:
@@ -73,6 +73,8 @@ class Stand:
             return self.read(words)
         if verb == b"notify#":
             return self.notify(words)
+        if verb in (b"watch", b"unwatch"):
+            (self.watching.add if verb == b"watch" else self.watching.discard)(words)
         if verb == b"cancel":
             if int(words) not in self.live:
                 return [b"E8 Stale"]

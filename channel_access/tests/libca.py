@@ -153,10 +153,14 @@ class Library:
 
     def monitor(self, name: str, form: int, mask: int, told: Callable[[Any], None], count: int = 1) -> Any:
         """A subscription: `told` gets the bytes of each value, or the status of a failure."""
+        return self.subscribe(self.channel(name), form, mask, told, count)
+
+    def subscribe(self, channel: Any, form: int, mask: int, told: Callable[[Any], None], count: int = 1) -> Any:
+        """As `monitor`, of a channel that is connected."""
         number = C.c_void_p()
         heard = self._keep(
             _EVENT(lambda event: told(C.string_at(event.dbr, self.size(form, event.count)) if event.status == NORMAL else event.status))
         )
-        self.ca.ca_create_subscription(form, count, self.channel(name), mask, heard, None, C.byref(number))
+        self.ca.ca_create_subscription(form, count, channel, mask, heard, None, C.byref(number))
         self.ca.ca_flush_io()
         return number

@@ -1,6 +1,7 @@
 """What the front costs, by libca on loopback: `python3 -m channel_access.tests.measure [SECONDS]`.
 
 It prints of gets, puts and put callbacks how many a second, and microseconds of processor each: of the front, of the IOC, of this client.
+With `changes [SECONDS]` it prints the same of what 10,000 monitors are told of records that change ten times a second.
 """
 import os
 import pathlib
@@ -10,10 +11,11 @@ import time
 from typing import Any, Callable, List, Tuple
 
 from .libca import NORMAL, Library
-from .support import Front, free_ports
+from .support import DATABASE, Front, free_ports
 
 LONG, TIME_LONG = 5, 19
 AT_ONCE = 500
+MOVING = 10_000
 
 
 def processor(process: int) -> float:
@@ -25,12 +27,12 @@ def processor(process: int) -> float:
 class Measure:
     """A front, its IOC, and the library."""
 
-    def __init__(self, seconds: float) -> None:
+    def __init__(self, seconds: float, database: str, names: List[str]) -> None:
         port, repeater = free_ports(2)
         self.seconds = seconds
-        self.front = Front("--allow-write", "*", port=port, repeater=repeater, has_journal=True)
+        self.front = Front("--allow-write", "*", port=port, repeater=repeater, has_journal=True, database=database)
         self.ca = Library(port, repeater)
-        channels = self.ca.channels([f"n{number}" for number in range(AT_ONCE)], 10)
+        channels = self.ca.channels(names, 60)
         assert channels is not None
         self.channels: List[Any] = channels
         (self.ioc,) = self.front.children()
@@ -69,16 +71,43 @@ class Measure:
         return len(self.channels)
 
 
+    def monitor_all(self) -> List[int]:
+        """Monitors each channel. The list has how many values came."""
+        count = [0]
+
+        def told(data: object) -> None:
+            count[0] += 1
+
+        for channel in self.channels:
+            self.ca.subscribe(channel, TIME_LONG, 1, told)
+        assert self.ca.until(lambda: count[0] >= len(self.channels), 60)
+        return count
+
+
+def changes(seconds: float) -> None:
+    names = [f"m{number}" for number in range(MOVING)]
+    database = "".join(f'record(longin, "{name}") {{ field(SCAN, ".1 second") field(INP, "@{name}") }}\n' for name in names)
+    measure = Measure(seconds, database, names)
+    count = measure.monitor_all()
+
+    def one_second() -> int:
+        before = count[0]
+        measure.ca.pend(1.0)
+        return count[0] - before
+
+    measure.show(f"changes to {MOVING:,} monitors, {MOVING * 10:,} a second", one_second)
+    measure.front.clean()
+    os._exit(0)
+
+
 def main(seconds: float) -> None:
-    measure = Measure(seconds)
+    measure = Measure(seconds, DATABASE, [f"n{number}" for number in range(AT_ONCE)])
     measure.show("idle", lambda: time.sleep(0.1) or 1)  # type: ignore[func-returns-value]
     measure.show("gets of a value", lambda: measure.gets(LONG))
     measure.show("gets with alarm and time stamp", lambda: measure.gets(TIME_LONG))
     measure.show("puts", measure.puts)
     measure.show("put callbacks", measure.put_callbacks)
-    for number in range(AT_ONCE):
-        measure.ca.monitor(f"n{number}", TIME_LONG, 1, lambda data: None)
-    measure.ca.pend(1.0)
+    measure.monitor_all()
 
     def one_second() -> int:
         measure.ca.pend(1.0)
@@ -92,4 +121,6 @@ def main(seconds: float) -> None:
 
 
 if __name__ == "__main__":
-    main(float(sys.argv[1]) if len(sys.argv) > 1 else 3.0)
+    words = sys.argv[1:]
+    run = changes if words[:1] == ["changes"] else main
+    run(float(words[-1]) if words and words[-1] != "changes" else 3.0)

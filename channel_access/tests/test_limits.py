@@ -10,7 +10,7 @@ from typing import Callable, Iterator, Optional, cast
 
 from .. import channels, protocol, server
 from ..client import Client, Refused
-from ..interface import Field, GotReading, Ioc, Kind, Record, Told, Watch
+from ..interface import Field, GotReading, Ioc, Kind, Record, Told, Wanted, Watch
 from ..protocol import WITH_CONTROL, WITH_TIME, Base, Command, Status, pack
 from .support import WithFront, audit, free_ports, is_ended, until
 
@@ -274,8 +274,8 @@ class StandIn:
     def find(self, name: bytes, done: Callable[[Optional[Record]], None]) -> None:
         done(self.record)
 
-    def watch(self, record: Record, field: Field, told: Told) -> Watch:
-        return Watch(record, field, told)
+    def watch(self, wanted: Wanted, told: Told) -> Watch:
+        return Watch(wanted, told)
 
     def look(self, watch: Watch, first: GotReading) -> None:
         pass

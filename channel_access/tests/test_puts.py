@@ -16,7 +16,7 @@ from .support import DATABASE, PATIENCE, Front, until
 FIELD = Field("VAL", Kind.LONG, True)
 RECORD = Record(b"rec", "longout", {"VAL": FIELD})
 LATE_IOC = str(pathlib.Path(__file__).with_name("late_ioc.py"))
-LATE = DATABASE + "".join(f'record(longout, "late:{name}") {{}}\n' for name in ("release", "live", "cancelled", "reads", "a", "b"))
+LATE = DATABASE + "".join(f'record(longout, "late:{name}") {{}}\n' for name in ("release", "live", "cancelled", "watches", "a", "b"))
 LATE += """record(longout, "torn") { field(HIGH, 100) field(HSV, MAJOR) }
 record(longout, "off") { field(VAL, 5) field(DISS, MAJOR) }
 """
@@ -164,19 +164,14 @@ class LateFront(unittest.TestCase):
             self.assertLessEqual(seen, {*often, at_first})
 
     def test_the_end_of_a_circuit_ends_its_subscriptions(self) -> None:
-        client, other = self.client(), self.client()
-        number, _, _ = client.channel("torn")
-        client.send(pack(Command.EVENT_ADD, struct.pack(">12xH2x", 1), Base.LONG, 1, number, 1))
-        client.reply(Command.EVENT_ADD)
-        counts = [int(other.read("late:reads")[0])]
-        for _ in range(2):
-            time.sleep(0.8)
-            counts.append(int(other.read("late:reads")[0]))
-            client.connection.close()
-        time.sleep(0.8)
-        counts.append(int(other.read("late:reads")[0]))
-        self.assertGreater(counts[1] - counts[0], 4)
-        self.assertLess(counts[3] - counts[2], 4)
+        client = self.client()
+        for name in ("torn", "off"):
+            number, _, _ = client.channel(name)
+            client.send(pack(Command.EVENT_ADD, struct.pack(">12xH2x", 1), Base.LONG, 1, number, number))
+            client.reply(Command.EVENT_ADD)
+        self.assertTrue(self.shows("late:watches", 2))
+        client.connection.close()
+        self.assertTrue(self.shows("late:watches", 0))
 
     def test_the_end_of_a_circuit_cancels(self) -> None:
         client = self.client()

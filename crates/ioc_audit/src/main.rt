@@ -6,8 +6,6 @@ mod command;
 mod restoring;
 mod showing;
 mod telling;
-#[cfg(test)]
-mod tests;
 mod watching;
 
 use crate::command::{PROGRAM, Words};

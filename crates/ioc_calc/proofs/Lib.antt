@@ -16,4 +16,3 @@ pub mod Refused
 pub mod WholeSizes
 pub mod Longest
 pub mod OneMeaning
-pub mod Programs

@@ -17,4 +17,3 @@ pub mod Levels
 pub mod Wholes
 pub mod Longest
 pub mod Names
-pub mod Programs

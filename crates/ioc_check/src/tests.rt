@@ -84,7 +84,7 @@ fn leaves_out_what_epics_alone_has(rt: HostRuntime) -> Result<(), Fail> {
     ] {
         let mut statements = Vec::new(alloc);
         statements.push(record(alloc, "bo", "a", &[("TPRO", "1"), ("VAL", "1")], "b")?)?;
-        statements.push(record(alloc, "waveform", "x", &[("VAL", "1")], "y")?)?;
+        statements.push(record(alloc, "calc", "x", &[("VAL", "1")], "y")?)?;
         statements.push(record(alloc, "*", "x", &[], "")?)?;
         statements.push(alias(alloc, "y", "z")?)?;
         statements.push(record(alloc, "*", "b", &[("ASP", "1"), ("NONE", "1")], "")?)?;

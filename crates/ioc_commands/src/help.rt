@@ -60,18 +60,3 @@ impl fmt::Display for Verbs {
         Ok(())
     }
 }
-
-#[cfg(test)]
-mod tests {
-    use super::*;
-    use crate::verb::Verb;
-
-    // The first word of each form is the one that its verb is read from, and no verb lacks a form.
-    #[test]
-    fn each_form_begins_with_its_verb(rt: HostRuntime) {
-        for form in &FORMS {
-            let word = cut_at(form.line.as_bytes(), b' ').0;
-            assert_eq!(rt; Verb::from_word(word), Some(form.verb));
-        }
-    }
-}

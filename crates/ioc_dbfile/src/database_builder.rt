@@ -1,17 +1,16 @@
 //! The builder of a database from statements.
 ghost use Rattle.std.specs.Prelude.{◌≡◌, ◌↔◌, [], true, IsSome, IfSome, IfOk, slice_get};
 ghost use Rattle.ioc_links.specs.Grammar.{is_record_name};
-ghost use Rattle.ioc_dbfile.specs.Loader.{same_type, kind_of_refusal, build_error, kind_of_fault, holds_expression};
+ghost use Rattle.ioc_dbfile.specs.Loader.{same_type, kind_of_refusal, build_error};
 ghost use Rattle.ioc_names.specs.NameTable.{no_names};
 
 use crate::database::Database;
 use crate::new_records::push_new;
-use ioc_calc::CalcFaultKind;
 use ioc_dbparse::{BuildError, Builder};
-use ioc_fields::{FieldKind, FieldNo, RecordType, can_set, field, kind_of};
+use ioc_fields::{FieldNo, RecordType, can_set, field};
 use ioc_links::is_record_name;
 use ioc_names::{Entered, Names, RecordNo};
-use ioc_record::{RecordKind, set_calculation, set_field};
+use ioc_record::{RecordKind, set_field};
 use ioc_values::{BadDbKind, IocError, Name};
 use rec_types::Record;
 use std::alloc::{AllocError, Global};
@@ -109,23 +108,6 @@ fn kind_of_refusal(refusal: IocError) -> BadDbKind
     }
 }
 
-/// Returns the fault of a database text in which an expression can't be set.
-fn kind_of_fault(fault: CalcFaultKind) -> BadDbKind
-    ensures { result ≡ kind_of_fault fault }
-{
-    match fault {
-        CalcFaultKind::Bad => BadDbKind::BadCalc,
-        CalcFaultKind::LeftOut(word) => BadDbKind::CalcLeftOut(word),
-    }
-}
-
-/// Returns whether a field of this kind holds an expression.
-fn holds_expression(kind: Option<FieldKind>) -> bool
-    ensures { result ≡ holds_expression kind }
-{
-    matches!(kind, Some(FieldKind::Expression))
-}
-
 #[tactic(auto, unfolding(crate::specs::Loader::find_record, crate::specs::Loader::add_record, crate::specs::Loader::alias_record, crate::specs::Loader::find_field, crate::specs::Loader::set_at, crate::specs::Loader::most_records))]
 impl Builder for DatabaseBuilder {
     ghost use Rattle.ioc_dbfile.specs.Loader.{loading};
@@ -199,17 +181,10 @@ impl Builder for DatabaseBuilder {
         if place >= self.records.len() {
             return Err(BuildError::Refused(BadDbKind::BadValue));
         }
-        let record = &mut self.records[place];
-        if holds_expression(kind_of(record.record_type(), field)) {
-            return match set_calculation(record, field, value) {
-                Ok(()) => Ok(()),
-                Err(fault) => Err(BuildError::Refused(kind_of_fault(fault))),
-            };
+        if let Err(refusal) = set_field(self.alloc, &mut self.records[place], field, value) {
+            return Err(build_error(refusal));
         }
-        match set_field(self.alloc, record, field, value) {
-            Ok(()) => Ok(()),
-            Err(refusal) => Err(build_error(refusal)),
-        }
+        Ok(())
     }
 }
 

@@ -4,7 +4,6 @@ mod calling;
 mod calls;
 mod eight;
 mod moments;
-mod programs;
 mod replayed;
 mod running;
 mod scanned;

@@ -52,9 +52,6 @@ pub(crate) fn set_last_alarmed(body: &mut Body, value: Value)
         | Body::Fanout(_)
         | Body::Event(_)
         | Body::Ai(_)
-        | Body::Ao(_)
-        | Body::Calc(_)
-        | Body::Calcout(_)
-        | Body::Sel(_) => {}
+        | Body::Ao(_) => {}
     }
 }

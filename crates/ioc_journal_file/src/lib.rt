@@ -23,6 +23,3 @@ pub use entries::{add_entries, add_entry};
 pub use line::{Line, Mark, parse, print, print_entry};
 pub use line_error::LineError;
 pub use next_file::{NextFile, add_next, next_of};
-
-#[cfg(test)]
-mod tests;

@@ -13,6 +13,3 @@ pub use base::{add_base, base_of};
 pub use ending::{add_end, end_of};
 pub use header::{Header, add_header, header_of};
 pub use seal::{Seals, add_seal, database_hash, seal_of};
-
-#[cfg(test)]
-mod tests;

@@ -3,7 +3,6 @@ mod FrameSteps
 mod FrameTurns
 mod FrameWork
 mod Handing
-mod InputSteps
 mod Needs
 pub mod OneLook
 mod Ready

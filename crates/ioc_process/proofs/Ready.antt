@@ -16,7 +16,7 @@ use Rattle.ioc_store.specs.Worlds.{room-active}
 use Rattle.ioc_store.specs.Places.{requested_at}
 use Rattle.ioc_process.specs.Frames.{Turn, Ended, Turns, turn_of, calls_left}
 use Rattle.ioc_process.specs.Depth.{stays-changed}
-use Rattle.ioc_process.specs.Keeping.{keeps_all, keeps_on, keeps-active, keeps-changed, closed_on}
+use Rattle.ioc_process.specs.Keeping.{keeps_all, keeps-active, keeps-changed, closed_on}
 use Rattle.ioc_process.specs.Ready.{IsReady, TakesTurn}
 use Rattle.ioc_process.proofs.FrameSteps.{back-idle, back-inactive}
 use Rattle.ioc_process.proofs.FrameTurns.{opens_pushed, turn_pushed}
@@ -59,12 +59,6 @@ module _ {R : Type 0} (k : RecordRules R) (lawful : IsLawful k) where
     keeps = keeps;
     fewer = omega (arith, stays.fewer);
   })
-
-  -- A step that keeps the links leaves a record ready that was left ready before.
-  pub ready_then : {w mid v step : World R} {s : ℕ} → StaysReady k w mid s 0 → v ≡ step → Keeps k mid step → Stays k mid s step → StaysReady k w v s 0
-  ready_then first is keeps stays =
-      let next = ready_by is keeps stays first.there first.closed first.is_idle in
-      record { there = next.there; closed = next.closed; is_idle = next.is_idle; keeps = keeps_on k first.keeps next.keeps; fewer = omega (arith, first.fewer, next.fewer) }
 
   -- A record that resumes is ready.
   pub ready_again : {w v : World R} {s : ℕ} → v ≡ changed k w s (with_active false) → Has w s → IsClosed k w → StaysReady k w v s 1

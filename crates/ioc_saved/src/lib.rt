@@ -20,6 +20,3 @@ pub use file::{
 pub use line::saved_in;
 pub use request::{RequestLine, request_line};
 pub use value::{MAX_VALUE_BYTES, SavedText, SavedValue};
-
-#[cfg(test)]
-mod tests;

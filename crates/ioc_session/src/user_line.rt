@@ -29,27 +29,3 @@ pub fn script_line(line: &[u8]) -> LineBuffer {
     }
     script
 }
-
-#[cfg(test)]
-mod tests {
-    use super::*;
-
-    #[test]
-    fn gives_the_line_of_a_script(rt: HostRuntime) {
-        let cases = [
-            (b"get a".as_slice(), b"get a.VAL".as_slice()),
-            (b"get a.DESC", b"get a.DESC"),
-            (b"dbgf a", b"get a.VAL"),
-            (b"put a 5", b"put a.VAL 5"),
-            (b"dbpf a.B  x y", b"put a.B  x y"),
-            (b"notify a", b"notify a.VAL"),
-            (b"get  a", b"get  a"),
-            (b"get", b"get"),
-            (b"process a", b"process a"),
-            (b"", b""),
-        ];
-        for (line, expected) in cases {
-            assert_eq!(rt; script_line(line).as_slice(), expected);
-        }
-    }
-}

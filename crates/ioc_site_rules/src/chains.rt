@@ -4,7 +4,7 @@ use crate::report::Report;
 use crate::scanning::{is_closed_loop, is_passive, is_processed_at_start, own_link};
 use crate::site::{Site, SiteRecord};
 use crate::wording::Shown;
-use ioc_fields::{FieldSlot, OwnField, RecordType};
+use ioc_fields::{OwnField, RecordType};
 use ioc_links::Link;
 use std::alloc::AllocError;
 use std::fmt;
@@ -198,21 +198,12 @@ fn leads_on(link: Option<Link>) -> bool {
     matches!(link, Some(Link::Device(_) | Link::Database(..)))
 }
 
-// Returns whether one of INPA to INPL leads to a record.
-fn has_input(record: &SiteRecord<'_>) -> bool {
-    (0..12).filter_map(FieldSlot::from_index).any(|slot| leads_on(own_link(
-        record,
-        OwnField::InputLink(slot),
-    )))
-}
-
 // Returns whether the record has something to do that only processing does: an input reads its
-// INP, an output follows its DOL, a calc, calcout or sel reads its inputs, and a fanout processes
-// other records. A put to VAL, or to one of A to L, processes any other record.
+// INP, an output follows its DOL, and a fanout processes other records. A put to VAL processes any
+// other record.
 fn has_work(record: &SiteRecord<'_>, record_type: RecordType) -> bool {
     match record_type {
         RecordType::Fanout => true,
-        RecordType::Calc | RecordType::Calcout | RecordType::Sel => has_input(record),
         _ if record_type.reads_device() => leads_on(own_link(record, OwnField::Inp)),
         _ => is_closed_loop(record) && leads_on(own_link(record, OwnField::Dol)),
     }

@@ -5,7 +5,7 @@
 use ioc_fields::RecordType;
 
 /// The types of records that this project has.
-pub static TYPES: [&str; 17] = [
+pub static TYPES: [&str; 14] = [
     "longin",
     "longout",
     "int64in",
@@ -20,16 +20,15 @@ pub static TYPES: [&str; 17] = [
     "event",
     "ai",
     "ao",
-    "calc",
-    "calcout",
-    "sel",
 ];
 
-static LEFT_OUT_TYPES: [&str; 21] = [
+static LEFT_OUT_TYPES: [&str; 24] = [
     "aai",
     "aao",
     "aSub",
     "acalcout",
+    "calc",
+    "calcout",
     "compress",
     "dfanout",
     "genSub",
@@ -41,6 +40,7 @@ static LEFT_OUT_TYPES: [&str; 21] = [
     "permissive",
     "printf",
     "scalcout",
+    "sel",
     "seq",
     "state",
     "sub",
@@ -82,22 +82,6 @@ static LEFT_OUT_AO_FIELDS: [&str; 8] = [
     "INIT", "LBRK", "OMOD", "ORAW", "ORBV", "OUTPVT", "PBRK", "RBV",
 ];
 
-static LEFT_OUT_CALC_FIELDS: [&str; 30] = [
-    "AFTC", "AFVL", "RPCL", "INPM", "INPN", "INPO", "INPP", "INPQ", "INPR", "INPS", "INPT", "INPU",
-    "M", "N", "O", "P", "Q", "R", "S", "T", "U", "LM", "LN", "LO", "LP", "LQ", "LR", "LS", "LT",
-    "LU",
-];
-
-static LEFT_OUT_CALCOUT_FIELDS: [&str; 60] = [
-    "CLCV", "DLYA", "EPVT", "OCLV", "ODLY", "OEVT", "ORPC", "OUTPVT", "OUTV", "POVL", "RPCL",
-    "RPVT", "INAV", "INBV", "INCV", "INDV", "INEV", "INFV", "INGV", "INHV", "INIV", "INJV", "INKV",
-    "INLV", "INMV", "INNV", "INOV", "INPV", "INQV", "INRV", "INSV", "INTV", "INUV", "INPM", "INPN",
-    "INPO", "INPP", "INPQ", "INPR", "INPS", "INPT", "INPU", "M", "N", "O", "P", "Q", "R", "S", "T",
-    "U", "LM", "LN", "LO", "LP", "LQ", "LR", "LS", "LT", "LU",
-];
-
-static LEFT_OUT_SEL_FIELDS: [&str; 1] = ["NLST"];
-
 /// The names of device support that this project has.
 pub static DEVICE_TYPES: [&str; 2] = ["Soft Channel", "Raw Soft Channel"];
 
@@ -134,9 +118,6 @@ fn left_out_own_fields(record_type: RecordType) -> &'static [&'static str] {
         RecordType::Event => &LEFT_OUT_EVENT_FIELDS,
         RecordType::Ai => &LEFT_OUT_AI_FIELDS,
         RecordType::Ao => &LEFT_OUT_AO_FIELDS,
-        RecordType::Calc => &LEFT_OUT_CALC_FIELDS,
-        RecordType::Calcout => &LEFT_OUT_CALCOUT_FIELDS,
-        RecordType::Sel => &LEFT_OUT_SEL_FIELDS,
         RecordType::Fanout => &[],
     }
 }
@@ -153,10 +134,7 @@ pub fn is_left_out_type(word: &[u8]) -> bool {
 
 /// Returns whether EPICS Base has field `name` in the type, and this project leaves it out.
 pub fn is_left_out_field(record_type: RecordType, name: &[u8]) -> bool {
-    let simulates = !matches!(
-        record_type,
-        RecordType::Fanout | RecordType::Calc | RecordType::Calcout | RecordType::Sel
-    );
+    let simulates = record_type != RecordType::Fanout;
     is_among(name, &LEFT_OUT_COMMON_FIELDS)
         || (simulates && is_among(name, &LEFT_OUT_SIMULATION_FIELDS))
         || is_among(name, left_out_own_fields(record_type))

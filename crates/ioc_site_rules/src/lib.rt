@@ -4,7 +4,6 @@
 
 mod chains;
 mod checking;
-mod expressions;
 mod gathering;
 mod instances;
 mod known;
@@ -23,7 +22,6 @@ mod values;
 mod wording;
 
 pub use checking::{check, put_in_order};
-pub use expressions::{ExpressionFault, expression_fault};
 pub use instances::told_once;
 pub use known::{is_left_out_field, is_left_out_type};
 pub use picture::add_picture;

@@ -200,8 +200,7 @@ pub enum ConstantKind {
 pub fn constant_kind(record_type: RecordType, field: FieldNo) -> Option<ConstantKind> {
     match (record_type, field) {
         (RecordType::Ai, FieldNo::Own(OwnField::Inp))
-        | (RecordType::Ao, FieldNo::Own(OwnField::Dol))
-        | (_, FieldNo::Own(OwnField::InputLink(_))) => Some(ConstantKind::Double),
+        | (RecordType::Ao, FieldNo::Own(OwnField::Dol)) => Some(ConstantKind::Double),
         _ => constant_range(record_type, field).map(ConstantKind::Whole),
     }
 }
@@ -216,8 +215,7 @@ fn constant_range(record_type: RecordType, field: FieldNo) -> Option<Range> {
         | (RecordType::Int64out, FieldNo::Own(OwnField::Dol)) => Some(Range::Int64),
         (RecordType::Bi | RecordType::Mbbi, FieldNo::Own(OwnField::Inp)) => Some(Range::ULong),
         (RecordType::Bo | RecordType::Mbbo, FieldNo::Own(OwnField::Dol))
-        | (RecordType::Fanout, FieldNo::Own(OwnField::Sell))
-        | (RecordType::Sel, FieldNo::Own(OwnField::Nvl)) => Some(Range::UShort),
+        | (RecordType::Fanout, FieldNo::Own(OwnField::Sell)) => Some(Range::UShort),
         _ => None,
     }
 }

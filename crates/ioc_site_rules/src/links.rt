@@ -166,9 +166,6 @@ impl<'s, 'a> Follower<'s, 'a> {
         let Some(found) = field(record_type, target.field.as_slice()) else {
             return report_no_field(link, record, record_type, target, report);
         };
-        if is_expression(record_type, found) {
-            return report_expression_field(link, target, report);
-        }
         if is_link(record_type, found) {
             return report_link_field(link, target, report);
         }
@@ -248,11 +245,6 @@ impl<'s, 'a> Follower<'s, 'a> {
     }
 }
 
-// Returns whether the type has the field with an expression.
-fn is_expression(record_type: RecordType, field: FieldNo) -> bool {
-    matches!(kind_of(record_type, field), Some(FieldKind::Expression))
-}
-
 // Returns whether the type has the field as a link field.
 fn is_link(record_type: RecordType, field: FieldNo) -> bool {
     matches!(kind_of(record_type, field), Some(FieldKind::Link(_)))
@@ -273,19 +265,6 @@ fn report_no_field(
     let (holder, kind) = (Shown(record.name.text.as_slice()), record_type.name());
     let text = format!(in report.alloc;
         "{owner} names field {shown}, which record {holder} ({kind}) doesn't have{meant}"
-    )?;
-    report.warning(link.word.place, text)
-}
-
-// Reports a link to a field that holds an expression.
-fn report_expression_field(
-    link: &LinkOf<'_>,
-    target: &Target,
-    report: &mut Report,
-) -> Result<(), AllocError> {
-    let (owner, shown) = (link.owner, Shown(target.field.as_slice()));
-    let text = format!(in report.alloc;
-        "{owner} names the expression {shown}, and leads nowhere here; name VAL"
     )?;
     report.warning(link.word.place, text)
 }

@@ -45,9 +45,6 @@ fn colour_of(record_type: Option<RecordType>) -> &'static str {
         Some(RecordType::Event) => "#b6d7a8",
         Some(RecordType::Ai) => "#c9daf8",
         Some(RecordType::Ao) => "#f6b26b",
-        Some(RecordType::Calc) => "#ead1dc",
-        Some(RecordType::Calcout) => "#d5a6bd",
-        Some(RecordType::Sel) => "#a2c4c9",
         None => "#eeeeee",
     }
 }

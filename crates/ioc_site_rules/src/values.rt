@@ -1,5 +1,4 @@
 //! The values of fields that aren't links.
-use crate::expressions::accepts_expression;
 use crate::known::is_left_out_choice;
 use crate::link_texts::{accepts_link, constant_kind};
 use crate::report::Report;
@@ -230,7 +229,6 @@ pub fn accepts(
     match kind {
         FieldKind::Number(range) => accepts_number(&owner, range, word, report),
         FieldKind::Double => accepts_double(&owner, word, report),
-        FieldKind::Expression => accepts_expression(&owner, word, report),
         FieldKind::Menu(menu) => accepts_choice(&owner, menu, word, report),
         FieldKind::State => accepts_state(record, record_type, &owner, word, report),
         FieldKind::Link(role) => {

@@ -45,11 +45,9 @@ pub fn add_value(
                 ),
                 _ => quote(text, value),
             },
-            FieldKind::Double
-            | FieldKind::Text
-            | FieldKind::Expression
-            | FieldKind::Menu(_)
-            | FieldKind::State => quote(text, value),
+            FieldKind::Double | FieldKind::Text | FieldKind::Menu(_) | FieldKind::State => {
+                quote(text, value)
+            }
         },
         None => quote(text, value),
     }

@@ -1,5 +1,4 @@
 pub mod World
-pub mod Inputs
 pub mod Links
 pub mod Marks
 pub mod Given

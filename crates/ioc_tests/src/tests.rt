@@ -1,10 +1,12 @@
 //! The tests, by what they test, and what they share.
 mod analog;
-mod calc;
 mod devices;
 mod directory;
+mod doubles;
 mod endings;
+mod entries;
 mod facts;
+mod heads_and_ends;
 mod hostile;
 mod language;
 mod lines;
@@ -19,6 +21,7 @@ mod programs;
 mod queues;
 mod relinks;
 mod rows;
+mod saved_values;
 mod scans;
 mod streams;
 mod types;

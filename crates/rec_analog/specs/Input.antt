@@ -117,17 +117,14 @@ ai = record {
   record_type = λ b. type.Ai;
   link = λ b. source_link b.source.input;
   with_link = λ b field link. record b { source = source_with_link b.source field link };
-  calculation = λ b field. None;
-  with_calculation = λ b field c. b;
   states = λ b. [];
   get = ai_get;
   stored = ai_stored;
   begin = λ b. source_begin b.source.input;
-  inputs = λ b got. 0;
   input_kind = ai_input_kind;
   taken = ai_taken;
   output = λ h got. NoOutput;
-  posted = λ b changed. record b { analog = analog_posted b.analog };
+  posted = λ b. record b { analog = analog_posted b.analog };
   constant_kind = λ h. inp_constant_kind input.Double;
   loaded = ai_loaded;
 }

@@ -166,17 +166,14 @@ ao = record {
   record_type = λ b. type.Ao;
   link = λ b. drive_link b.drive.output b.drive.desired;
   with_link = λ b field link. record b { drive = drive_with_link b.drive field link };
-  calculation = λ b field. None;
-  with_calculation = λ b field c. b;
   states = λ b. [];
   get = ao_get;
   stored = ao_stored;
   begin = λ b. drive_begin b.drive.mode b.drive.desired;
-  inputs = λ b got. 0;
   input_kind = λ h. input.Double;
   taken = ao_taken;
   output = ao_output;
-  posted = λ b changed. record b { analog = analog_posted b.analog };
+  posted = λ b. record b { analog = analog_posted b.analog };
   constant_kind = λ h. dol_constant_kind input.Double;
   loaded = ao_loaded;
 }

@@ -1,6 +1,8 @@
 //! Databases with a script and the expected output: the tables of the other files, which share one
 //! function.
-use crate::tests::{analog, calc, devices, lock_sets, notifications, relinks, rows, scans, types};
+use crate::tests::{
+    analog, devices, doubles, lock_sets, notifications, relinks, rows, scans, types,
+};
 use ioc_dbfile::Macros;
 use ioc_main::run;
 use std::alloc::Global;
@@ -27,11 +29,9 @@ fn first_wrong(alloc: Global, programs: &[Program]) -> Option<&'static str> {
 
 #[test]
 fn programs(rt: HostRuntime) {
-    let tables: [&[Program]; 9] = [
+    let tables: [&[Program]; 7] = [
         &rows::PROGRAMS,
         &types::PROGRAMS,
-        &analog::PROGRAMS,
-        &calc::PROGRAMS,
         &devices::PROGRAMS,
         &scans::PROGRAMS,
         &notifications::PROGRAMS,
@@ -41,4 +41,14 @@ fn programs(rt: HostRuntime) {
     for programs in &tables {
         assert_eq!(rt; first_wrong(rt.alloc(), programs), None);
     }
+}
+
+#[test]
+fn analog_programs(rt: HostRuntime) {
+    assert_eq!(rt; first_wrong(rt.alloc(), &analog::PROGRAMS), None);
+}
+
+#[test]
+fn programs_of_special_doubles(rt: HostRuntime) {
+    assert_eq!(rt; first_wrong(rt.alloc(), &doubles::PROGRAMS), None);
 }

@@ -29,28 +29,6 @@ take_value-requires g c =
     let ready = ready_again _ g.met.S.Record.RecordKind.lawful c.set_active-in-Reading.ensures.world c.requires.stands.source_there c.requires.closed in
     record { ready = is_ready _ ready c.requires.room; standing = ready.keeps.has _ (rw c.in-Reading.is at c.requires.stands.requested_there) }
 
-pub choose-requires : goal.choose-requires
-choose-requires g c =
-    let ready = ready_again _ g.met.S.Record.RecordKind.lawful c.set_active-in-Choosing.ensures.world c.requires.stands.source_there c.requires.closed in
-    record { ready = is_ready _ ready c.requires.room; standing = ready.keeps.has _ (rw c.in-Choosing.is at c.requires.stands.requested_there) }
-
-pub go_on_reading-requires : goal.go_on_reading-requires
-go_on_reading-requires g c =
-    let ready = ready_again _ g.met.S.Record.RecordKind.lawful c.set_active-in-ReadingEach.ensures.world c.requires.stands.source_there c.requires.closed in
-    record { ready = is_ready _ ready c.requires.room; standing = ready.keeps.has _ (rw c.in-ReadingEach.is at c.requires.stands.requested_there) }
-
-pub returns-in-Choosing : goal.returns-in-Choosing
-unfolding went_on
-returns-in-Choosing g c =
-    let turns = turns_ready _ (ready_again _ g.met.S.Record.RecordKind.lawful c.set_active-in-Choosing.ensures.world c.requires.stands.source_there c.requires.closed) (omega arith) c.choose.ensures.takes.turns in
-    record { turn = λ answers begins. rw (c.in-Choosing.is, ← c.set_active-in-Choosing.ensures.world) (c.choose.ensures.turn answers begins); given = rw c.set_active-in-Choosing.ensures.given at c.choose.ensures.given; turns = rw c.in-Choosing.is turns; opens = c.choose.ensures.takes.opens; room = c.choose.ensures.takes.room }
-
-pub returns-in-ReadingEach : goal.returns-in-ReadingEach
-unfolding went_on
-returns-in-ReadingEach g c =
-    let turns = turns_ready _ (ready_again _ g.met.S.Record.RecordKind.lawful c.set_active-in-ReadingEach.ensures.world c.requires.stands.source_there c.requires.closed) (omega arith) c.go_on_reading.ensures.takes.turns in
-    record { turn = λ answers begins. rw (c.in-ReadingEach.is, ← c.set_active-in-ReadingEach.ensures.world) (c.go_on_reading.ensures.turn answers begins); given = rw c.set_active-in-ReadingEach.ensures.given at c.go_on_reading.ensures.given; turns = rw c.in-ReadingEach.is turns; opens = c.go_on_reading.ensures.takes.opens; room = c.go_on_reading.ensures.takes.room }
-
 pub returns-in-Writing : goal.returns-in-Writing
 unfolding went_on
 returns-in-Writing g c =

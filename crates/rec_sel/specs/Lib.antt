@@ -1,3 +1,0 @@
-pub mod Choosing
-pub mod Sel
-pub mod SelLaws
