@@ -13,6 +13,5 @@ mod sessions;
 mod steps;
 mod timer;
 mod walk;
-mod watched;
 mod worked;
 mod workers;
