@@ -5,9 +5,13 @@ A text is one of examples/*.db, or one that drawn.py draws, with one to four cha
 record types, links, macros and lines. They agree if ioc-check finds an error exactly where the load refuses the text, both with status 1,
 and its first error is on the line of the load's `E13 BadDb line L: WORDS`. A text on which docs/CHECK.md has them differ on purpose
 isn't drawn: includes and other statements of a database definition, macros in macros, `info` with JSON.
+
+With --all these are drawn too. What the load refuses must have an error, or a warning that the load refuses it, on the load's line then; what
+it takes has no such warning, and no error, unless its bytes are read differently. In each run the last line of ioc-check must count the lines.
 """
 import argparse
 import concurrent.futures
+import os
 import pathlib
 import random
 import re
@@ -23,12 +27,16 @@ TOP = pathlib.Path(__file__).resolve().parent.parent
 BIN = TOP / "bin"
 REFUSAL = re.compile(rb"E13 BadDb line (\d+): (.*)\n")
 ERROR = re.compile(rb"x\.db:(\d+):\d+: error: (.*)")
+# Errors and warnings of each file, and those warnings that tell what the load refuses.
+FINDING = re.compile(rb"^\S+?:\d+:\d+: (error|warning): ", re.M)
+REFUSED_BY_LOAD = re.compile(rb"x\.db:(\d+):\d+: warning: (?:the load |statement .*; the load refuses it)")
 # An open body is told where it opens, and by the load at the text's end: it counts as an error, but not as the first one.
 OPEN_BODY = re.compile(rb"the body of .*, which opens on line \d+, isn't closed; put '}' at its end")
 # A sign that is missing is told behind the token before it, and by the load at the token after it, on another line perhaps.
 MISSING = re.compile(rb".* is missing behind .*; put .* there")
-# Bytes that are no token are told before the statement that they break off, of which the load may have refused a word.
-NO_TOKEN = re.compile(rb"'.*' can't stand outside quotes; put the text in double quotes")
+# Bytes that are no token, and a text that isn't closed, are told before the statement that they break off, of which the load may have refused
+# a word.
+NO_TOKEN = re.compile(rb"'.*' can't stand outside quotes; put the text in double quotes|the text that begins here isn't closed; .*")
 BLANK = re.compile(rb"\s*(#.*)?")
 TOKEN = re.compile(rb'"(?:\\.|[^"\\\n])*"|[\w\-+:.\[\]<>;]+|[^\w\s]|\s+')
 QUOTED_OR_COMMENT = re.compile(rb'"(?:\\.|[^"\\\n])*"|#[^\n]*')
@@ -51,6 +59,14 @@ CHARACTERS = [bytes([byte]) for byte in b"\"\"\\\\{}(),#$*@.;:'-+0 1aZ\n\n\r\t\0
 TYPE_WORDS = [*(it.encode() for it in TYPES), b"ai", b"calc", b"longinn", b"Longin", b"", b"*", b'"*"', b'"longin"']
 TEXTS = [it.encode("latin-1") for kind in VALUES.values() for it in kind] + [it.encode() for them in BY_NAME.values() for it in them]
 BAD_TEXTS = [it.encode() for it in BAD_VALUES + BAD_LINKS] + LEFT_OUT
+# What ioc-check reads as EPICS Base does, and the load refuses. The files are those of INCLUDED.
+READ_BY_CHECK = [
+    b'include "one.inc"\n', b'include "none.inc"\n', b' path "more"\n', b'addpath "more:."\n', b"driver(drvCard)\n", b"menu(m) { choice(c, \"C\") }\n",
+    b'substitute "P=x,Q=7"\n', b"% int a;\n", b'record(longin, "i") { info(q, {"a": [1, 2]}) }\n', b'record(longin, "j") { include "field.inc" }\n',
+    b'record(longin, "k") { info(q, [1]) field(VAL, "$(X=$(Y=8))") }\n', b'record(longin, "$(P=l)$(R,R=m)")\n', b'record(longin, "n$(P$(Q=))")\n',
+    b"registrar(r)\nvariable(v, int)\n", b"/* a comment */\n", b"// a comment\n", b"variable(v)", b"\\$(P)", b'breaktable(b) { 1 2 }\n',
+]
+INCLUDED = {"one.inc": b'record(longin, "one") { field(VAL, 1) }\n', "field.inc": b"field(VAL, 1)\n"}
 STATEMENTS = [
     b'alias("a", "b")\n', b'record("*", "a") {}\n', b'record(*, "nobody") { field(VAL, 1) }\n', b'grecord(longin, "g") { field(DESC, "x") }\n',
     b'record(longin, "a")\n', b'record(bo, "a")\n', b"# a comment $(NONE) \"\n", b'alias("nobody", "b")\n', b"alias(a, a)\n", b"record(longin, new)\n",
@@ -149,11 +165,18 @@ def changed_line(generator, text):
     return b"".join(lines)
 
 
+def changed_reading(generator, text):
+    """With something that ioc-check alone reads."""
+    lines = text.splitlines(keepends=True) or [b""]
+    lines.insert(generator.randint(0, len(lines)), generator.choice(READ_BY_CHECK))
+    return generator.choice([b"", b"", b"", b"\xef\xbb\xbf"]) + b"".join(lines)
+
+
 CHANGES = [changed_character, changed_token, changed_field, changed_value, changed_name, changed_type, changed_link, changed_macro, changed_line]
 EXAMPLES = [path.read_bytes() for path in sorted(TOP.glob("examples/*.db"))]
 
 
-def drawn_text(generator):
+def drawn_text(generator, takes_all):
     """A text, and the macros of the command line."""
     if generator.random() < 0.7:
         text = generator.choice(EXAMPLES)
@@ -161,14 +184,22 @@ def drawn_text(generator):
         text = drawn_database(generator, generator.random() < 0.7).text
     for change in generator.choices(CHANGES, k=generator.choice([1, 1, 1, 1, 2, 2, 3, 4])):
         text = change(generator, text)
+    if takes_all and generator.random() < 0.7:
+        text = changed_reading(generator, text)
     macros = generator.choice([[], [b"P=dev:"], [b"P=dev:", b"PORT=L0"], [b"P=dev:", b"PORT=L0", generator.choice([b"Q=a b", b"Q=7", b"Q=)"])], [b"P="]])
     return text, macros
 
 
-def is_drawn(text, takes_bytes):
+def is_drawn(text, takes_bytes=False, takes_all=False):
     """Is it a text on which they have to agree?"""
+    if takes_all:
+        return True
     not_drawn = ON_PURPOSE if takes_bytes else ON_PURPOSE + BYTES
     return not DEFINITION.search(QUOTED_OR_COMMENT.sub(b" ", text)) and not any(pattern.search(text) for pattern in not_drawn)
+
+
+def counted(number, word):
+    return f"{number} {word}{'' if number == 1 else 's'}"
 
 
 def are_on_one_line(text, errors, refused):
@@ -183,7 +214,18 @@ def are_on_one_line(text, errors, refused):
     return line == told or is_missing or (not errors and refused[2] == b"body not closed")
 
 
-def judge(folder, text, macros):
+def fault_of_all(text, check, errors, refused):
+    """How ioc-check disagrees with a load on a text of any kind, or None."""
+    told = [int(line) for line in REFUSED_BY_LOAD.findall(check.stdout)]
+    if not refused:
+        is_other = any(pattern.search(text) for pattern in BYTES)
+        return "the load takes what ioc-check refuses" if told or (check.returncode and not is_other) else None
+    if check.returncode:
+        return None
+    return None if int(refused[1]) in told else "no error and no such warning, and the load refuses it"
+
+
+def judge(folder, text, macros, takes_all):
     """How a text is taken: what the load says, and how ioc-check disagrees with it, or None."""
     pathlib.Path(folder, "x.db").write_bytes(text)
     load, check = (
@@ -192,9 +234,17 @@ def judge(folder, text, macros):
     )
     refused, errors = REFUSAL.fullmatch(load.stderr), ERROR.findall(check.stdout)
     said = refused[2].decode() if refused else "loaded"
-    if load.returncode != bool(refused) or check.returncode != bool(errors):
+    found = [word == b"error" for word in FINDING.findall(check.stdout)]
+    counts = f"{counted(sum(found), 'error')}, {counted(len(found) - sum(found), 'warning')}\n"
+    if counts.encode() != check.stderr:
+        fault = f"the last line isn't {counts}"
+    elif takes_all:
+        fault = fault_of_all(text, check, errors, refused)
+        if not fault:
+            return said, None
+    elif load.returncode != bool(refused) or check.returncode != bool(errors):
         fault = f"status {load.returncode} of the load and {check.returncode} of ioc-check"
-    elif bool(errors) != bool(refused):
+    elif bool(errors) != bool(refused) or REFUSED_BY_LOAD.search(check.stdout):
         fault = "one of them finds no error"
     elif refused and not are_on_one_line(text, errors, refused):
         fault = "the first error is on another line"
@@ -203,11 +253,11 @@ def judge(folder, text, macros):
     return said, f"{fault}\n  the load: {load.stderr!r}\n  ioc-check: {check.stdout!r}"
 
 
-def shortened(folder, text, macros, takes_bytes):
+def shortened(folder, text, macros, words):
     """The text without the lines and then the bytes that its disagreement doesn't take."""
 
     def kind(text):
-        said, fault = judge(folder, text, macros)
+        said, fault = judge(folder, text, macros, words.all)
         return said, fault and fault.partition("\n")[0]
 
     wanted = kind(text)
@@ -218,7 +268,7 @@ def shortened(folder, text, macros, takes_bytes):
             at = 0
             while at < len(pieces):
                 fewer = pieces[:at] + pieces[at + width:]
-                if is_drawn(b"".join(fewer), takes_bytes) and kind(b"".join(fewer)) == wanted:
+                if is_drawn(b"".join(fewer), words.bytes, words.all) and kind(b"".join(fewer)) == wanted:
                     pieces = fewer
                 else:
                     at += width
@@ -232,16 +282,18 @@ def run(numbers, words):
     said, faults = Counter(), []
     with tempfile.TemporaryDirectory() as folder:
         pathlib.Path(folder, "none").write_text("")
+        for name, included in INCLUDED.items():
+            pathlib.Path(folder, name).write_bytes(included)
         for number in numbers:
             generator = random.Random(f"{words.seed} {number}")
-            text, macros = drawn_text(generator)
-            while not is_drawn(text, words.bytes):
-                text, macros = drawn_text(generator)
-            load, fault = judge(folder, text, macros)
+            text, macros = drawn_text(generator, words.all)
+            while not is_drawn(text, words.bytes, words.all):
+                text, macros = drawn_text(generator, words.all)
+            load, fault = judge(folder, text, macros, words.all)
             said[load] += 1
             if fault and words.shorten:
-                text = shortened(folder, text, macros, words.bytes)
-                fault = judge(folder, text, macros)[1]
+                text = shortened(folder, text, macros, words)
+                fault = judge(folder, text, macros, words.all)[1]
             if fault:
                 faults.append(f"text {number}: {fault}\n  macros: {macros}\n  text: {text!r}")
     return said, faults
@@ -251,11 +303,13 @@ def main():
     parser = argparse.ArgumentParser(description=__doc__, formatter_class=argparse.RawDescriptionHelpFormatter)
     parser.add_argument("count", type=int, metavar="N", help="how many texts")
     parser.add_argument("seed", type=int, nargs="?", default=1, metavar="SEED")
+    parser.add_argument("--jobs", type=int, default=os.cpu_count(), metavar="N", help="how many processes")
     parser.add_argument("--bytes", action="store_true", help="draw texts with bytes that they read differently too")
+    parser.add_argument("--all", action="store_true", help="draw texts of all kinds: nothing that the load refuses is told as sound")
     parser.add_argument("--shorten", action="store_true", help="cut each text down to what its disagreement takes")
     words = parser.parse_args()
     said, faults = Counter(), []
-    with concurrent.futures.ProcessPoolExecutor() as pool:
+    with concurrent.futures.ProcessPoolExecutor(words.jobs) as pool:
         lanes = [pool.submit(run, range(first, words.count, 16), words) for first in range(16)]
         for lane in lanes:
             said += lane.result()[0]

@@ -16,6 +16,10 @@ STATES = [state + part for state in "ZR ON TW TH FR FV SX SV EI NI TE EL TV TT F
 MULTI = "VAL RVAL MASK SHFT NOBT UNSV COSV LALM " + " ".join(STATES)
 ANALOG = ("VAL PREC EGU HOPR LOPR HIHI LOLO HIGH LOW HHSV LLSV HSV LSV HYST MDEL ADEL LALM MLST ALST LINR EGUF EGUL ESLO EOFF ASLO AOFF"
           " ROFF RVAL")
+SHOWN = "VAL PREC EGU HOPR LOPR HIHI LOLO HIGH LOW HHSV LLSV HSV LSV HYST MDEL ADEL LALM MLST ALST"
+LETTERS = "ABCDEFGHIJKL"
+INPUTS = " ".join([*LETTERS, *("L" + letter for letter in LETTERS), *("INP" + letter for letter in LETTERS)])
+CALC = SHOWN + " CALC " + INPUTS
 SLOTS = ["LNK" + digit for digit in "0123456789ABCDEF"]
 TYPES = {
     kind: f"{COMMON} {own}".split()
@@ -25,13 +29,14 @@ TYPES = {
         "bi": BINARY + " INP", "bo": BINARY + DRIVE, "mbbi": MULTI + " INP", "mbbo": MULTI + DRIVE,
         "stringin": "VAL INP", "stringout": "VAL" + DRIVE, "event": "VAL INP", "fanout": "VAL SELM SELN SELL OFFS SHFT " + " ".join(SLOTS),
         "ai": ANALOG + " INP SMOO INIT", "ao": ANALOG + DRIVE + " DRVH DRVL OIF OROC OVAL PVAL",
+        "calc": CALC, "calcout": CALC + " OUT OOPT DOPT OCAL OVAL PVAL IVOA IVOV", "sel": SHOWN + " SELM SELN NVL " + INPUTS,
     }.items()
 }
-LINKS = {"INP", "OUT", "DOL", "SDIS", "SELL", "FLNK", *SLOTS}
+LINKS = {"INP", "OUT", "DOL", "SDIS", "SELL", "FLNK", "NVL", *SLOTS, *("INP" + letter for letter in LETTERS)}
 # The links into which a constant with a point may go by any type, and the types that take one in INP and DOL.
 REAL_LINKS = {"OUT", "FLNK", *SLOTS}
-REAL_TYPES = {"ai", "ao", "stringin", "stringout", "event"}
-FIXED = set("NAME STAT NSTA SEVR NSEV LCNT PACT PUTF RPRO TIME LALM MLST ALST INIT OVAL PVAL".split())
+REAL_TYPES = {"ai", "ao", "calc", "calcout", "sel", "stringin", "stringout", "event"}
+FIXED = set("NAME STAT NSTA SEVR NSEV LCNT PACT PUTF RPRO TIME LALM MLST ALST INIT OVAL PVAL".split()) | {"L" + letter for letter in LETTERS}
 EVERY_FIELD = sorted({name for names in TYPES.values() for name in names}) + ["NOPE", "val", ""]
 SCANS = ["Passive", "Event", "I/O Intr", "10 second", "5 second", "2 second", "1 second", ".5 second", ".2 second", ".1 second"]
 EVENTS = ["go", " go ", "stop", "0", "", "e" * 39]
@@ -51,10 +56,15 @@ VALUES = {
     "double": ["0", "1", "-1", "2.5", "-2.5", "0.1", "1e-3", "100", "1e10", "-3e9", "1e300", "5e-324", "-0", "nan", "inf", "-inf", "0x10"],
     "state": ["0", "1"],
 }
+EXPRESSIONS = ["A", "A+B*C", "VAL+1", "B:=A+1;A*B", "A>5?B:C", "1/A", "0/0", "MAX(A,B,C,D)", "A:=VAL;B", "!(A&B)", "NINT(A^3)", "INF",
+               "-A % 7", "SQRT(L)"]
 BY_NAME = {
     "DTYP": ["Soft Channel", "Raw Soft Channel", "Raw Soft Channel", ""], "SCAN": SCANS + ["Passive"] * 14, "PINI": ["NO", "YES", "1"],
     "EVNT": EVENTS, "TSE": ["0"], "PRIO": ["LOW", "MEDIUM", "HIGH", "2"], "OMSL": ["supervisory", "closed_loop", "closed_loop", "1"],
     "IVOA": ["Continue normally", "Don't drive outputs", "Set output to IVOV", "2"], "SELM": ["All", "Specified", "Mask"],
+    "SELM of sel": ["Specified", "High Signal", "Low Signal", "Median Signal", "2"],
+    "OOPT": ["Every Time", "On Change", "When Zero", "When Non-zero", "Transition To Zero", "Transition To Non-zero", "5"],
+    "DOPT": ["Use CALC", "Use OCAL", "1"], "CALC": EXPRESSIONS, "OCAL": EXPRESSIONS,
     "LINR": ["NO CONVERSION", "SLOPE", "LINEAR", "1"], "OIF": ["Full", "Incremental", "0"],
     "DISV": ["1", "1", "0", "7"], "DISA": ["0", "0", "0", "1", "7"], "PROC": ["0", "1", "255"], "DISP": ["0", "0", "0", "0", "1"],
 }
@@ -90,7 +100,9 @@ def holds(kind: str, name: str) -> str:
         return "text"
     if name in ("DISS", "UDFS") or name.endswith("SV"):
         return "severity"
-    if kind in ("ai", "ao") and name in ANALOG.split() + ["SMOO", "DRVH", "DRVL", "OROC", "IVOV"]:
+    if name == "SELN":
+        return "ushort"
+    if kind in ("ai", "ao", "calc", "calcout", "sel") and name in ANALOG.split() + ["SMOO", "DRVH", "DRVL", "OROC", "IVOV", *LETTERS]:
         return {"PREC": "digits", "ROFF": "ulong", "RVAL": "long"}.get(name, "double")
     if name in ("VAL", "IVOV") and kind in ("stringin", "stringout", "event"):
         return "text"
@@ -98,7 +110,7 @@ def holds(kind: str, name: str) -> str:
         return "state"
     if name in ("RVAL", "MASK") or (name in STATES and name.endswith("VL")):
         return "ulong"
-    if name == "SELN" or (name == "IVOV" and kind in ("bo", "mbbo")):
+    if name == "IVOV" and kind in ("bo", "mbbo"):
         return "ushort"
     if name == "NOBT" or (name == "SHFT" and kind != "fanout"):
         return "bits"
@@ -133,7 +145,7 @@ def drawn_link(generator: random.Random, of: Database, name: str, kind: str, goo
 def drawn_value(generator: random.Random, kind: str, name: str, good: bool = False) -> str:
     if not good and generator.random() < 0.06:
         return generator.choice(BAD_VALUES)
-    return generator.choice(BY_NAME.get(name) or VALUES[holds(kind, name)])
+    return generator.choice(BY_NAME.get(f"{name} of {kind}") or BY_NAME.get(name) or VALUES[holds(kind, name)])
 
 
 def spelled(generator: random.Random, text: str, macros: dict[str, str]) -> str:
@@ -156,11 +168,13 @@ def drawn_database(generator: random.Random, good: bool) -> Database:
             made.aliases["to:" + name[:50]] = name
     statements = []
     for name, kind in made.records.items():
-        settable = [it for it in TYPES[kind] if it not in FIXED or (not good and generator.random() < 0.02)]
-        weights = [20 if it in ("INP", "OUT") else 4 if it in ("DOL", "OMSL", "FLNK", "SCAN", "VAL") else 1 for it in settable]
+        fixed = FIXED | ({"VAL"} if kind == "sel" else set())
+        settable = [it for it in TYPES[kind] if it not in fixed or (not good and generator.random() < 0.02)]
+        often = ("DOL", "OMSL", "FLNK", "SCAN", "VAL", "INPA", "INPB", "INPC", "SELM")
+        weights = [20 if it in ("INP", "OUT", "CALC") else 4 if it in often else 1 for it in settable]
         body = []
         for it in generator.choices(settable, weights, k=generator.randint(0, 9)):
-            value = "1" if it in FIXED else drawn_link(generator, made, it, kind, good) if it in LINKS else drawn_value(generator, kind, it, good)
+            value = "1" if it in fixed else drawn_link(generator, made, it, kind, good) if it in LINKS else drawn_value(generator, kind, it, good)
             body.append(f"field({it}, {spelled(generator, value, macros)})")
             if value.startswith("@"):
                 made.devices.append(name)
@@ -287,4 +301,4 @@ def standing(of: Database, link: str) -> str | None:
     if not parts:
         return None
     name = of.aliases.get(parts[1], parts[1])
-    return name if name in of.records and parts[2] in TYPES[of.records[name]] and parts[2] not in LINKS else None
+    return name if name in of.records and parts[2] in TYPES[of.records[name]] and parts[2] not in {*LINKS, "CALC", "OCAL"} else None

@@ -21,7 +21,7 @@ from drawn import LINKS, TYPES, VERBS, Database, drawn_database, drawn_script, m
 
 REFUSAL = re.compile(
     rb"E13 BadDb line [1-9][0-9]*: (syntax|text not closed|body not closed|unknown type|unknown field|field not settable|bad name|bad value"
-    rb"|bad link|duplicate|no record|macro|left out|too many)\n")
+    rb"|bad link|duplicate|no record|macro|left out|too many|bad calc|left out in calc: [A-Z0-9^*]+)\n")
 ANY_REFUSAL = "E1 NoRecord|E2 NoField|E3 NoMod|E4 PutDisabled|E5 BadValue"
 TALLY = re.compile(r"tally begun=(\d+) processed=(\d+) disabled=(\d+) active=(\d+) reprocess=(\d+) started=(\d+) completed=(\d+) dropped=(\d+)")
 # The replies that a line with this first word may have, beside `bad`.

@@ -26,7 +26,7 @@ def is_record_name(name: bytes) -> bool:
 class Kind(enum.Enum):
     """What a field holds."""
 
-    LONG, ULONG, SHORT, USHORT, UCHAR, INT64, DOUBLE, TEXT, LINK, STATES, MENU = range(11)
+    LONG, ULONG, SHORT, USHORT, UCHAR, INT64, DOUBLE, TEXT, LINK, EXPRESSION, STATES, MENU = range(12)
 
 
 @dataclasses.dataclass(frozen=True, eq=False)

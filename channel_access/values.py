@@ -11,7 +11,7 @@ from .protocol import CLASS_NAME, STSACK_STRING, WITH_ALARM, WITH_CONTROL, WITH_
 
 EPICS_EPOCH = 631152000
 TEXT_SIZE = 40
-LINK_SIZE = 121
+LONG_SIZES = {Kind.LINK: 121, Kind.EXPRESSION: 80}
 # What is raised by a value that has no such form.
 NO_VALUE = (ValueError, OverflowError, struct.error)
 
@@ -19,7 +19,7 @@ NO_VALUE = (ValueError, OverflowError, struct.error)
 DBF: Dict[Kind, Base] = {
     Kind.SHORT: Base.SHORT, Kind.LONG: Base.LONG, Kind.USHORT: Base.LONG, Kind.UCHAR: Base.CHAR,
     Kind.ULONG: Base.DOUBLE, Kind.INT64: Base.DOUBLE, Kind.DOUBLE: Base.DOUBLE,
-    Kind.TEXT: Base.STRING, Kind.LINK: Base.STRING, Kind.STATES: Base.ENUM, Kind.MENU: Base.ENUM,
+    Kind.TEXT: Base.STRING, Kind.LINK: Base.STRING, Kind.EXPRESSION: Base.STRING, Kind.STATES: Base.ENUM, Kind.MENU: Base.ENUM,
 }  # fmt: skip
 
 
@@ -65,7 +65,7 @@ def served(record: Record, field: Field, is_long_text: bool) -> Served:
         return Served(record, field, False, base, 1)
     if base is not Base.STRING:
         raise ValueError(f"{field.name} is no text")
-    return Served(record, field, True, Base.CHAR, LINK_SIZE if field.kind is Kind.LINK else TEXT_SIZE)
+    return Served(record, field, True, Base.CHAR, LONG_SIZES.get(field.kind, TEXT_SIZE))
 
 
 def _packed(value: float, base: Base) -> bytes:

@@ -37,7 +37,7 @@ def place(name: str, factor: int) -> int:
 def main() -> None:
     all_names = names()
     generator = random.Random(1)
-    factor = 633_921_379
+    factor = 3_193_055_785
     while len({place(name, factor) for name in all_names}) < len(all_names):
         factor = generator.randrange(1, 2**32, 2)
     places = [NONE] * 2**BITS

@@ -72,7 +72,7 @@ def _reading(
     """The reading of a field with this text, and these digits of the number behind it."""
     if field.name == "RTYP":
         text = record.type.encode()
-    number = None if digits is None or field.kind in (Kind.TEXT, Kind.LINK) else number_of(digits)
+    number = None if digits is None or field.kind in (Kind.TEXT, Kind.LINK, Kind.EXPRESSION) else number_of(digits)
     return Reading(text, number, status, severity, time, properties)
 
 

@@ -22,6 +22,9 @@ START_PATIENCE = 20.0
 # What programs are started with: libca's tests change the environment of this process.
 ENVIRONMENT = {**os.environ, "PYTHONPATH": str(TOP)}
 
+# An expression of as many bytes as one may have.
+LONG_EXPRESSION = "A" + "+0" * 39
+
 DATABASE = """
 record(longin, "li") { field(VAL, "42") field(HIGH, 50) field(HSV, MINOR) field(HIHI, 90) field(HHSV, MAJOR) field(EGU, "mm")
   field(HOPR, 100) field(LOPR, -100) alias("li:alias") }
@@ -39,6 +42,11 @@ record(event, "ev") { field(VAL, "tea") }
 record(fanout, "fan") { field(VAL, "3") field(LNK1, "copy") }
 record(ai, "ai") { field(VAL, "-2.5") field(PREC, 2) field(EGU, "C") field(HOPR, 10.25) field(LOPR, -1e-3) field(HIGH, 8.5) field(HSV, MINOR) }
 record(ao, "ao") { field(DRVH, 7.5) field(DRVL, 0.125) field(PREC, 1) field(MDEL, 0.5) field(ADEL, 1) }
+record(calc, "calc") { field(CALC, "A*B+0.5") field(INPA, "2") field(INPB, "-1.5") field(PREC, 1) field(EGU, "V") field(HOPR, 9) field(LOPR, -9.5)
+  field(PINI, YES) field(LOLO, -2) field(LLSV, MAJOR) field(ADEL, 2) }
+record(calcout, "out") { field(CALC, "LONG_EXPRESSION") field(OUT, "written") field(PREC, 3) field(IVOV, 1.25) }
+record(ai, "written") { }
+record(sel, "sel") { field(SELM, "High Signal") field(INPC, "out") field(INPL, "7.25") field(PREC, 2) field(PINI, YES) }
 record(longin, "scan") { field(INP, "@d") field(SCAN, ".1 second") }
 record(longin, "locked") { field(DISP, 1) }
 record(longout, "deadband") { field(MDEL, 5) field(ADEL, 10) }
@@ -46,7 +54,7 @@ record(longout, "always") { field(MDEL, -1) }
 record(longout, "switch") { field(SDIS, "lo.DISA") field(DISV, 7) field(DISS, MAJOR) }
 record(stringout, "unit") { field(OUT, "lo.EGU") }
 record(longin, "a:name:of:more:than:39:bytes:that:an:alias:leads:to") { alias("short") }
-""" + "".join(f'record(longout, "n{number}") {{}}\n' for number in range(1000))  # fmt: skip
+""".replace("LONG_EXPRESSION", LONG_EXPRESSION) + "".join(f'record(longout, "n{number}") {{}}\n' for number in range(1000))  # fmt: skip
 
 
 def until(is_done: Callable[[], object], seconds: float = PATIENCE, pause: float = 0.005) -> bool:

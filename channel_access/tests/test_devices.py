@@ -30,6 +30,10 @@ record(longin, "lost:2") { field(INP, "@nobody 2") field(SCAN, ".1 second") }
 record(longout, "other") { }
 record(longin, "?") { field(INP, "@own ?") field(PINI, YES) }
 record(longin, "ended") { }
+record(ai, "temp") { field(INP, "@psu temp") field(SCAN, ".1 second") field(PREC, 2) field(HIGH, 21) field(HSV, MINOR) }
+record(ai, "third") { field(INP, "@own third") field(SCAN, ".1 second") field(PREC, 3) }
+record(ao, "gain") { field(OUT, "@own keep") }
+record(ai, "kept") { field(INP, "@own kept") field(SCAN, ".1 second") }
 """  # fmt: skip
 DRIVERS = """
 import asyncio
@@ -48,15 +52,24 @@ class Counter:
 
 class Own:
     patience = 0.3
+    kept = 0
+
+    async def write(self, words, value):
+        self.kept = float(value)
 
     async def read(self, words):
+        if words == "third":
+            return 1 / 3
+        if words == "kept":
+            return self.kept
         if words == "hangs":
             await asyncio.sleep(1000)
         if words == "odd":
             return "a\\tb\\\\c\\nd"
         raise ValueError(words)
 
-COMMANDS = {"volt": ("VOLT?", "VOLT %d"), "set": ("VOLT %d", "OK"), "slow": ("VOLT %d", "OK"), "name": ("NAME?", "%c")}
+COMMANDS = {"volt": ("VOLT?", "VOLT %d"), "set": ("VOLT %d", "OK"), "slow": ("VOLT %d", "OK"), "name": ("NAME?", "%c"),
+            "temp": ("TEMP? 3", "T3=%f C")}
 DRIVERS = {
     "psu": Stream("127.0.0.1", PSU, COMMANDS, "\\r\\n", "\\r\\n", timeout=0.8),
     "plc": Modbus("127.0.0.1", PLC),
@@ -136,6 +149,23 @@ class Devices(WithInstruments):
         self.assertEqual((self.plc.coils[4], self.plc.registers[9]), (1, 300))
         self.assertEqual(self.put("pump", 0)(), Status.NORMAL)
         self.assertEqual(self.plc.coils[4], 0)
+
+    def test_doubles_keep_all_their_bits(self) -> None:
+        def number(name: str) -> bytes:
+            channel, _, _ = self.client.channel(name)
+            self.client.send(pack(Command.READ_NOTIFY, b"", Base.DOUBLE, 1, channel, 1))
+            return self.client.reply(Command.READ_NOTIFY).body
+
+        self.assertTrue(self.shows("temp", "21.50", 1))
+        self.assertTrue(self.shows("third", "0.333", 0))
+        self.assertEqual(number("third"), struct.pack(">d", 1 / 3))
+        client = Client("127.0.0.1", self.front.port)
+        self.addCleanup(client.connection.close)
+        for value in (0.1 + 0.2, -0.0, 5e-324, float("-inf")):
+            channel, _, _ = client.channel("gain")
+            client.send(pack(Command.WRITE_NOTIFY, struct.pack(">d", value), Base.DOUBLE, 1, channel, 1))
+            self.assertEqual(client.reply(Command.WRITE_NOTIFY).first, Status.NORMAL)
+            self.assertTrue(until(lambda: number("kept") == struct.pack(">d", value)), value)
 
     def test_a_put_callback_ends_when_its_driver_answers(self) -> None:
         self.assertTrue(self.shows("volt", "5", 0))

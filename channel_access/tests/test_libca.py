@@ -11,7 +11,7 @@ from typing import Any, Dict, List, Optional, Tuple, Union
 
 from . import libca
 from .libca import ALARM, LOG, NORMAL, PROPERTY, VALUE, Library
-from .support import TOP, Front, audit, free_ports
+from .support import LONG_EXPRESSION, TOP, Front, audit, free_ports
 
 Value = Union[str, int, float, None]
 STRING, SHORT, FLOAT, ENUM, CHAR, LONG, DOUBLE = range(7)
@@ -47,6 +47,9 @@ RECORDS: Dict[str, Tuple[List[Value], Tuple[int, int], int]] = {
     "fan": (numbers(3), (17, 0), LONG),
     "ai": (["-2.50", -2, -2.5, 65534, 254, -2, -2.5], (17, 0), DOUBLE),
     "ao": (["0.0", 0, 0.0, 0, 0, 0, 0.0], (17, 3), DOUBLE),
+    "calc": (["-2.5", -2, -2.5, 65534, 254, -2, -2.5], (5, 2), DOUBLE),
+    "out": (["0.000", 0, 0.0, 0, 0, 0, 0.0], (17, 3), DOUBLE),
+    "sel": (["7.25", 7, 7.25, 7, 7, 7, 7.25], (0, 0), DOUBLE),
 }
 
 
@@ -73,6 +76,7 @@ class WithLibrary(unittest.TestCase):
         wants = {name: (base, 1) for name, (_, _, base) in RECORDS.items()}
         wants.update({"li.SCAN": (ENUM, 1), "li.PACT": (CHAR, 1), "li.PHAS": (SHORT, 1), "li.RTYP": (STRING, 1), "li:alias": (LONG, 1)})
         wants.update({"so.VAL$": (CHAR, 40), "li.INP$": (CHAR, 121), "mi.ONST": (STRING, 1), "b.RVAL": (DOUBLE, 1), "fan.SELN": (LONG, 1)})
+        wants.update({"calc.CALC": (STRING, 1), "calc.CALC$": (CHAR, 80), "calc.INPA$": (CHAR, 121), "calc.A": (DOUBLE, 1), "sel.SELN": (LONG, 1)})
         wants.update({"fan.SHFT": (SHORT, 1), "mi.SHFT": (LONG, 1), "mo.IVOV": (LONG, 1), "o6.HIGH": (DOUBLE, 1), "so.IVOV": (STRING, 1)})
         for name, want in wants.items():
             with self.subTest(name):
@@ -99,6 +103,7 @@ class WithLibrary(unittest.TestCase):
     def test_12_class_names(self) -> None:
         types = {"li": "longin", "lo": "longout", "i6": "int64in", "o6": "int64out", "b": "bi", "bo": "bo", "mi": "mbbi", "mo": "mbbo"}
         types.update({"si": "stringin", "so": "stringout", "ev": "event", "fan": "fanout", "ai": "ai", "ao": "ao"})
+        types.update({"calc": "calc", "out": "calcout", "sel": "sel"})
         for name, record_type in types.items():
             self.assertEqual((self.ca.read(name, 38), self.ca.read(name + ".RTYP")), (record_type, record_type))
 
@@ -208,6 +213,22 @@ class WithLibrary(unittest.TestCase):
         self.assertEqual(self.ca.put_callback(self.ca.channel("lo.SCAN"), ENUM, struct.pack("<H", 6)), NORMAL)
         self.assertEqual(self.ca.read("lo.SCAN"), "1 second")
         self.assertEqual(self.ca.put_text("lo.SCAN", "Passive"), NORMAL)
+
+    def test_25_expressions(self) -> None:
+        self.assertEqual(self.ca.read("out.CALC"), LONG_EXPRESSION[:39])
+        self.assertEqual(self.ca.get(self.ca.channel("out.CALC$"), CHAR, 80), LONG_EXPRESSION.encode().ljust(80, b"\0"))
+        self.assertEqual((self.ca.put_text("out.A", "0.0625"), self.ca.read("written", DOUBLE), self.ca.read("out")), (NORMAL, 0.0625, "0.063"))
+        for name, writes in (("out.A", 1), ("out.LA", 0), ("calc.CALC", 0), ("calc", 1), ("sel", 0), ("sel.SELN", 1)):
+            self.assertEqual((name, self.ca.ca.ca_write_access(self.ca.channel(name))), (name, writes))
+        self.assertEqual((self.ca.put_text("calc", "4"), self.ca.read("calc"), self.ca.read("calc.A")), (NORMAL, "4.0", "2.0"))
+        told: Dict[int, List[Any]] = {VALUE: [], LOG: []}
+        for mask, seen in told.items():
+            self.ca.monitor("calc", DOUBLE, mask, seen.append)
+        self.assertTrue(self.ca.until(lambda: all(told.values())))
+        for count, value in ((2, "1"), (3, "0")):
+            self.assertEqual(self.ca.put_text("calc.A", value), NORMAL)
+            self.assertTrue(self.ca.until(lambda: len(told[VALUE]) == count))
+        self.assertEqual([self.values(seen, DOUBLE) for seen in told.values()], [[4, -1, 0.5], [4, 0.5]])
 
     def test_24_read_only_fields(self) -> None:
         for name, want in (("li.VAL", 1), ("li.STAT", 0), ("li.NAME", 0), ("li.RTYP", 0), ("b.MASK", 0), ("li.INP", 0), ("li.DESC", 1)):

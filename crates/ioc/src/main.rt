@@ -1,19 +1,25 @@
 //! `ioc DB --live --workers W [NAME=VALUE]..` loads a database text with these macros, scans its
 //! records by a clock and answers lines of standard input while other threads serve the requests that
 //! wait, and prints a line for each record at its end. With `--console` lines say when records are
-//! scanned, and with `--ticks N` they are scanned so often without waiting.
+//! scanned, and with `--ticks N` they are scanned so often without waiting. With `-d`, `-I` or `--adapt`
+//! the database is that of a site's files.
 #![tactic(auto)]
 
 use ioc_app::{
-    Args, Asks, Console, CreateFiles, Devices, FileSeries, Header, JournalFile, Mode, Outputs,
-    PROGRAM, Plant, ReplaceFiles, Requested, Restored, RunFault, Saving, Sizes, Ticks,
-    counting_devices, database_hash, file_name, ioc_args, ioc_run, path_of, saved_values,
+    Console, Header, JournalFile, Outputs, Plant, RunFault, Saving, Sizes, Ticks, database_hash,
+    ioc_run,
 };
-use ioc_command_line::{
-    Ending, FileRole, Reason, Stage, Stop, bad_database, given, read_whole, show,
-};
+use ioc_arguments::{Args, Devices, Mode, PROGRAM, ioc_args};
+use ioc_command_line::{FileRole, Reason, Stage, Stop, bad_database, given, read_whole, show};
+use ioc_dblex::Macros;
+use ioc_devices::{Asks, counting_devices};
 use ioc_engine::{Database, Device, DeviceName, LoadError, SystemClock, load};
+use ioc_files::{
+    CreateFiles, FileSeries, ReplaceFiles, Requested, Restored, path_of, saved_values,
+};
+use ioc_listing::file_name;
 use ioc_saved::SavedValue;
+use ioc_site_database::{SiteFault, SiteText, SiteWords, ended, site_text};
 use ioc_values::Short;
 use std::alloc::{Alloc, Global};
 use std::env;
@@ -43,9 +49,22 @@ struct HashedDatabase {
     restored: Vec<SavedValue>,
 }
 
-// Loads a database text.
-fn load_text<R: Alloc<A = Global>>(rt: &R, args: &Args<'_>, text: &[u8]) -> Result<Database, Stop> {
-    match load(rt.alloc(), text, &args.macros) {
+// A database text, the macros that are replaced in it, and their definitions, each behind a byte 0.
+#[derive(Drop)]
+struct Source<'a> {
+    text: Vec<u8>,
+    macros: &'a Macros,
+    definitions: &'a [u8],
+}
+
+// Loads a database text with these macros.
+fn load_text<R: Alloc<A = Global>>(
+    rt: &R,
+    args: &Args<'_>,
+    macros: &Macros,
+    text: &[u8],
+) -> Result<Database, Stop> {
+    match load(rt.alloc(), text, macros) {
         Ok(database) => Ok(database),
         Err(LoadError::BadDb(fault)) => Err(bad_database(rt.alloc(), args.database, fault)),
         Err(LoadError::NoMemory) => Err(Stop::Memory(Stage::Loading)),
@@ -69,10 +88,15 @@ fn restored<R: Files + Alloc<A = Global>, E: Write>(
     rt: &R,
     args: &Args<'_>,
     path: &str,
-    mut text: Vec<u8>,
+    source: Source<'_>,
     loaded: HashedDatabase,
     errors: &mut E,
 ) -> Result<HashedDatabase, Stop> {
+    let Source {
+        mut text,
+        macros,
+        ..
+    } = source;
     let mut told = Vec::new(rt.alloc());
     let values = saved_values(rt, path, &mut told)?;
     let Restored {
@@ -85,7 +109,7 @@ fn restored<R: Files + Alloc<A = Global>, E: Write>(
     text.extend_from_slice(b"\n")?;
     text.extend_from_slice(&blocks)?;
     Ok(HashedDatabase {
-        database: load_text(rt, args, &text)?,
+        database: load_text(rt, args, macros, &text)?,
         hash: loaded.hash,
         restored: values,
     })
@@ -95,16 +119,16 @@ fn restored<R: Files + Alloc<A = Global>, E: Write>(
 fn loaded<R: Files + Alloc<A = Global>, E: Write>(
     rt: &R,
     args: &Args<'_>,
+    source: Source<'_>,
     errors: &mut E,
 ) -> Result<HashedDatabase, Stop> {
-    let text = read_whole(rt, FileRole::Database, args.database)?;
     let loaded = HashedDatabase {
-        database: load_text(rt, args, &text)?,
-        hash: database_hash(&text, &args.definitions),
+        database: load_text(rt, args, source.macros, &source.text)?,
+        hash: database_hash(&source.text, source.definitions),
         restored: Vec::new(rt.alloc()),
     };
     match args.restore {
-        Some(path) => restored(rt, args, path, text, loaded, errors),
+        Some(path) => restored(rt, args, path, source, loaded, errors),
         None => Ok(loaded),
     }
 }
@@ -402,7 +426,7 @@ fn ran(
     }
 }
 
-// Runs what the words of the command line ask for.
+// Runs what the words of the command line ask for on a database text.
 fn work<
     F: Write + OpenFile + Drop + Send,
     R: Alloc<A = Global>
@@ -416,10 +440,10 @@ fn work<
         + Sync,
     I: Read + Drop,
     E: Write + Drop,
->(rt: &R, args: &Args<'_>, terminal: Terminal<I, E>) -> Result<(), Stop> {
+>(rt: &R, args: &Args<'_>, source: Source<'_>, terminal: Terminal<I, E>) -> Result<(), Stop> {
     let alloc = rt.alloc();
     let mut terminal = terminal;
-    let loaded = loaded(rt, args, &mut terminal.errors)?;
+    let loaded = loaded(rt, args, source, &mut terminal.errors)?;
     let saving = saving_of(rt, args, &loaded.database, &mut terminal.errors)?;
     let saving = saving.as_ref();
     match args.devices {
@@ -436,6 +460,61 @@ fn work<
     }
 }
 
+// Runs what the words of a command line ask for that names one database text.
+fn run_text<
+    F: Write + OpenFile + Drop + Send,
+    R: Alloc<A = Global>
+        + Clock
+        + Files<File = F>
+        + CreateFiles<F>
+        + ReplaceFiles
+        + Print
+        + Threads
+        + Wait
+        + Sync,
+    I: Read + Drop,
+    E: Write + Drop,
+>(rt: &R, words: &[String], terminal: Terminal<I, E>) -> Result<(), Stop> {
+    let args = ioc_args(rt.alloc(), words)?;
+    let source = Source {
+        text: read_whole(rt, FileRole::Database, args.database)?,
+        macros: &args.macros,
+        definitions: args.definitions.as_slice(),
+    };
+    work(rt, &args, source, terminal)
+}
+
+// Runs what the words of a command line ask for that names a site's files.
+fn run_site<
+    F: Write + OpenFile + Drop + Send,
+    R: Alloc<A = Global>
+        + Clock
+        + Files<File = F>
+        + CreateFiles<F>
+        + ReplaceFiles
+        + Print
+        + Threads
+        + Wait
+        + Sync,
+    I: Read + Drop,
+    E: Write + Drop,
+>(rt: &R, site: &SiteWords<'_>, terminal: Terminal<I, E>) -> Result<(), SiteFault> {
+    let alloc = rt.alloc();
+    let mut terminal = terminal;
+    let left = site.left(PROGRAM.name)?;
+    let args = ioc_args(alloc, left.as_slice())?;
+    let definitions = site.behind_options(&args.definitions);
+    let SiteText { text, told } = site_text(rt, site, args.database, definitions)?;
+    let _written = terminal.errors.write_all(told.as_bytes());
+    let macros = Macros::new(alloc);
+    let source = Source {
+        text,
+        macros: &macros,
+        definitions: &[],
+    };
+    Ok(work(rt, &args, source, terminal)?)
+}
+
 // Does what the words of the command line ask for.
 fn run<
     F: Write + OpenFile + Drop + Send,
@@ -450,10 +529,12 @@ fn run<
         + Sync,
     I: Read + Drop,
     E: Write + Drop,
->(rt: &R, words: io::Result<env::Args>, terminal: Terminal<I, E>) -> Result<(), Stop> {
+>(rt: &R, words: io::Result<env::Args>, terminal: Terminal<I, E>) -> Result<(), SiteFault> {
     let words = given(rt.alloc(), words)?;
-    let args = ioc_args(rt.alloc(), words.as_slice())?;
-    work(rt, &args, terminal)
+    match SiteWords::from_words(rt.alloc(), words.as_slice())? {
+        Some(site) => run_site(rt, &site, terminal),
+        None => Ok(run_text(rt, words.as_slice(), terminal)?),
+    }
 }
 
 fn main(rt: HostRuntime) -> ExitCode {
@@ -464,6 +545,6 @@ fn main(rt: HostRuntime) -> ExitCode {
     };
     show(
         &rt,
-        &Ending::of(PROGRAM.name, run(&rt, env::args(&rt), terminal)),
+        &ended(PROGRAM.name, run(&rt, env::args(&rt), terminal)),
     )
 }

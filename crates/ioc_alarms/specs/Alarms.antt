@@ -1,10 +1,10 @@
 -- The operations on a record's alarm fields. Record Reference Manual, "Alarm Fields".
-use Rattle.std.specs.Prelude.{Bool, true, false, nat_lt, if◌then◌else◌}
+use Rattle.std.specs.Prelude.{Bool, true, false, not, nat_lt, ◌==◌, ◌||◌, if◌then◌else◌}
 use Rattle.ioc_menus.specs.declared.severity.Severity.{Severity}
 use Rattle.ioc_menus.specs.declared.severity.Severity.TheVariants.{NoAlarm as NoSeverity, Invalid}
 use Rattle.ioc_menus.specs.declared.status.Status.{Status}
 use Rattle.ioc_menus.specs.declared.status.Status.TheVariants.{NoAlarm, Link}
-use Rattle.ioc_menus.specs.Numbers.{severity_number}
+use Rattle.ioc_menus.specs.Numbers.{severity_number, status_number}
 use Rattle.ioc_links.specs.declared.link.Mode.{Mode}
 use Rattle.ioc_links.specs.declared.link.Mode.TheVariants.{Nms, Ms, Msi, Mss}
 use Rattle.ioc_alarms.specs.declared.alarms.Alarms.{Alarms}
@@ -25,6 +25,10 @@ raised status severity a =
     if takes_effect severity a
     then record a { new_status = status; new_severity = severity }
     else a
+
+-- Whether STAT or SEVR changes when the raised alarm becomes the shown one.
+abbrev pub changes : Alarms → Bool
+changes a = not (status_number a.status == status_number a.new_status) || not (severity_number a.severity == severity_number a.new_severity)
 
 -- The alarms after the raised alarm has become the shown one; none is raised any more.
 unfoldable pub settled : Alarms → Alarms

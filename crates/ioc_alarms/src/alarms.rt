@@ -17,7 +17,7 @@ pub struct Alarms {
 
 #[tactic(auto, unfolding(crate::specs::Alarms::raised, crate::specs::Alarms::settled, crate::specs::Alarms::inherited, crate::specs::Limits::limited))]
 impl Alarms {
-    ghost use Rattle.ioc_alarms.specs.Alarms.{takes_effect, raised, settled, inherited};
+    ghost use Rattle.ioc_alarms.specs.Alarms.{takes_effect, raised, settled, inherited, changes};
     ghost use Rattle.ioc_alarms.specs.Limits.{limited};
 
     /// Returns whether an alarm of this severity would take effect if it were raised.
@@ -36,6 +36,14 @@ impl Alarms {
             self.new_status = status;
             self.new_severity = severity;
         }
+    }
+
+    /// Returns whether STAT or SEVR changes when the raised alarm is shown.
+    pub fn changes(&self) -> bool
+        ensures { result ≡ changes self.now }
+    {
+        self.status.number() != self.new_status.number()
+            || self.severity.number() != self.new_severity.number()
     }
 
     /// Makes the raised alarm the one that the record shows, and clears the raised alarm.

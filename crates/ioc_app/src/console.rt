@@ -2,9 +2,6 @@
 use crate::caller::{Caller, LineFault};
 use crate::fault::RunFault;
 use crate::kinds::{add_choices, add_kinds, given_by};
-use crate::listing::{
-    RecordList, add_count, add_field, add_named, add_placed, add_reply, add_shown, add_tagged,
-};
 use crate::reading::Wanted;
 use crate::streams::{LineWriter, Streams};
 use crate::task::Task;
@@ -15,6 +12,9 @@ use ioc_engine::{
 };
 use ioc_fields::field_list::fields;
 use ioc_fields::{RecordType, field, row_of};
+use ioc_listing::{
+    RecordList, add_count, add_field, add_named, add_placed, add_reply, add_shown, add_tagged,
+};
 use ioc_main::{PROMPT, PendingOutput, ScriptFault, Session, ended_line, run_script};
 use ioc_watches::{Watch, WatchWord, rule_of};
 use std::alloc::{AllocError, Global};

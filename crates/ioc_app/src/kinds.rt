@@ -9,7 +9,7 @@ use ioc_values::{Input, IocError, Range, Value};
 use std::alloc::{AllocError, Global};
 
 // The menus with the names that EPICS has for them.
-static MENUS: [(Menu, &str); 10] = [
+static MENUS: [(Menu, &str); 13] = [
     (Menu::Severity, "menuAlarmSevr"),
     (Menu::Status, "menuAlarmStat"),
     (Menu::Scan, "menuScan"),
@@ -20,6 +20,9 @@ static MENUS: [(Menu, &str); 10] = [
     (Menu::Selm, "fanoutSELM"),
     (Menu::Linr, "menuConvert"),
     (Menu::Oif, "aoOIF"),
+    (Menu::Oopt, "calcoutOOPT"),
+    (Menu::Dopt, "calcoutDOPT"),
+    (Menu::Selmode, "selSELM"),
 ];
 
 // Returns the name of a menu.
@@ -60,6 +63,7 @@ fn add_kind(said: &mut Vec<u8>, kind: FieldKind) -> Result<(), AllocError> {
         FieldKind::Number(range) => said.extend_from_slice(number_word(range).as_bytes()),
         FieldKind::Double => said.extend_from_slice(b"double"),
         FieldKind::Text => said.extend_from_slice(b"text"),
+        FieldKind::Expression => said.extend_from_slice(b"expression"),
         FieldKind::State => said.extend_from_slice(b"states"),
         FieldKind::Link(_) => said.extend_from_slice(b"link"),
         FieldKind::Menu(menu) => {

@@ -3,11 +3,11 @@ ghost use Rattle.std.specs.Thread.{IsSend};
 
 use crate::fault::RunFault;
 use crate::pace::{next_tick, wait_for};
-use crate::saved_file::ReplaceFiles;
 use crate::streams::Streams;
 use crate::task::{Task, tick};
 use ioc_command_line::Reason;
 use ioc_engine::{Clock, Desk, Device, Engine, EngineName};
+use ioc_files::ReplaceFiles;
 use std::alloc::Global;
 use std::io::Write;
 use std::sync::Wait;

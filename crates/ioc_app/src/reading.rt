@@ -1,6 +1,6 @@
 //! Fields of a record as programs read them.
-use crate::asks::add_value;
 use ioc_commands::add_escaped_text;
+use ioc_devices::add_value;
 use ioc_engine::FieldSeen;
 use ioc_fields::{FieldNo, RecordType, field};
 use ioc_values::IocError;

@@ -1,10 +1,10 @@
 //! What is written at the end of a run.
 use crate::fault::RunFault;
 use crate::journal::JournalWriter;
-use crate::record_line::add_line;
-use crate::saved_file::ReplaceFiles;
 use crate::streams::Streams;
 use ioc_engine::{Device, EngineName, Report, StoppedRecord};
+use ioc_files::ReplaceFiles;
+use ioc_listing::add_line;
 use ioc_main::{LineReply, tally_line};
 use std::alloc::{AllocError, Global};
 use std::io::Write;

@@ -2,17 +2,17 @@
 ghost use Rattle.std.specs.Thread.{IsSend};
 ghost use Rattle.ioc_engine.specs.Named.{IsNamedBy};
 
-use crate::asks::Asks;
 use crate::fault::RunFault;
 use crate::going_on::Sizes;
 use crate::journal::JournalWriter;
 use crate::live::{ClockDesks, beside_clock};
 use crate::report::end;
-use crate::saved_file::ReplaceFiles;
 use crate::saving::Saving;
 use crate::streams::Streams;
 use crate::task::{Task, fault_of};
+use ioc_devices::Asks;
 use ioc_engine::{Clock, Database, Desk, Device, DeviceName, Engine, EngineName, Limits, Seed};
+use ioc_files::ReplaceFiles;
 use ioc_journal_lines::Header;
 use ioc_saved::SavedValue;
 use std::alloc::Global;

@@ -1,9 +1,9 @@
 //! Values of channels that are saved while a run goes on, and once more at its end.
 use crate::fault::RunFault;
-use crate::saved_file::{ReplaceFiles, SavedPaths};
 use ioc_command_line::Reason;
 use ioc_engine::{Desk, Device, Engine, EngineName, RecordCopies, StoppedRecord};
 use ioc_fields::{FieldNo, name_of};
+use ioc_files::{ReplaceFiles, SavedField, SavedPaths};
 use ioc_names::RecordNo;
 use ioc_record::{RecordKind, text_of};
 use ioc_saved::{SavedText, SavedValue, add_saved, begin_saved, end_saved};
@@ -15,13 +15,6 @@ use std::sync::Wait;
 use std::sync::atomic::{AtomicBool, AtomicU64, Ordering};
 use std::thread::Parker;
 use std::time::Duration;
-
-/// A field of a record whose value is saved.
-#[derive(Clone, Copy, Debug, PartialEq, Eq)]
-pub struct SavedField {
-    pub record: RecordNo,
-    pub field: FieldNo,
-}
 
 /// What is saved while a run goes on, where, and how often.
 ///

@@ -1,5 +1,4 @@
 //! What the threads of a run write.
-use crate::asks::{Asked, Asks};
 use crate::caller::LineFault;
 use crate::fault::RunFault;
 use crate::journal::JournalWriter;
@@ -7,6 +6,7 @@ use crate::pace::{Next, Pace};
 use crate::saving::Saving;
 use crate::watching::{add_changes, add_marked};
 use ioc_command_line::Reason;
+use ioc_devices::{Asked, Asks};
 use ioc_engine::{Desk, Device, Engine, EngineName, IocError};
 use ioc_names::RecordNo;
 use ioc_watches::{Removal, Watch, Watches};

@@ -17,6 +17,9 @@ pub const PROGRAM: Program<'static> = Program {
 An entry agrees if its place and its call number are the next ones, and if the records before it and \
     the answers of its devices give its reply and use all of these answers.
 
+With -d FILE, -m before it, -I DIR and --adapt the database is that of a site's files in place of DB, as with \
+    ioc-replay.
+
 The exit status: 0 all entries agree, 1 the database is refused, it isn't that of the journal, an \
     entry differs, a line is no entry, or the journal isn't whole and has to be, 2 the command line is wrong, 3 a file cannot be read or what is found cannot be written, \
     4 memory ran out",

@@ -1,5 +1,6 @@
 //! `ioc-audit DB JOURNAL [NAME=VALUE]..`: loads a database text with these macros, makes the entries
-//! of a journal again on it, and tells whether all agree, or which is the first one that doesn't.
+//! of a journal again on it, and tells whether all agree, or which is the first one that doesn't. With
+//! `-d`, `-I` or `--adapt` the database is that of a site's files.
 #![tactic(auto)]
 
 mod command;
@@ -14,12 +15,13 @@ use crate::showing::{Found, add_shown, found_in};
 use crate::telling::{Telling, told_of, told_of_base, told_of_no_base};
 use crate::watching::begin_trace;
 use ioc_command_line::{
-    Ending, FileRole, Reason, Stage, Stop, bad_database, given, open, read_whole, show, unreadable,
+    FileRole, Reason, Stage, Stop, bad_database, given, open, read_whole, show, unreadable,
 };
-use ioc_dbfile::{Database, load};
+use ioc_dbfile::{Database, Macros, load};
 use ioc_journal_audit::{AuditFault, Auditor, FileBegun, FileFound, audit_file, begin_file};
 use ioc_journal_base::base_of;
 use ioc_journal_lines::database_hash;
+use ioc_site_database::{SiteFault, SiteText, SiteWords, site_text};
 use ioc_values::LoadError;
 use std::alloc::Global;
 use std::env;
@@ -134,12 +136,9 @@ fn run<R: BufRead, W: Write>(
     }
 }
 
-// Does what the words of the command line ask for.
-fn work(rt: &HostRuntime) -> Result<Telling, Stop> {
+// Audits the journal that the words name on a database text.
+fn work_on(rt: &HostRuntime, words: &Words<'_>, text: &[u8]) -> Result<Telling, Stop> {
     let alloc = rt.alloc();
-    let all = given(alloc, env::args(rt))?;
-    let words = Words::from_words(alloc, all.as_slice())?;
-    let text = read_whole(rt, FileRole::Database, words.database)?;
     let file = open(rt, FileRole::Journal, words.journal)?;
     let (Ok(mut journal), Ok(mut out)) = (
         BufReader::new(alloc, file),
@@ -147,7 +146,7 @@ fn work(rt: &HostRuntime) -> Result<Telling, Stop> {
     ) else {
         return Err(Stop::Memory(Stage::Loading));
     };
-    let told = run(alloc, &words, text.as_slice(), &mut journal, &mut out);
+    let told = run(alloc, words, text, &mut journal, &mut out);
     match out.flush() {
         Ok(()) => told,
         Err(e) => match told {
@@ -157,9 +156,38 @@ fn work(rt: &HostRuntime) -> Result<Telling, Stop> {
     }
 }
 
+// Does what the words of a command line ask for that names one database text.
+fn work_text(rt: &HostRuntime, words: &[String]) -> Result<Telling, Stop> {
+    let words = Words::from_words(rt.alloc(), words)?;
+    let text = read_whole(rt, FileRole::Database, words.database)?;
+    work_on(rt, &words, text.as_slice())
+}
+
+// Does what the words of a command line ask for that names a site's files.
+fn work_site(rt: &HostRuntime, site: &SiteWords<'_>) -> Result<Telling, SiteFault> {
+    let alloc = rt.alloc();
+    let left = site.left(PROGRAM.name)?;
+    let mut words = Words::from_words(alloc, left.as_slice())?;
+    let definitions = site.behind_options(&words.definitions);
+    let SiteText { text, told } = site_text(rt, site, words.database, definitions)?;
+    let _written = eprint!(rt; "{told}");
+    words.macros = Macros::new(alloc);
+    words.definitions = Vec::new(alloc);
+    Ok(work_on(rt, &words, text.as_slice())?)
+}
+
+// Does what the words of the command line ask for.
+fn work(rt: &HostRuntime) -> Result<Telling, SiteFault> {
+    let all = given(rt.alloc(), env::args(rt))?;
+    match SiteWords::from_words(rt.alloc(), all.as_slice())? {
+        Some(site) => work_site(rt, &site),
+        None => Ok(work_text(rt, all.as_slice())?),
+    }
+}
+
 fn main(rt: HostRuntime) -> ExitCode {
     match work(&rt) {
         Ok(told) => show(&rt, &told.ending()),
-        Err(stop) => show(&rt, &Ending::of(PROGRAM.name, Err(stop))),
+        Err(fault) => show(&rt, &fault.ending(PROGRAM.name)),
     }
 }

@@ -16,3 +16,4 @@ pub mod Refused
 pub mod WholeSizes
 pub mod Longest
 pub mod OneMeaning
+pub mod Programs

@@ -37,7 +37,7 @@ chosen_few false x y n h k = k
 few_more : (o : Option (List Token)) (m n : ℕ) → m ≤ n → Few o m → Few o n
 few_more o m n le h = λ ts e. let k = h ts e in omega arith
 
-tokens_are_few : (bs : List ℕ) (skip : ℕ) (place : Bool) → Few (tokens_from skip place bs) (length bs)
+pub tokens_are_few : (bs : List ℕ) (skip : ℕ) (place : Bool) → Few (tokens_from skip place bs) (length bs)
 tokens_are_few [] skip place = λ ts e. let same : 0 ≡ length ts = ap (λ (x : List Token). length x) (some_same [] ts e) in omega arith
 tokens_are_few (b ∷ bs) (suc skip) place = few_more (tokens_from skip place bs) (length bs) (length (b ∷ bs)) (omega arith)
     (tokens_are_few bs skip place)

@@ -20,7 +20,7 @@ use Rattle.ioc_calc.proofs.CompleteStatements.{statements_complete, statements_r
 begun : (ts : List Token) (s : State) → s.rest ≡ ts → s.steps ≡ [] → s.numbers ≡ [] → s ≡ state ts [] []
 begun ts s re se ne = ap (λ x. state x s.steps s.numbers) re ∙ ap (λ x. state ts x s.numbers) se ∙ ap (λ x. state ts [] x) ne
 
-reads_all : (ts : List Token) (s : State) (ss : List Statement) → s.rest ≡ ts → s.steps ≡ [] → s.numbers ≡ [] → length ts ≤ 79
+pub reads_all : (ts : List Token) (s : State) (ss : List Statement) → s.rest ≡ ts → s.steps ≡ [] → s.numbers ≡ [] → length ts ≤ 79
     → AreStatements ts ss → values_in ss ≡ 1 → statements 80 false s ≡ Some (state [] ([] ++ all_steps ss) ([] ++ all_numbers ss))
 reads_all ts s ss re se ne h d v = ap (λ x. statements 80 false x) (begun ts s re se ne)
     ∙ statements_complete ts ss d 80 false [] [] (omega arith) v (omega arith) (omega arith)

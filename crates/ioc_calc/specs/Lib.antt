@@ -17,3 +17,4 @@ pub mod Levels
 pub mod Wholes
 pub mod Longest
 pub mod Names
+pub mod Programs

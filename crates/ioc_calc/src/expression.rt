@@ -1,12 +1,13 @@
 //! The text of an expression and its program.
 
-ghost use Rattle.std.specs.Prelude.{◌≡◌, ◌<◌, ◌≤◌, IfOk, IfErr, OnErr, Some, length, List};
+ghost use Rattle.std.specs.Prelude.{◌≡◌, ◌<◌, ◌≤◌, IfOk, IfErr, OnErr, Some, None, length, List};
 ghost use Rattle.ioc_calc.specs.Lexer.{read_by};
 ghost use Rattle.ioc_calc.specs.Program.{code_of};
 ghost use Rattle.ioc_calc.specs.Tree.{Statement};
 ghost use Rattle.ioc_calc.specs.Tokens.{tokens_of};
 ghost use Rattle.ioc_calc.specs.Grammar.{IsExpression};
 ghost use Rattle.ioc_calc.specs.Compiles.{Compiles, IsFault};
+ghost use Rattle.ioc_calc.specs.Programs.{fault_of};
 
 use crate::compiling::{CalcFault, CalcFaultKind, parsed};
 use crate::grammar::left_out_in;
@@ -24,6 +25,8 @@ pub fn compile(text: &[u8]) -> Result<Program, CalcFault>
     ensures refused { OnErr result ((statements : List Statement) → IsExpression text.now statements → ⊥) }
     ensures fault { IfErr result (λ fault. IsFault text.now fault.kind) }
     ensures byte { IfErr result (λ fault. fault.byte ≤ length text.now) }
+    ensures accepted { IfOk result (λ p. fault_of text.now ≡ None) }
+    ensures rejected { IfErr result (λ fault. fault_of text.now ≡ Some fault.kind) }
 {
     compiled(text)
 }

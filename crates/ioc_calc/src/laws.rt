@@ -6,6 +6,7 @@ ghost use Rattle.ioc_calc.specs.declared.words.Word.{Word};
 ghost use Rattle.std.specs.Float.Ieee.{Float};
 ghost use Rattle.ioc_calc.specs.Tree.{Statement, value_of, arguments_after};
 ghost use Rattle.ioc_calc.specs.Grammar.{IsExpression};
+ghost use Rattle.ioc_calc.specs.Programs.{value_by, arguments_by};
 ghost use Rattle.ioc_calc.specs.Words.{longest_in};
 ghost use Rattle.ioc_calc.specs.Longest.{IsOneOf, NoneIsLonger};
 
@@ -15,6 +16,12 @@ pub fn one_meaning()
     ensures { (text : List ℕ) (s t : List Statement) → IsExpression text s → IsExpression text t → (before : Float) (arguments : List Float)
         → (value_of s before arguments ≡ value_of t before arguments)
         × (arguments_after s before arguments ≡ arguments_after t before arguments) }
+{}
+
+/// The value of a text that is an expression, and what it stores, are what its statements mean.
+pub fn value_is_meaning()
+    ensures { (text : List ℕ) (s : List Statement) → IsExpression text s → (before : Float) (arguments : List Float)
+        → (value_by text before arguments ≡ value_of s before arguments) × (arguments_by text before arguments ≡ arguments_after s before arguments) }
 {}
 
 /// The token that is taken from a table is that of a word with which the text begins, and no other

@@ -1,8 +1,10 @@
 //! The program of an expression, and its run.
 
-ghost use Rattle.std.specs.Prelude.{◌≡◌, ◌-◌, ◌≤◌, List, IsTrue, length, take, slice_index_or, slice_set};
+ghost use Rattle.std.specs.Prelude.{◌≡◌, ◌-◌, ◌≤◌, ℕ, List, IsTrue, length, take, slice_index_or, slice_set};
 ghost use Rattle.ioc_calc.specs.Operations.{zero_float};
 ghost use Rattle.ioc_calc.specs.Tree.{Statement, value_of, arguments_after};
+ghost use Rattle.ioc_calc.specs.Compiles.{Compiles};
+ghost use Rattle.ioc_calc.specs.Programs.{value_by, arguments_by};
 ghost use Rattle.ioc_calc.specs.Machine.{IsProgramOf, can_run, can_step, stepped, depth_after, unused_after};
 
 use crate::operators::{Exponent, Infix, ListFunction, Prefix};
@@ -138,6 +140,8 @@ impl Program {
         ensures value { (s : List Statement) → IsProgramOf (code_of self.now) s → result ≡ value_of s value arguments.old }
         ensures arguments { (s : List Statement) → IsProgramOf (code_of self.now) s
             → arguments.new ≡ arguments_after s value arguments.old }
+        ensures of_text { (text : List ℕ) → Compiles text (code_of self.now) → (result ≡ value_by text value arguments.old)
+            × (arguments.new ≡ arguments_by text value arguments.old) }
     {
         let mut run = Run {
             stack: Stack::new(),

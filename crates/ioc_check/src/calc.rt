@@ -1,8 +1,9 @@
 //! The expression of a calc record, tried on numbers.
-use ioc_calc::{CalcFault, CalcFaultKind, LeftOut, compile};
+use ioc_calc::{CalcFault, compile};
 use ioc_double::{Double, double_of_text, exact_text};
 use ioc_site::{Finding, Place, Severity};
 use ioc_site_reader::Definition;
+use ioc_site_rules::expression_fault;
 use std::alloc::{AllocError, Global};
 
 /// The names of what findings of a trial are of: the expression, and the words behind it.
@@ -84,41 +85,10 @@ impl Inputs {
     }
 }
 
-// Returns what may have been meant at this byte of an expression or before it, and where it begins.
-fn meant(text: &[u8], byte: usize) -> (usize, &'static str) {
-    for first in [byte.saturating_sub(1), byte] {
-        match text.get(first..).unwrap_or(&[]) {
-            [b'I' | b'i', b'N' | b'n', b'T' | b't', b'(', ..] => {
-                return (first, "; did you mean NINT?");
-            }
-            [b'<', b'>', ..] => return (first, "; did you mean #?"),
-            _ => {}
-        }
-    }
-    (byte, "")
-}
-
 // Returns the finding of a text that is no expression.
 fn refused(alloc: Global, text: &[u8], fault: CalcFault) -> Result<Finding, AllocError> {
-    let (byte, hint) = meant(text, fault.byte);
-    let said = match fault.kind {
-        CalcFaultKind::LeftOut(word) => {
-            let name = word.name();
-            let rest = match word {
-                LeftOut::Caret | LeftOut::Stars =>
-                    ", unless a whole number from 0 to 64 follows it",
-                _ => "",
-            };
-            let said = format!(in alloc; "{name} is known to EPICS and left out here{rest}")?;
-            return Ok(fault_at(0, 1, fault.byte, said));
-        }
-        CalcFaultKind::Bad if text.is_empty() => String::from_str(alloc, "there is no expression")?,
-        CalcFaultKind::Bad if text.len() > 79 => {
-            String::from_str(alloc, "an expression has at most 79 bytes")?
-        }
-        CalcFaultKind::Bad => format!(in alloc; "the expression can't go on like this{hint}")?,
-    };
-    Ok(fault_at(0, 1, byte, said))
+    let found = expression_fault(alloc, text, fault)?;
+    Ok(fault_at(0, 1, found.byte, found.text))
 }
 
 // Appends a number with all its digits; a whole one without a point.

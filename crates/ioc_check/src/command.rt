@@ -1,7 +1,7 @@
 //! The command line of the program.
-use crate::left_out::LeftOutTypes;
 use clap::{Arg, ArgAction, ArgMatches, Command};
 use ioc_command_line::{Program, Stop, UsageFault, parse};
+use ioc_site_database::LeftOutTypes;
 use ioc_site_reader::{Definition, parse_definitions};
 use std::alloc::{AllocError, Global};
 
@@ -41,6 +41,8 @@ const WRITE: &str = "write";
 
 const DROP_TYPES: &str = "drop-types";
 
+const ADAPT: &str = "adapt";
+
 const CALC: &str = "calc";
 
 /// What a command line asks for.
@@ -49,6 +51,8 @@ pub struct Words<'a> {
     /// The paths of the database files.
     pub paths: Vec<&'a [u8]>,
     pub definitions: Vec<Definition>,
+    /// The words that define them, in the order in which the other programs take them.
+    pub defining: Vec<&'a str>,
     /// The folders in which included files are looked for.
     pub folders: Vec<&'a [u8]>,
     /// Whether the lock sets are printed.
@@ -58,6 +62,8 @@ pub struct Words<'a> {
     /// The path of the file to which all records are written as one text.
     pub output: Option<&'a str>,
     pub left_out_types: LeftOutTypes,
+    /// Whether what EPICS has and this project leaves out is dropped or replaced.
+    pub is_adapted: bool,
     /// The expression that is tried on numbers, in place of all else.
     pub expression: Option<&'a str>,
 }
@@ -117,9 +123,16 @@ fn with_outputs<'a>(alloc: Global, command: Command<'a>) -> Result<Command<'a>, 
                 .help("drops records of types that are left out here or unknown, with a warning"),
         )?
         .arg(
+            Arg::new(alloc, ADAPT)
+                .long(ADAPT)
+                .action(ArgAction::SetTrue)
+                .help("drops or replaces what EPICS has and is left out here, with a warning"),
+        )?
+        .arg(
             Arg::new(alloc, CALC)
                 .long(CALC)
                 .value_name("EXPRESSION")
+                .allow_hyphen_values(true)
                 .help(
                     "prints what the expression of a calc record gives, with A to L from words as A=6",
                 ),
@@ -128,7 +141,7 @@ fn with_outputs<'a>(alloc: Global, command: Command<'a>) -> Result<Command<'a>, 
 
 impl<'a> Words<'a> {
     // Adds the macros of `NAME=VALUE`, or of several with commas between them.
-    fn define(&mut self, alloc: Global, word: &str) -> Result<(), Stop> {
+    fn define(&mut self, alloc: Global, word: &'a str) -> Result<(), Stop> {
         let mut defined = parse_definitions(alloc, word.as_bytes())?;
         if defined.fault.is_some() {
             let text = String::from_str(alloc, word)?;
@@ -137,13 +150,14 @@ impl<'a> Words<'a> {
         self.definitions
             .append(&mut defined.list)
             .map_err(AllocError::from)?;
+        self.defining.push(word).map_err(AllocError::from)?;
         Ok(())
     }
 
     // Adds what the words of the command line say.
     fn add(&mut self, alloc: Global, matches: &ArgMatches<'a>) -> Result<(), Stop> {
         for word in matches.get_strs(MACROS).unwrap_or(&[]) {
-            self.define(alloc, word)?;
+            self.define(alloc, *word)?;
         }
         for folder in matches.get_strs(FOLDERS).unwrap_or(&[]) {
             self.folders
@@ -152,7 +166,7 @@ impl<'a> Words<'a> {
         }
         for word in matches.get_strs(FILES).unwrap_or(&[]) {
             if word.contains('=') {
-                self.define(alloc, word)?;
+                self.define(alloc, *word)?;
             } else {
                 self.paths.push(word.as_bytes()).map_err(AllocError::from)?;
             }
@@ -172,6 +186,7 @@ impl<'a> Words<'a> {
         let mut said = Words {
             paths: Vec::new(alloc),
             definitions: Vec::new(alloc),
+            defining: Vec::new(alloc),
             folders: Vec::new(alloc),
             sets: matches.get_flag(SETS),
             dot: matches.get_flag(DOT),
@@ -181,6 +196,7 @@ impl<'a> Words<'a> {
             } else {
                 LeftOutTypes::Keep
             },
+            is_adapted: matches.get_flag(ADAPT),
             expression: matches.get_str(CALC),
         };
         said.add(alloc, &matches)?;

@@ -4,22 +4,18 @@
 
 mod calc;
 mod command;
-mod disk;
-mod left_out;
-mod printing;
-#[cfg(test)]
-mod tests;
+mod loading;
 mod writing;
 
 use crate::calc::{NAMES, Tried, calculate};
 use crate::command::{PROGRAM, Words};
-use crate::disk::Disk;
-use crate::printing::{Counts, add_findings};
-use crate::writing::{database_of, prepared, refuse_overwriting, save};
-use ioc_command_line::{Ending, Reason, Stop, Stream, given, show};
-use ioc_site::Reading;
+use crate::loading::add_refusals;
+use crate::writing::{Prepared, database_of, prepare, refuse_overwriting, save};
+use ioc_command_line::{Ending, Reason, Stop, given, show};
+use ioc_site::{Finding, Reading};
+use ioc_site_database::{Counts, Disk, add_findings, told_once};
 use ioc_site_reader::{Request, read_files};
-use ioc_site_rules::{add_picture, add_sets, check, put_in_order, told_once};
+use ioc_site_rules::{add_picture, add_sets, check, put_in_order};
 use std::alloc::{Alloc, AllocError, Global};
 use std::env;
 use std::fs::Files;
@@ -50,6 +46,41 @@ fn shown(alloc: Global, words: &Words<'_>, reading: &Reading) -> Result<Vec<u8>,
     Ok(out)
 }
 
+/// What a run finds in files.
+#[derive(Drop)]
+struct Found {
+    /// The names of the files.
+    files: Vec<Vec<u8>>,
+    findings: Vec<Finding>,
+    /// The text of all records, if it is to be written.
+    database: Option<Vec<u8>>,
+}
+
+// Checks what was read, and returns what is found in the order of its places.
+fn findings_of(alloc: Global, words: &Words<'_>, reading: Reading) -> Result<Found, Stop> {
+    let mut checked = check(alloc, &reading)?;
+    let Reading {
+        files,
+        texts,
+        statements,
+        findings: mut all,
+        ..
+    } = reading;
+    all.append(&mut checked).map_err(AllocError::from)?;
+    let database = database_of(alloc, words, statements.as_slice(), &mut all)?;
+    let is_whole = words.output.is_none() && !words.is_adapted;
+    if is_whole && Counts::of(all.as_slice()).errors == 0 {
+        add_refusals(alloc, words, texts.as_slice(), &mut all)?;
+    }
+    put_in_order(alloc, &mut all)?;
+    let findings = told_once(alloc, all)?;
+    Ok(Found {
+        files,
+        findings,
+        database,
+    })
+}
+
 // Reads and checks the files that the words name.
 fn examine<R: Files + Alloc<A = Global>>(rt: &R, words: &Words<'_>) -> Result<Printed, Stop> {
     let alloc = rt.alloc();
@@ -60,27 +91,23 @@ fn examine<R: Files + Alloc<A = Global>>(rt: &R, words: &Words<'_>) -> Result<Pr
     };
     let reading = read_files(alloc, &mut Disk(rt), request)?;
     refuse_overwriting(rt, words, reading.files.as_slice())?;
-    let reading = prepared(alloc, words, reading)?;
-    let mut checked = check(alloc, &reading)?;
+    let Prepared { reading, losses } = prepare(alloc, words, reading)?;
     let output = shown(alloc, words, &reading)?;
-    let Reading {
+    let Found {
         files,
-        statements,
-        findings: mut all,
-    } = reading;
-    all.append(&mut checked).map_err(AllocError::from)?;
-    let database = database_of(alloc, words, statements.as_slice(), &mut all)?;
-    put_in_order(alloc, &mut all)?;
-    let all = told_once(alloc, all)?;
+        findings,
+        database,
+    } = findings_of(alloc, words, reading)?;
     let mut lines = Vec::new(alloc);
-    add_findings(alloc, files.as_slice(), all.as_slice(), &mut lines)?;
-    let counts = Counts::of(all.as_slice());
+    add_findings(alloc, files.as_slice(), findings.as_slice(), &mut lines)?;
+    let counts = Counts::of(findings.as_slice());
     let is_shown = words.sets || words.dot;
-    let (output, errors) = if is_shown {
+    let (output, mut errors) = if is_shown {
         (output, lines)
     } else {
         (lines, output)
     };
+    errors.extend_from_slice(losses.as_slice())?;
     Ok(Printed {
         output,
         errors,
@@ -110,8 +137,8 @@ fn calculated(alloc: Global, words: &Words<'_>, text: &str) -> Result<Printed, S
     })
 }
 
-// Does what the words of the command line ask for, and returns how the program ends.
-fn work(rt: &HostRuntime) -> Result<Ending, Stop> {
+// Does what the words of the command line ask for, and returns the exit status of the program.
+fn work(rt: &HostRuntime) -> Result<u8, Stop> {
     let alloc = rt.alloc();
     let all = given(alloc, env::args(rt))?;
     let words = Words::from_words(alloc, all.as_slice())?;
@@ -130,17 +157,14 @@ fn work(rt: &HostRuntime) -> Result<Ending, Stop> {
         printed.errors.extend_from_slice(line.as_bytes())?;
     }
     let text = String::from_utf8_lossy(alloc, printed.errors.as_slice())?;
-    Ok(Ending {
-        program: PROGRAM.name,
-        status: printed.counts.status(),
-        stream: Stream::Error,
-        told: Some(Stop::Refused(text)),
-    })
+    // Findings that can't be written to standard error don't change the status.
+    let _written = eprint!(rt; "{text}");
+    Ok(printed.counts.status())
 }
 
 fn main(rt: HostRuntime) -> ExitCode {
     match work(&rt) {
-        Ok(ending) => show(&rt, &ending),
+        Ok(status) => ExitCode::from(status),
         Err(stop) => show(&rt, &Ending::of(PROGRAM.name, Err(stop))),
     }
 }

@@ -1,9 +1,8 @@
 //! The text of all records that is written to a file.
 use crate::command::{PROGRAM, Words};
-use crate::left_out::{Kept, leave_out};
-use crate::printing::Counts;
 use ioc_command_line::{FileRole, Reason, Stop, is_out_of_memory};
 use ioc_site::{Finding, Reading, Statement};
+use ioc_site_database::{Adapted, Counts, Kept, adapt, leave_out};
 use ioc_site_writer::{Written, write_database};
 use ioc_values::LoadError;
 use std::alloc::{Alloc, AllocError, Global};
@@ -81,30 +80,77 @@ pub fn refuse_overwriting<R: Files + Alloc<A = Global>>(
     Ok(())
 }
 
+// Returns a reading with more that was found.
+fn with_findings(reading: Reading, more: Vec<Finding>) -> Result<Reading, AllocError> {
+    let mut reading = reading;
+    let mut more = more;
+    reading
+        .findings
+        .append(&mut more)
+        .map_err(AllocError::from)?;
+    Ok(reading)
+}
+
+// Returns what is left of a reading that is to be written without what this project leaves out.
+fn without_left_out(
+    alloc: Global,
+    words: &Words<'_>,
+    reading: Reading,
+) -> Result<Reading, AllocError> {
+    let Reading {
+        files,
+        texts,
+        statements,
+        findings,
+        first_loss,
+    } = reading;
+    let Kept {
+        statements,
+        dropped,
+        ..
+    } = leave_out(alloc, statements, words.left_out_types)?;
+    let kept = Reading {
+        files,
+        texts,
+        statements,
+        findings,
+        first_loss,
+    };
+    with_findings(kept, dropped)
+}
+
+/// What is checked of a reading, and a line for each way in which a record works no longer.
+#[derive(Drop)]
+pub struct Prepared {
+    pub reading: Reading,
+    pub losses: Vec<u8>,
+}
+
 /// Returns what is checked of a reading: all of it, or, if it is to be written, what is left when
-/// that is left out which EPICS has and this project doesn't.
+/// that is left out which EPICS has and this project doesn't, or what it is when that is adapted.
 ///
 /// # Errors
 ///
 /// [`AllocError`] if allocation fails.
-pub fn prepared(alloc: Global, words: &Words<'_>, reading: Reading) -> Result<Reading, AllocError> {
-    if words.output.is_none() {
-        return Ok(reading);
+pub fn prepare(alloc: Global, words: &Words<'_>, reading: Reading) -> Result<Prepared, AllocError> {
+    if words.is_adapted {
+        let Adapted {
+            reading,
+            notes,
+            losses,
+        } = adapt(alloc, reading)?;
+        return Ok(Prepared {
+            reading: with_findings(reading, notes)?,
+            losses,
+        });
     }
-    let Reading {
-        files,
-        statements,
-        mut findings,
-    } = reading;
-    let Kept {
-        statements,
-        mut dropped,
-    } = leave_out(alloc, statements, words.left_out_types)?;
-    findings.append(&mut dropped).map_err(AllocError::from)?;
-    Ok(Reading {
-        files,
-        statements,
-        findings,
+    let reading = match words.output {
+        Some(_) => without_left_out(alloc, words, reading)?,
+        None => reading,
+    };
+    Ok(Prepared {
+        reading,
+        losses: Vec::new(alloc),
     })
 }
 

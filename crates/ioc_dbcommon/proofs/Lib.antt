@@ -1,1 +1,2 @@
+mod Expressions
 mod Once

@@ -20,7 +20,7 @@ use Rattle.ioc_dbcommon.specs.declared.link_field.LinkUse.{LinkUse}
 use Rattle.ioc_dbcommon.specs.declared.link_field.LinkUse.TheVariants.{Unused, OwnDevice, Absent, Standing}
 use Rattle.ioc_dbcommon.specs.declared.link_field.StandingLink.{StandingLink}
 use Rattle.ioc_dbcommon.specs.declared.body.Want.{Want}
-use Rattle.ioc_dbcommon.specs.declared.body.Want.TheVariants.{NoInput, ReadLink}
+use Rattle.ioc_dbcommon.specs.declared.body.Want.TheVariants.{NoInput, ReadLink, ReadInputs}
 use Rattle.ioc_dbcommon.specs.declared.body.Output.{Output}
 use Rattle.ioc_dbcommon.specs.declared.body.Output.TheVariants.{NoOutput, WriteLink, WriteDevice}
 use Rattle.ioc_dbcommon.specs.Links.{no_link, use_of}
@@ -105,6 +105,12 @@ pub begin_leads : (mode : Omsl) (dol : LinkField) (t : StandingLink) → drive_b
 unfolding drive_begin
 begin_leads ClosedLoop dol t is = cc
 begin_leads Supervisory dol t is = cc
+
+-- A type with DOL doesn't read several inputs.
+pub begins_alone : (mode : Omsl) (dol : LinkField) (t : StandingLink) → drive_begin mode dol ≢ ReadInputs (Standing t)
+unfolding drive_begin
+begins_alone ClosedLoop dol t is = cc
+begins_alone Supervisory dol t is = cc
 
 write_leads : (to : LinkUse) (x v : Value) (t : StandingLink) → written_by to x ≡ WriteLink (Standing t) v → to ≡ Standing t
 write_leads Unused x v t is = cc

@@ -4,6 +4,7 @@ pub mod Condition
 pub mod Scanning
 pub mod Disabling
 pub mod Steps
+pub mod Calculation
 pub mod CommonFields
 pub mod Parts
 pub mod Drive

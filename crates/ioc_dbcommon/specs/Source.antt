@@ -10,7 +10,7 @@ use Rattle.ioc_dbcommon.specs.declared.link_field.LinkUse.{LinkUse}
 use Rattle.ioc_dbcommon.specs.declared.link_field.LinkUse.TheVariants.{Unused, OwnDevice, Absent, Standing}
 use Rattle.ioc_dbcommon.specs.declared.link_field.StandingLink.{StandingLink}
 use Rattle.ioc_dbcommon.specs.declared.body.Want.{Want}
-use Rattle.ioc_dbcommon.specs.declared.body.Want.TheVariants.{ReadLink, ReadDevice}
+use Rattle.ioc_dbcommon.specs.declared.body.Want.TheVariants.{ReadLink, ReadDevice, ReadInputs}
 use Rattle.ioc_dbcommon.specs.Links.{no_link, use_of}
 
 unfoldable pub new_source : Source
@@ -66,3 +66,13 @@ begins_with (Standing u) t is = cc
 
 pub source_begin_leads : (input : LinkField) (t : StandingLink) → source_begin input ≡ ReadLink (Standing t) → use_of input ≡ Standing t
 source_begin_leads input t is = begins_with (use_of input) t is
+
+begins_alone : (in_use : LinkUse) (t : StandingLink) → begin_by in_use ≢ ReadInputs (Standing t)
+begins_alone Unused t is = cc
+begins_alone OwnDevice t is = cc
+begins_alone Absent t is = cc
+begins_alone (Standing u) t is = cc
+
+-- A type with INP doesn't read several inputs.
+pub source_begins_alone : (input : LinkField) (t : StandingLink) → source_begin input ≢ ReadInputs (Standing t)
+source_begins_alone input t is = begins_alone (use_of input) t is

@@ -3,9 +3,9 @@ use Rattle.std.specs.Prelude.{◌≡◌, Bool, true, false, refl, if◌then◌el
 use Rattle.ioc_dbcommon.specs.declared.link_field.LinkUse.{LinkUse}
 use Rattle.ioc_dbcommon.specs.declared.link_field.LinkUse.TheVariants.{Unused, OwnDevice, Absent, Standing}
 use Rattle.ioc_dbcommon.specs.declared.body.Want.{Want}
-use Rattle.ioc_dbcommon.specs.declared.body.Want.TheVariants.{NoInput, ReadLink, ReadDevice}
+use Rattle.ioc_dbcommon.specs.declared.body.Want.TheVariants.{NoInput, ReadLink, ReadDevice, ReadInputs}
 use Rattle.ioc_dbcommon.specs.declared.body.Need.{Need}
-use Rattle.ioc_dbcommon.specs.declared.body.Need.TheVariants.{Nothing, Link, Device}
+use Rattle.ioc_dbcommon.specs.declared.body.Need.TheVariants.{Nothing, Link, Device, Inputs}
 use Rattle.ioc_dbcommon.specs.declared.body.Output.{Output}
 use Rattle.ioc_dbcommon.specs.declared.body.Output.TheVariants.{NoOutput, WriteLink, WriteDevice, FollowLinks, PostEvent}
 use Rattle.ioc_dbcommon.specs.Source.{begin_by}
@@ -31,12 +31,14 @@ abbrev pub need_of : Want → Need
 need_of NoInput = Nothing
 need_of (ReadLink link) = need_of_link link
 need_of ReadDevice = Device
+need_of (ReadInputs link) = Inputs
 
--- The link that a body reads, if it reads one.
+-- The link that a body reads first, if it reads one.
 abbrev pub link_wanted : Want → LinkUse
 link_wanted (ReadLink link) = link
 link_wanted NoInput = Unused
 link_wanted ReadDevice = Unused
+link_wanted (ReadInputs link) = link
 
 -- Whether there is any output.
 abbrev pub puts_out : Output → Bool

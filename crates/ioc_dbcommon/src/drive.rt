@@ -29,6 +29,45 @@ pub struct Drive {
     pub on_invalid: Ivoa,
 }
 
+/// Returns whether IVOA says that the output is set to IVOV, because of a raised INVALID alarm.
+#[tactic(auto, unfolding(crate::specs::Drive::sets))]
+pub fn sets(on_invalid: Ivoa, condition: &Condition) -> bool
+    ensures { result ≡ sets on_invalid condition.now }
+{
+    match (condition.alarms.new_severity, on_invalid) {
+        (Severity::Invalid, Ivoa::SetOutputToIvov) => true,
+        _ => false,
+    }
+}
+
+/// Returns whether the output is driven. It isn't if an INVALID alarm is raised and IVOA says so.
+#[tactic(auto, unfolding(crate::specs::Drive::drives))]
+pub fn drives(on_invalid: Ivoa, condition: &Condition) -> bool
+    ensures { result ≡ drives on_invalid condition.now }
+{
+    match (condition.alarms.new_severity, on_invalid) {
+        (Severity::Invalid, Ivoa::DontDriveOutputs) => false,
+        _ => true,
+    }
+}
+
+impl LinkBox {
+    /// Writes a value to the output that the link leads to. Returns false, with `output` unchanged, if
+    /// it leads nowhere.
+    #[tactic(auto, unfolding(crate::specs::Drive::written))]
+    pub fn write(&self, value: Value, output: &mut Output) -> bool
+        ensures puts_out { result ≡ puts_out (written self.now value) }
+        ensures output { IsTrue result → output.new ≡ written self.now value }
+    {
+        match self.in_use() {
+            LinkUse::Unused => return false,
+            LinkUse::OwnDevice => *output = Output::WriteDevice(value),
+            link => *output = Output::WriteLink(link, value),
+        }
+        true
+    }
+}
+
 impl Drive {
     /// Creates the fields of a new record.
     #[tactic(auto, unfolding(crate::specs::Drive::new_drive))]
@@ -137,40 +176,26 @@ impl Drive {
     }
 
     /// Returns whether the output is set to IVOV because of a raised INVALID alarm.
-    #[tactic(auto, unfolding(crate::specs::Drive::sets))]
     pub fn sets(&self, condition: &Condition) -> bool
         ensures { result ≡ sets self.now.on_invalid condition.now }
     {
-        match (condition.alarms.new_severity, self.on_invalid) {
-            (Severity::Invalid, Ivoa::SetOutputToIvov) => true,
-            _ => false,
-        }
+        sets(self.on_invalid, condition)
     }
 
     /// Returns whether the output is driven. It isn't if an INVALID alarm is raised and IVOA says
     /// so.
-    #[tactic(auto, unfolding(crate::specs::Drive::drives))]
     pub fn drives(&self, condition: &Condition) -> bool
         ensures { result ≡ drives self.now.on_invalid condition.now }
     {
-        match (condition.alarms.new_severity, self.on_invalid) {
-            (Severity::Invalid, Ivoa::DontDriveOutputs) => false,
-            _ => true,
-        }
+        drives(self.on_invalid, condition)
     }
 
     /// Writes a value to the output that OUT leads to. Returns false, with `output` unchanged, if
     /// OUT leads nowhere.
-    #[tactic(auto, unfolding(crate::specs::Drive::written))]
     pub fn write(&self, value: Value, output: &mut Output) -> bool
         ensures puts_out { result ≡ puts_out (written self.now.output value) }
         ensures output { IsTrue result → output.new ≡ written self.now.output value }
     {
-        match self.output.in_use() {
-            LinkUse::Unused => return false,
-            LinkUse::OwnDevice => *output = Output::WriteDevice(value),
-            link => *output = Output::WriteLink(link, value),
-        }
-        true
+        self.output.write(value, output)
     }
 }

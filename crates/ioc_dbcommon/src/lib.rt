@@ -4,6 +4,7 @@
 
 pub mod body;
 pub mod body_box;
+pub mod calculation;
 pub mod common;
 pub mod common_fields;
 pub mod condition;
@@ -20,17 +21,19 @@ pub mod source;
 
 pub use body::{Got, InputKind, Need, Output, Want};
 pub use body_box::{BodyBox, Fresh};
+pub use calculation::Calculation;
 pub use common::{Common, disable_kind};
 pub use condition::Condition;
 pub use constant::constant_in;
 pub use disabling::Disabling;
-pub use drive::Drive;
+pub use drive::{Drive, drives, sets};
 pub use laws::numbers_are_awaited_once;
 pub use link_box::LinkBox;
 pub use link_field::{FieldAddress, Lead, LinkField, LinkUse, StandingLink};
 pub use parts::{
-    double_in, int64_in, ivoa_in, linr_in, long_in, oif_in, omsl_in, pini_in, priority_in, scan_in,
-    severity_in, short_in, state_in, text_in, uchar_in, ulong_in, ushort_in,
+    dopt_in, double_in, int64_in, ivoa_in, linr_in, long_in, oif_in, omsl_in, oopt_in, pini_in,
+    priority_in, scan_in, selmode_in, severity_in, short_in, state_in, text_in, uchar_in, ulong_in,
+    ushort_in,
 };
 pub use raw::{raw_came, raw_constant, state_came, state_constant};
 pub use scanning::Scanning;

@@ -1,8 +1,8 @@
 //! The parts of a converted value, by the kind of the field that it is for.
 ghost use Rattle.std.specs.Prelude.{◌≡◌};
-ghost use Rattle.ioc_dbcommon.specs.Parts.{long_in, int64_in, ulong_in, short_in, ushort_in, uchar_in, state_in, double_in, text_in, severity_in, omsl_in, ivoa_in, scan_in, pini_in, priority_in, linr_in, oif_in};
+ghost use Rattle.ioc_dbcommon.specs.Parts.{long_in, int64_in, ulong_in, short_in, ushort_in, uchar_in, state_in, double_in, text_in, severity_in, omsl_in, ivoa_in, scan_in, pini_in, priority_in, linr_in, oif_in, oopt_in, dopt_in, selmode_in};
 
-use ioc_menus::{Ivoa, Linr, Oif, Omsl, Pini, Priority, Scan, Severity};
+use ioc_menus::{Dopt, Ivoa, Linr, Oif, Omsl, Oopt, Pini, Priority, Scan, Selmode, Severity};
 use ioc_values::{Double, Text, Value};
 
 /// Returns the number of a Long.
@@ -187,6 +187,39 @@ pub fn oif_in(value: Value) -> Option<Oif>
 {
     if let Value::Enum(number) = value {
         Oif::from_number(number)
+    } else {
+        None
+    }
+}
+
+/// Returns the OOPT choice of a value.
+pub fn oopt_in(value: Value) -> Option<Oopt>
+    ensures { result ≡ oopt_in value }
+{
+    if let Value::Enum(number) = value {
+        Oopt::from_number(number)
+    } else {
+        None
+    }
+}
+
+/// Returns the DOPT choice of a value.
+pub fn dopt_in(value: Value) -> Option<Dopt>
+    ensures { result ≡ dopt_in value }
+{
+    if let Value::Enum(number) = value {
+        Dopt::from_number(number)
+    } else {
+        None
+    }
+}
+
+/// Returns the SELM choice of a value for a sel.
+pub fn selmode_in(value: Value) -> Option<Selmode>
+    ensures { result ≡ selmode_in value }
+{
+    if let Value::Enum(number) = value {
+        Selmode::from_number(number)
     } else {
         None
     }

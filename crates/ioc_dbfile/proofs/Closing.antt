@@ -11,7 +11,7 @@ use Rattle.ioc_fields.specs.declared.record_type.RecordType.{RecordType}
 use Rattle.ioc_fields.specs.declared.field_no.FieldNo.{FieldNo}
 use Rattle.ioc_fields.specs.Names.{field_of}
 use Rattle.ioc_dbcommon.specs.declared.link_field.FieldAddress.{FieldAddress}
-use Rattle.ioc_fields.specs.Table.{is_link}
+use Rattle.ioc_fields.specs.Table.{kind_of, is_value_kind}
 use Rattle.ioc_dbcommon.specs.declared.link_field.LinkField.{LinkField}
 use Rattle.ioc_dbcommon.specs.Links.{use_of, use_as, database_use, device_use, named_by, named_by_field, named_by_all}
 use Rattle.ioc_record.specs.Laws.{IsLawful}
@@ -49,13 +49,13 @@ slice_get-within [] i x e = cc
 slice_get-within (y ∷ ys) zero x e = omega arith
 slice_get-within (y ∷ ys) (suc i) x e = let within = slice_get-within ys i x e in omega arith
 
-test_below : (n limit : ℕ) (field : FieldNo) (t : Bool) → n < limit → StandsBelow limit (cond t None (Some (record { number = n; field = field })))
-test_below n limit field true lt = tt
-test_below n limit field false lt = lt
+test_below : (n limit : ℕ) (field : FieldNo) (t : Bool) → n < limit → StandsBelow limit (cond t (Some (record { number = n; field = field })) None)
+test_below n limit field true lt = lt
+test_below n limit field false lt = tt
 
 field_below : (n limit : ℕ) (type : RecordType) (o : Option FieldNo) → n < limit → StandsBelow limit (target_field n type o)
 field_below n limit type None lt = tt
-field_below n limit type (Some field) lt = test_below n limit field (is_link type field) lt
+field_below n limit type (Some field) lt = test_below n limit field (is_value_kind (kind_of type field)) lt
 
 record_below : (types : List RecordType) (n : ℕ) (name : List ℕ) (o : Option RecordType) → slice_get types n ≡ o → StandsBelow (length types) (target_in n name o)
 record_below types n name None e = tt

@@ -1,9 +1,12 @@
 -- A loaded database is quiet: new records are idle, and stay so when a field is set and when the
 -- load ends.
 use Rattle.std.proofs.Common.{◌≡◌, ℕ, zero, suc, ◌+◌, Bool, true, false, cond, List, [], ◌∷◌, ◌++◌, map, Option, Some, None, Result, Ok, Err, IsTrue, refl, sym, ap, subst, ◌∙◌, arith}
-use Rattle.std.specs.Prelude.{◌<◌, All, length, slice_get, slice_set, is_some, unwrap_or}
+use Rattle.std.specs.Prelude.{◌<◌, OnErr, All, length, slice_get, slice_set, is_some, unwrap_or}
 use Rattle.ioc_values.specs.declared.value.Value.{Value}
 use Rattle.ioc_values.specs.declared.error.IocError.{IocError}
+use Rattle.ioc_values.specs.declared.error.BadDbKind.{BadDbKind}
+use Rattle.ioc_calc.specs.declared.compiling.CalcFaultKind.{CalcFaultKind}
+use Rattle.ioc_dbcommon.specs.Calculation.{calculation_of}
 use Rattle.ioc_names.specs.NameTable.{NameTable}
 use Rattle.ioc_links.specs.declared.link.Link.{Link}
 use Rattle.ioc_links.specs.Grammar.{link_of}
@@ -13,13 +16,13 @@ use Rattle.ioc_fields.specs.declared.field_kind.FieldKind.{FieldKind}
 use Rattle.ioc_fields.specs.declared.field_kind.FieldKind.TheVariants as kind
 use Rattle.ioc_fields.specs.declared.row.Row.{Row}
 use Rattle.ioc_fields.specs.Kinds.{link_kind_of}
-use Rattle.ioc_fields.specs.Table.{row_of}
+use Rattle.ioc_fields.specs.Table.{row_of, kind_of}
 use Rattle.ioc_dbcommon.specs.declared.link_field.LinkField.{LinkField}
 use Rattle.ioc_dbcommon.specs.declared.link_field.Lead.TheVariants.{Nowhere}
 use Rattle.ioc_dbcommon.specs.Steps.{new_common}
 use Rattle.ioc_dbcommon.specs.declared.common.Common.{Common}
 use Rattle.ioc_record.specs.Values.{field_sort, stored_if}
-use Rattle.ioc_record.specs.Loading.{constant_fits, set_value, link_set_to, set_by_kind, set_by, set_field}
+use Rattle.ioc_record.specs.Loading.{constant_fits, set_value, link_set_to, set_by_kind, set_by, set_field, calculation_set}
 use Rattle.ioc_record.specs.Laws.{IsLawful}
 use Rattle.ioc_record.specs.RecordRules.{RecordRules}
 use Rattle.rec_types.specs.Record.{Record, record_rules, new_record}
@@ -29,8 +32,11 @@ use Rattle.ioc_store.specs.OneMapLaws.{get-numbered}
 use Rattle.ioc_store.specs.World.{at, common_at}
 use Rattle.ioc_process.specs.Rules.{IsQuiet}
 use Rattle.ioc_dbfile.specs.Finished.{with_standing, linked, linked_all, finished, by_place, Owner}
-use Rattle.ioc_dbfile.specs.Loader.{set_at}
+use Rattle.ioc_dbfile.specs.Loader.{Loading, set_at, set_to, with_set, value_outcome, expression_outcome, holds_expression}
 use Rattle.ioc_dbfile.specs.Idle.{IsIdle, AllIdle}
+use Rattle.ioc_dbparse.specs.declared.builder.BuildError.{BuildError}
+use Rattle.ioc_dbparse.specs.declared.builder.BuildError.TheVariants.{Memory, Refused}
+use Rattle.ioc_dbparse.specs.Rules.{Builds}
 
 module _ {R : Type 0} (k : RecordRules R) where
   pub all-append : (rs : List R) (r : R) → AllIdle k rs → IsIdle k r → AllIdle k (rs ++ r ∷ [])
@@ -62,6 +68,10 @@ module _ {R : Type 0} (k : RecordRules R) where
   IdleIfMade (Ok r) = IsIdle k r
   IdleIfMade (Err e) = Unit {0}
 
+  abbrev IdleIfSet : Result R BadDbKind → Type 0
+  IdleIfSet (Ok r) = IsIdle k r
+  IdleIfSet (Err kind) = Unit {0}
+
   module _ (lawful : IsLawful k) where
     link-idle : (r : R) (f : FieldNo) (l : LinkField) → IsIdle k r → IsIdle k (k.with_link r f l)
     link-idle r f l idle = record { active = lawful.link_set_active r f l ∙ idle.active; pending = lawful.link_set_pending r f l ∙ idle.pending; free = ap (λ (c : Common). c.notification) (lawful.link_set_common r f l) ∙ idle.free }
@@ -81,6 +91,7 @@ module _ {R : Type 0} (k : RecordRules R) where
     kind-idle : (r : R) (f : FieldNo) (text : List ℕ) (kind : FieldKind) → IsIdle k r → IdleIfMade (set_by_kind k r f text kind)
     unfolding set_by_kind
     kind-idle r f text (kind.Link role) idle = link_set-idle r f (link_of (link_kind_of role) text) idle
+    kind-idle r f text kind.Expression idle = tt
     kind-idle r f text other idle = stored-idle r f (set_value (field_sort (k.states r) other) text) idle
 
     can-idle : (can : Bool) (o : Result R IocError) (e : IocError) → IdleIfMade o → IdleIfMade (cond can o (Err e))
@@ -95,9 +106,35 @@ module _ {R : Type 0} (k : RecordRules R) where
     unfolding set_field
     set-idle r f text idle = row-idle r f text (row_of (k.record_type r) f) idle
 
+    value-idle : (o : Result R IocError) → IdleIfMade o → IdleIfSet (value_outcome k o)
+    value-idle (Ok r) idle = idle
+    value-idle (Err e) idle = tt
+
+    expression-idle : (r : R) (f : FieldNo) (o : Result (List ℕ) CalcFaultKind) → IsIdle k r → IdleIfSet (expression_outcome k (calculation_set k r f o))
+    expression-idle r f (Ok c) idle = record {
+      active = ap (λ (c : Common). c.active) (lawful.calculated_common r f c) ∙ idle.active;
+      pending = ap (λ (c : Common). c.pending) (lawful.calculated_common r f c) ∙ idle.pending;
+      free = ap (λ (c : Common). c.notification) (lawful.calculated_common r f c) ∙ idle.free;
+    }
+    expression-idle r f (Err fault) idle = tt
+
+    either-idle : (holds : Bool) (o p : Result R BadDbKind) → IdleIfSet o → IdleIfSet p → IdleIfSet (cond holds o p)
+    either-idle true o p one other = one
+    either-idle false o p one other = other
+
+    to-idle : (r : R) (f : FieldNo) (text : List ℕ) → IsIdle k r → IdleIfSet (set_to k r f text)
+    unfolding set_to
+    to-idle r f text idle = either-idle (holds_expression (kind_of (k.record_type r) f)) _ _ (expression-idle r f (calculation_of text) idle) (value-idle _ (set-idle r f text idle))
+
     -- Setting a field leaves a record idle.
-    pub set_field-idle : (r r' : R) (f : FieldNo) (text : List ℕ) → set_field k r f text ≡ Ok r' → IsIdle k r → IsIdle k r'
-    set_field-idle r r' f text is idle = subst IdleIfMade is (set-idle r f text idle)
+    pub set_to-idle : (r r' : R) (f : FieldNo) (text : List ℕ) → set_to k r f text ≡ Ok r' → IsIdle k r → IsIdle k r'
+    set_to-idle r r' f text is idle = subst IdleIfSet is (to-idle r f text idle)
+
+    -- So does a field that couldn't be set.
+    pub built-idle : {X : Type 0} (result : Result X BuildError) (old new : R) (f : FieldNo) (text : List ℕ) → Builds (λ _. new) result (set_to k old f text)
+        → OnErr result (new ≡ old) → IsIdle k old → IsIdle k new
+    built-idle (Ok x) old new f text built same idle = set_to-idle old new f text built idle
+    built-idle (Err e) old new f text built same idle = subst (IsIdle k) (sym same) idle
 
     module _ (names : NameTable) (types : List RecordType) (owner : Owner) where
       standing-idle : (n : ℕ) (r : R) (f : FieldNo) (o : Option LinkField) → IsIdle k r → IsIdle k (with_standing k names types owner n r f o)
@@ -124,10 +161,18 @@ module _ {R : Type 0} (k : RecordRules R) where
       all-finished n (r ∷ rs) idle = (finished-idle n r idle.0, all-finished (n + 1) rs idle.1)
 
 -- Setting a field of one record leaves the other records as they are.
-pub set-made : (names : NameTable) (items : List Record) (n : ℕ) (f : FieldNo) (text : List ℕ) (old new : Record) → slice_get items n ≡ Some old → set_field record_rules old f text ≡ Ok new
-    → set_at record_rules new_record n f text (record { names = names; records = items }) ≡ Ok (record { names = names; records = slice_set items n new })
+pub set-made : (names : NameTable) (items : List Record) (n : ℕ) (f : FieldNo) (text : List ℕ) (old : Record) → slice_get items n ≡ Some old
+    → set_at record_rules new_record n f text (record { names = names; records = items })
+    ≡ with_set record_rules new_record (record { names = names; records = items }) n (set_to record_rules old f text)
 unfolding set_at
-set-made names items n f text old new is made = rw (is, made) refl
+set-made names items n f text old is = rw is refl
+
+pub set-built : {X : Type 0} (result : Result X BuildError) (names : NameTable) (items : List Record) (n : ℕ) (f : FieldNo) (text : List ℕ) (old new : Record) → slice_get items n ≡ Some old
+    → Builds (λ _. new) result (set_to record_rules old f text)
+    → Builds {Y = Loading Record} (λ _. record { names = names; records = slice_set items n new }) result (set_at record_rules new_record n f text (record { names = names; records = items }))
+set-built (Ok x) names items n f text old new is built = set-made names items n f text old is ∙ ap (with_set record_rules new_record (record { names = names; records = items }) n) built
+set-built (Err Memory) names items n f text old new is built = tt
+set-built (Err (Refused kind)) names items n f text old new is built = set-made names items n f text old is ∙ ap (with_set record_rules new_record (record { names = names; records = items }) n) built
 
 -- A new record is idle.
 pub new-idle : (type : RecordType) (name : List ℕ) → IsIdle record_rules (new_record type name)

@@ -12,7 +12,7 @@ use Rattle.ioc_dbcommon.specs.declared.link_field.LinkField.{LinkField}
 use Rattle.ioc_dbcommon.specs.declared.link_field.FieldAddress.{FieldAddress}
 use Rattle.ioc_dbcommon.specs.declared.link_field.Lead.{Lead}
 use Rattle.ioc_dbcommon.specs.declared.link_field.Lead.TheVariants.{Nowhere, Field}
-use Rattle.ioc_fields.specs.Table.{is_link}
+use Rattle.ioc_fields.specs.Table.{kind_of, is_value_kind}
 use Rattle.ioc_record.specs.RecordRules.{RecordRules}
 use Rattle.ioc_values.specs.declared.error.DbFault.{DbFault}
 use Rattle.ioc_dbparse.specs.Statements.{◌>>=◌}
@@ -21,10 +21,10 @@ use Rattle.ioc_dblex.specs.Macros.{Defined}
 use Rattle.ioc_dbparse.specs.Loading.{filled_by}
 use Rattle.ioc_dbfile.specs.Owners.{owner_of, device_lead}
 
--- The field as the target of a link, if it exists and is no link field itself.
+-- The field as the target of a link, if it exists and has a value: it is neither a link field itself nor an expression.
 abbrev pub target_field : ℕ → RecordType → Option FieldNo → Option FieldAddress
 target_field n type None = None
-target_field n type (Some field) = if is_link type field then None else Some (record { number = n; field = field })
+target_field n type (Some field) = if is_value_kind (kind_of type field) then Some (record { number = n; field = field }) else None
 
 -- The field with this name in a record of this type, as the target of a link.
 abbrev pub target_in : ℕ → List ℕ → Option RecordType → Option FieldAddress

@@ -1,12 +1,14 @@
 -- A database that is being loaded: its names, and its records by number. EPICS Application
 -- Developer's Guide, "Database Definition", "Record Instance Definition".
-use Rattle.std.specs.Prelude.{ℕ, Bool, nat_eq, List, [], ◌∷◌, ◌++◌, Option, Some, None, Result, Ok, Err, nat_lt, slice_get, slice_set, refl, if◌then◌else◌}
+use Rattle.std.specs.Prelude.{ℕ, Bool, true, false, nat_eq, List, [], ◌∷◌, ◌++◌, Option, Some, None, Result, Ok, Err, nat_lt, slice_get, slice_set, refl, if◌then◌else◌}
 use Rattle.std.specs.Cmp.Lexicographic.{pointwise}
 use Rattle.std.specs.Coded.{Coded, code_by, coded×, coded_list}
 use Rattle.ioc_values.specs.declared.error.BadDbKind.{BadDbKind}
 use Rattle.ioc_values.specs.declared.error.BadDbKind.TheVariants as kinds
 use Rattle.ioc_values.specs.declared.error.IocError.{IocError}
 use Rattle.ioc_values.specs.declared.error.IocError.TheVariants as refusals
+use Rattle.ioc_calc.specs.declared.compiling.CalcFaultKind.{CalcFaultKind}
+use Rattle.ioc_calc.specs.declared.compiling.CalcFaultKind.TheVariants.{Bad, LeftOut}
 use Rattle.ioc_dbparse.specs.declared.builder.BuildError.{BuildError}
 use Rattle.ioc_dbparse.specs.declared.builder.BuildError.TheVariants.{Memory, Refused}
 use Rattle.ioc_names.specs.NameTable.{NameTable, table_code, number_of, added, aliased}
@@ -15,9 +17,12 @@ use Rattle.ioc_fields.specs.declared.record_type.RecordType.{RecordType}
 use Rattle.ioc_fields.specs.declared.field_no.FieldNo.{FieldNo}
 use Rattle.ioc_fields.specs.Types.{type_name, type_of}
 use Rattle.ioc_fields.specs.Names.{field_of}
-use Rattle.ioc_fields.specs.Table.{can_set}
+use Rattle.ioc_fields.specs.declared.field_kind.FieldKind.{FieldKind}
+use Rattle.ioc_fields.specs.declared.field_kind.FieldKind.TheVariants.{Expression}
+use Rattle.ioc_fields.specs.Table.{can_set, kind_of}
+use Rattle.ioc_dbcommon.specs.Calculation.{calculation_of}
 use Rattle.ioc_record.specs.RecordRules.{RecordRules}
-use Rattle.ioc_record.specs.Loading.{set_field}
+use Rattle.ioc_record.specs.Loading.{set_field, calculation_set}
 use Rattle.ioc_dbparse.specs.Rules.{Rules}
 
 -- The names, and the records by their numbers.
@@ -46,10 +51,38 @@ kind_of_refusal refusals.NoMod = kinds.NoMod
 kind_of_refusal refusals.BadLink = kinds.BadLink
 kind_of_refusal _ = kinds.BadValue
 
+-- The fault of a database text in which an expression can't be set.
+abbrev pub kind_of_fault : CalcFaultKind → BadDbKind
+kind_of_fault Bad = kinds.BadCalc
+kind_of_fault (LeftOut word) = kinds.CalcLeftOut word
+
+-- Whether a field of this kind holds an expression.
+abbrev pub holds_expression : Option FieldKind → Bool
+holds_expression (Some Expression) = true
+holds_expression _ = false
+
 -- The build error of a field that can't be set: allocation fails, or the text has a fault.
 abbrev pub build_error : IocError → BuildError
 build_error refusals.NoMemory = Memory
 build_error refusal = Refused (kind_of_refusal refusal)
+
+module _ {R : Type 0} (k : RecordRules R) where
+  -- The record with a value set, or why the text isn't one of the field's.
+  abbrev pub value_outcome : Result R IocError → Result R BadDbKind
+  value_outcome (Ok r) = Ok r
+  value_outcome (Err e) = Err (kind_of_refusal e)
+
+  -- The record with an expression set, or why the text is none.
+  abbrev pub expression_outcome : Result R CalcFaultKind → Result R BadDbKind
+  expression_outcome (Ok r) = Ok r
+  expression_outcome (Err fault) = Err (kind_of_fault fault)
+
+  -- The record with a field set to the value of a text: an expression, or any other field.
+  unfoldable pub set_to : R → FieldNo → List ℕ → Result R BadDbKind
+  set_to r field text =
+      if holds_expression (kind_of (k.record_type r) field)
+      then expression_outcome (calculation_set k r field (calculation_of text))
+      else value_outcome (set_field k r field text)
 
 module _ {R : Type 0} (k : RecordRules R) (created : RecordType → List ℕ → R) where
   -- The value of an option, or this fault if there is none.
@@ -105,15 +138,15 @@ module _ {R : Type 0} (k : RecordRules R) (created : RecordType → List ℕ →
   unfoldable pub find_field : ℕ → List ℕ → Loading R → Result FieldNo BadDbKind
   find_field n name s = field_in name (slice_get s.records n)
 
-  -- The records with this one in its place.
-  abbrev pub with_set : Loading R → ℕ → Result R IocError → Result (Loading R) BadDbKind
+  -- The records with this one in its place, if a text has set it.
+  abbrev pub with_set : Loading R → ℕ → Result R BadDbKind → Result (Loading R) BadDbKind
   with_set s n (Ok r) = Ok (record { names = s.names; records = slice_set s.records n r })
-  with_set s n (Err e) = Err (kind_of_refusal e)
+  with_set s n (Err kind) = Err kind
 
   -- The records with a field of this record set.
   abbrev pub set_in : Loading R → ℕ → FieldNo → List ℕ → Option R → Result (Loading R) BadDbKind
   set_in s n field text None = Err kinds.BadValue
-  set_in s n field text (Some r) = with_set s n (set_field k r field text)
+  set_in s n field text (Some r) = with_set s n (set_to k r field text)
 
   -- The records with a field of the record with this number set.
   unfoldable pub set_at : ℕ → FieldNo → List ℕ → Loading R → Result (Loading R) BadDbKind

@@ -1,16 +1,19 @@
 //! The builder of a database from statements.
-ghost use Rattle.std.specs.Prelude.{◌≡◌, ◌↔◌, [], true, IsSome, IfSome, IfOk, slice_get};
+ghost use Rattle.std.specs.Prelude.{◌≡◌, ◌↔◌, [], true, IsSome, IfSome, IfOk, OnErr, slice_get};
 ghost use Rattle.ioc_links.specs.Grammar.{is_record_name};
-ghost use Rattle.ioc_dbfile.specs.Loader.{same_type, kind_of_refusal, build_error};
+ghost use Rattle.ioc_dbfile.specs.Loader.{same_type, kind_of_refusal, build_error, kind_of_fault, holds_expression, set_to};
+ghost use Rattle.ioc_dbparse.specs.Rules.{Builds};
+ghost use Rattle.rec_types.specs.Record.{record_rules};
 ghost use Rattle.ioc_names.specs.NameTable.{no_names};
 
 use crate::database::Database;
 use crate::new_records::push_new;
+use ioc_calc::CalcFaultKind;
 use ioc_dbparse::{BuildError, Builder};
-use ioc_fields::{FieldNo, RecordType, can_set, field};
+use ioc_fields::{FieldKind, FieldNo, RecordType, can_set, field, kind_of};
 use ioc_links::is_record_name;
 use ioc_names::{Entered, Names, RecordNo};
-use ioc_record::{RecordKind, set_field};
+use ioc_record::{RecordKind, set_calculation, set_field};
 use ioc_values::{BadDbKind, IocError, Name};
 use rec_types::Record;
 use std::alloc::{AllocError, Global};
@@ -108,6 +111,41 @@ fn kind_of_refusal(refusal: IocError) -> BadDbKind
     }
 }
 
+/// Returns the fault of a database text in which an expression can't be set.
+fn kind_of_fault(fault: CalcFaultKind) -> BadDbKind
+    ensures { result ≡ kind_of_fault fault }
+{
+    match fault {
+        CalcFaultKind::Bad => BadDbKind::BadCalc,
+        CalcFaultKind::LeftOut(word) => BadDbKind::CalcLeftOut(word),
+    }
+}
+
+/// Returns whether a field of this kind holds an expression.
+fn holds_expression(kind: Option<FieldKind>) -> bool
+    ensures { result ≡ holds_expression kind }
+{
+    matches!(kind, Some(FieldKind::Expression))
+}
+
+/// Sets a field of a record, an expression or any other, to the value of a text.
+#[tactic(auto, unfolding(crate::specs::Loader::set_to))]
+fn set_to(alloc: Global, record: &mut Record, field: FieldNo, text: &[u8]) -> Result<(), BuildError>
+    ensures built { Builds (λ _. «record».new) result (set_to record_rules «record».old field text.now) }
+    ensures same { OnErr result («record».new ≡ «record».old) }
+{
+    if holds_expression(kind_of(record.record_type(), field)) {
+        return match set_calculation(record, field, text) {
+            Ok(()) => Ok(()),
+            Err(fault) => Err(BuildError::Refused(kind_of_fault(fault))),
+        };
+    }
+    match set_field(alloc, record, field, text) {
+        Ok(()) => Ok(()),
+        Err(refusal) => Err(build_error(refusal)),
+    }
+}
+
 #[tactic(auto, unfolding(crate::specs::Loader::find_record, crate::specs::Loader::add_record, crate::specs::Loader::alias_record, crate::specs::Loader::find_field, crate::specs::Loader::set_at, crate::specs::Loader::most_records))]
 impl Builder for DatabaseBuilder {
     ghost use Rattle.ioc_dbfile.specs.Loader.{loading};
@@ -181,10 +219,7 @@ impl Builder for DatabaseBuilder {
         if place >= self.records.len() {
             return Err(BuildError::Refused(BadDbKind::BadValue));
         }
-        if let Err(refusal) = set_field(self.alloc, &mut self.records[place], field, value) {
-            return Err(build_error(refusal));
-        }
-        Ok(())
+        set_to(self.alloc, &mut self.records[place], field, value)
     }
 }
 

@@ -1,7 +1,7 @@
 //! The end of a load, which resolves links and puts constants.
 ghost use Rattle.std.specs.Prelude.{◌≡◌, Some, IfOk, OnOk, map};
 ghost use Rattle.rec_types.specs.Record.{record_rules};
-ghost use Rattle.ioc_fields.specs.Table.{is_link_kind};
+ghost use Rattle.ioc_fields.specs.Table.{is_value_kind};
 ghost use Rattle.ioc_dbfile.specs.Finished.{target_in, standing_of, leads_to, linked, linked_all, finished, by_place};
 ghost use Rattle.ioc_dbfile.specs.Owners.{owner_of};
 ghost use Rattle.ioc_dbfile.specs.OwnerTable.{owner_in};
@@ -22,26 +22,27 @@ struct Whole {
     owners: Owners,
 }
 
-fn is_link(kind: Option<FieldKind>) -> bool
-    ensures { result ≡ is_link_kind kind }
+// Returns whether a field of this kind has a value.
+fn has_value(kind: Option<FieldKind>) -> bool
+    ensures { result ≡ is_value_kind kind }
 {
-    matches!(kind, Some(FieldKind::Link(_)))
+    !matches!(kind, Some(FieldKind::Link(_) | FieldKind::Expression))
 }
 
 /// Returns the field with this name, in a record of this type and number, as the target of a link,
-/// or `None` if there is no such field or it is a link field itself.
+/// or `None` if there is no such field or it has no value, being a link field itself or an expression.
 pub fn target_field(number: RecordNo, record_type: RecordType, name: &[u8]) -> Option<FieldAddress>
     ensures { result ≡ target_in number name.now (Some record_type) }
 {
     let field = field(record_type, name)?;
-    if is_link(kind_of(record_type, field)) {
+    if !has_value(kind_of(record_type, field)) {
         return None;
     }
     Some(FieldAddress { number, field })
 }
 
 /// Returns the field that a database link leads to, or `None` if the record or field doesn't exist
-/// or the field is a link field.
+/// or the field has no value.
 #[tactic(auto, unfolding(crate::specs::Finished::standing_of))]
 fn standing_of(names: &Names, types: &[RecordType], target: &Target) -> Option<FieldAddress>
     ensures { result ≡ standing_of names.now types.now target.now }

@@ -133,7 +133,7 @@ module _ {R : Type 0} (k : RecordRules R) (lawful : IsLawful k) where
       link = λ good target links. tt;
       common = λ {n} {r} good c _. lawful.type_set r c ∙ good;
       taken = λ {n} {r} good got. lawful.taken_type r got ∙ good;
-      posted = λ {n} {r} good. lawful.posted_type r ∙ good;
+      posted = λ {n} {r} good changes. lawful.posted_type r changes ∙ good;
       finished = λ {n} {r} good x. lawful.finished_type r x ∙ good;
       stored = λ {n} {r} good f v. lawful.stored_type r f v ∙ good;
       put = λ inv n _ r good _. (ap (λ (w : World R). put w n r) inv.0, same-put w0 _ n r good inv.1);

@@ -17,7 +17,7 @@ use ioc_topology::Locked;
 use ioc_values::{IocError, Value};
 use std::sync::Wait;
 
-/// What a look shows of a field: its text, and its value, which a link has not.
+/// What a look shows of a field: its text, and its value, which a link and an expression have not.
 #[derive(Clone, Copy)]
 pub struct FieldSeen {
     pub text: FieldText,

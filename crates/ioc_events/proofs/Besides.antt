@@ -157,7 +157,7 @@ module _ {R : Type 0} (k : RecordRules R) (mine : ℕ → Bool) (w0 v0 : World R
     link = λ good target links. good target links;
     common = λ good c same target links. good target (subst (λ (x : List ℕ). Contains x target) (targets-set k lawful _ c same) links);
     taken = λ good got target links. good target (subst (λ (x : List ℕ). Contains x target) (targets-taken k lawful _ got) links);
-    posted = λ good target links. good target (subst (λ (x : List ℕ). Contains x target) (targets-posted k lawful _) links);
+    posted = λ good changes target links. good target (subst (λ (x : List ℕ). Contains x target) (targets-posted k lawful _ changes) links);
     finished = λ good x target links. good target (subst (λ (l : List ℕ). Contains l target) (targets-finished k lawful _ x) links);
     stored = λ good f x target links. good target (subst (λ (l : List ℕ). Contains l target) (targets-stored k lawful _ f x) links);
     put = λ {w} {v} inv n may r good _. put_along w v inv n may r good;

@@ -145,7 +145,7 @@ module _ {R : Type 0} (k : RecordRules R) (lawful : IsLawful k) (w0 : World R) (
         link = λ {n} {r} good target links. g.link good target links;
         common = λ {n} {r} good c same. g.common good c same;
         taken = λ {n} {r} good got. g.taken good got;
-        posted = λ {n} {r} good. g.posted good;
+        posted = λ {n} {r} good changes. g.posted good changes;
         finished = λ {n} {r} good x. g.finished good x;
         stored = λ {n} {r} good f v. g.stored good f v;
         put = λ {w} {v} inv n may r good same. (g.put inv.0 n may r good same, carried-alike w _ (alike-put k lawful w n r (inv.0.1.has n may) same) inv.1);

@@ -83,7 +83,7 @@ module _ {R : Type 0} (k : RecordRules R) (lawful : IsLawful k) where
     link = λ good target links. tt;
     common = λ good c same. tt;
     taken = λ good got. tt;
-    posted = λ good. tt;
+    posted = λ good changes. tt;
     finished = λ good x. tt;
     stored = λ good f v. tt;
     put = λ inv n may r good _. (ap (λ (w : World R). put w n r) inv.0, inv.1);

@@ -26,7 +26,7 @@ use ioc_store::trace_step::TraceStep;
 use ioc_values::{Finished, IocError};
 
 // Returns whether VAL is process-passive: it is tested by the type alone, without its row.
-#[tactic(auto, unfolding(ioc_fields::specs::Table::is_process_passive, ioc_fields::specs::Table::row_of, ioc_fields::specs::Table::own_row, ioc_fields::specs::Table::numeric_input_row, ioc_fields::specs::Table::numeric_output_row, ioc_fields::specs::Table::output_row, ioc_fields::specs::Table::numeric_row, ioc_fields::specs::Table::bi_row, ioc_fields::specs::Table::bo_row, ioc_fields::specs::Table::two_state_row, ioc_fields::specs::Table::mbbi_row, ioc_fields::specs::Table::mbbo_row, ioc_fields::specs::Table::multi_state_row, ioc_fields::specs::Table::text_row, ioc_fields::specs::Table::text_input_row, ioc_fields::specs::Table::stringout_row, ioc_fields::specs::Table::fanout_row, ioc_fields::specs::Table::analog_row, ioc_fields::specs::Table::scale_row, ioc_fields::specs::Table::ai_row, ioc_fields::specs::Table::ao_row))]
+#[tactic(auto, unfolding(ioc_fields::specs::Table::is_process_passive, ioc_fields::specs::Table::row_of, ioc_fields::specs::Table::own_row, ioc_fields::specs::Table::numeric_input_row, ioc_fields::specs::Table::numeric_output_row, ioc_fields::specs::Table::output_row, ioc_fields::specs::Table::numeric_row, ioc_fields::specs::Table::bi_row, ioc_fields::specs::Table::bo_row, ioc_fields::specs::Table::two_state_row, ioc_fields::specs::Table::mbbi_row, ioc_fields::specs::Table::mbbo_row, ioc_fields::specs::Table::multi_state_row, ioc_fields::specs::Table::text_row, ioc_fields::specs::Table::text_input_row, ioc_fields::specs::Table::stringout_row, ioc_fields::specs::Table::fanout_row, ioc_fields::specs::Table::analog_row, ioc_fields::specs::Table::scale_row, ioc_fields::specs::Table::ai_row, ioc_fields::specs::Table::ao_row, ioc_fields::specs::Table::calc_row, ioc_fields::specs::Table::calcout_row, ioc_fields::specs::Table::sel_row))]
 fn val_is_passive(record_type: RecordType) -> bool
     ensures { result ≡ is_process_passive record_type (Own Val) }
 {
@@ -45,6 +45,7 @@ fn val_is_passive(record_type: RecordType) -> bool
         | RecordType::Event
         | RecordType::Ai
         | RecordType::Ao => true,
+        RecordType::Calc | RecordType::Calcout | RecordType::Sel => false,
     }
 }
 

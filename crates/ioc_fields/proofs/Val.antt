@@ -6,11 +6,11 @@ use Rattle.ioc_fields.specs.declared.field_no.OwnField.TheVariants.{Val}
 use Rattle.ioc_fields.specs.declared.record_type.RecordType.{RecordType}
 use Rattle.ioc_fields.specs.declared.record_type.RecordType.TheVariants.{Longin}
 use Rattle.ioc_fields.specs.Names.{own_name, field_of, IsFieldNamed}
-use Rattle.ioc_fields.specs.Table.{row_of, own_row, numeric_row, numeric_input_row, numeric_output_row, output_row, two_state_row, bi_row, bo_row, multi_state_row, mbbi_row, mbbo_row, text_row, text_input_row, stringout_row, fanout_row, analog_row, scale_row, ai_row, ao_row}
+use Rattle.ioc_fields.specs.Table.{row_of, own_row, numeric_row, numeric_input_row, numeric_output_row, output_row, two_state_row, bi_row, bo_row, multi_state_row, mbbi_row, mbbo_row, text_row, text_input_row, stringout_row, fanout_row, analog_row, scale_row, ai_row, ao_row, input_slot_row, inputs_row, calc_row, calcout_row, sel_row}
 use Rattle.ioc_fields.proofs.Fields.{field_of-exact}
 
 has_val : (type : RecordType) → IsSome (row_of type (Own Val))
-unfolding row_of own_row numeric_row numeric_input_row numeric_output_row output_row two_state_row bi_row bo_row multi_state_row mbbi_row mbbo_row text_row text_input_row stringout_row fanout_row analog_row scale_row ai_row ao_row
+unfolding row_of own_row numeric_row numeric_input_row numeric_output_row output_row two_state_row bi_row bo_row multi_state_row mbbi_row mbbo_row text_row text_input_row stringout_row fanout_row analog_row scale_row ai_row ao_row input_slot_row inputs_row calc_row calcout_row sel_row
 has_val Longin = refl
 has_val _ = refl
 

@@ -6,7 +6,7 @@ use Rattle.std.specs.Str.{bytes_eq}
 use Rattle.ioc_fields.specs.declared.field_no.FieldNo.{FieldNo}
 use Rattle.ioc_fields.specs.declared.record_type.RecordType.{RecordType}
 use Rattle.ioc_fields.specs.declared.record_type.RecordType.TheVariants.{Fanout}
-use Rattle.ioc_fields.specs.Names.{common_name, own_name, link_name, name_of}
+use Rattle.ioc_fields.specs.Names.{common_name, own_name, link_name, input_name, name_of}
 use Rattle.ioc_fields.specs.LinkFields.{link_fields}
 
 -- Holds if no two fields of the list have the same name.
@@ -45,7 +45,7 @@ once (g ∷ gs) apart (suc m) (suc n) f at again =
     ap suc (once gs (not_and (list_any (λ x. bytes_eq (name_of g) (name_of x)) gs) (are_named_apart gs) apart).1 m n f at again)
 
 links_named_apart : (type : RecordType) → are_named_apart (link_fields type) ≡ true
-unfolding are_named_apart link_fields common_name own_name link_name
+unfolding are_named_apart link_fields common_name own_name link_name input_name
 links_named_apart Fanout = refl
 links_named_apart _ = refl
 

@@ -35,15 +35,16 @@ macro_rules! field_array {
 
 pub(crate) use field_array;
 
-static FIELDS: [FieldNo; 147] = field_array![
+static FIELDS: [FieldNo; 200] = field_array![
     common:
         Name Desc Asg Dtyp Scan Pini Phas Evnt Tse Disv Disa Sdis Diss Proc Disp Prio Udf Udfs Flnk
         Stat Sevr Nsta Nsev Lcnt Pact Putf Rpro Time;
     own:
         Val Inp Out Dol Omsl Drvh Drvl Ivoa Ivov Rval Mask Shft Nobt Znam Onam Zsv Osv Unsv Cosv
         Lalm Selm Seln Sell Offs Hihi Lolo High Low Hhsv Llsv Hsv Lsv Hyst Adel Mdel Hopr Lopr Egu
-        Prec Mlst Alst Linr Eguf Egul Eslo Aslo Eoff Aoff Roff Smoo Init Oif Oroc Oval Pval;
-    slots: StateValue StateText StateSeverity Lnk
+        Prec Mlst Alst Linr Eguf Egul Eslo Aslo Eoff Aoff Roff Smoo Init Oif Oroc Oval Pval
+        Nvl Calc Ocal Oopt Dopt;
+    slots: StateValue StateText StateSeverity Lnk Letter LastLetter InputLink
 ];
 
 // Returns every field of every type.

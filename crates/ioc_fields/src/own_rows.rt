@@ -1,9 +1,9 @@
 //! The rows of the type-specific fields, by the groups of types that share them.
 ghost use Rattle.std.specs.Prelude.{◌≡◌};
-ghost use Rattle.ioc_fields.specs.Table.{numeric_row, input_row, output_row_with, numeric_output_row, state_row, two_state_row, multi_state_row, text_row, fanout_row, analog_row, scale_row, ai_row, ao_row, own_row};
+ghost use Rattle.ioc_fields.specs.Table.{numeric_row, input_row, output_row_with, numeric_output_row, state_row, two_state_row, multi_state_row, text_row, fanout_row, analog_row, scale_row, ai_row, ao_row, input_slot_row, inputs_row, calc_row, calcout_row, sel_row, own_row};
 
 use crate::field_kind::{FieldKind, LinkRole};
-use crate::field_no::OwnField;
+use crate::field_no::{FieldSlot, OwnField};
 use crate::record_type::RecordType;
 use crate::row::Row;
 use ioc_menus::Menu;
@@ -138,8 +138,8 @@ fn fanout_row(field: OwnField) -> Option<Row>
     })
 }
 
-// Returns the row of a field that ai and ao share: the value, its limits and deadbands, and how it is
-// shown.
+// Returns the row of a field that the analog types share: the value, its limits and deadbands, and how
+// it is shown.
 #[tactic(auto, unfolding(crate::specs::Table::analog_row))]
 fn analog_row(field: OwnField) -> Option<Row>
     ensures { result ≡ analog_row field }
@@ -205,6 +205,73 @@ fn ao_row(field: OwnField) -> Option<Row>
     }
 }
 
+// Returns the row of a field of one of the first twelve slots: there are twelve inputs.
+#[tactic(auto, unfolding(crate::specs::Table::input_slot_row))]
+fn input_slot_row(slot: FieldSlot, row: Row) -> Option<Row>
+    ensures { result ≡ input_slot_row slot row }
+{
+    if slot.index() < 12 { Some(row) } else { None }
+}
+
+// Returns the row of a field that calc, calcout and sel share: the inputs with their values, and the
+// fields of VAL, which isn't one of them.
+#[tactic(auto, unfolding(crate::specs::Table::inputs_row))]
+fn inputs_row(field: OwnField) -> Option<Row>
+    ensures { result ≡ inputs_row field }
+{
+    match field {
+        OwnField::InputLink(slot) => {
+            input_slot_row(slot, Row::link(LinkRole::InputWithoutDevice))
+        }
+        OwnField::Letter(slot) => input_slot_row(slot, Row::passive(FieldKind::Double)),
+        OwnField::LastLetter(slot) => input_slot_row(slot, Row::fixed(FieldKind::Double)),
+        _ => analog_row(field),
+    }
+}
+
+// Returns the row of a type-specific field of calc.
+#[tactic(auto, unfolding(crate::specs::Table::calc_row))]
+fn calc_row(field: OwnField) -> Option<Row>
+    ensures { result ≡ calc_row field }
+{
+    match field {
+        OwnField::Val => Some(Row::plain(FieldKind::Double)),
+        OwnField::Calc => Some(Row::given(FieldKind::Expression)),
+        _ => inputs_row(field),
+    }
+}
+
+// Returns the row of a type-specific field of calcout.
+#[tactic(auto, unfolding(crate::specs::Table::calcout_row))]
+fn calcout_row(field: OwnField) -> Option<Row>
+    ensures { result ≡ calcout_row field }
+{
+    Some(match field {
+        OwnField::Out => Row::link(LinkRole::Output),
+        OwnField::Oopt => Row::plain(FieldKind::Menu(Menu::Oopt)),
+        OwnField::Dopt => Row::plain(FieldKind::Menu(Menu::Dopt)),
+        OwnField::Ocal => Row::given(FieldKind::Expression),
+        OwnField::Oval | OwnField::Pval => Row::fixed(FieldKind::Double),
+        OwnField::Ivoa => Row::plain(FieldKind::Menu(Menu::Ivoa)),
+        OwnField::Ivov => Row::passive(FieldKind::Double),
+        _ => return calc_row(field),
+    })
+}
+
+// Returns the row of a type-specific field of sel.
+#[tactic(auto, unfolding(crate::specs::Table::sel_row))]
+fn sel_row(field: OwnField) -> Option<Row>
+    ensures { result ≡ sel_row field }
+{
+    Some(match field {
+        OwnField::Val => Row::fixed(FieldKind::Double),
+        OwnField::Selm => Row::plain(FieldKind::Menu(Menu::Selmode)),
+        OwnField::Seln => Row::plain(FieldKind::Number(Range::UShort)),
+        OwnField::Nvl => Row::link(LinkRole::InputWithoutDevice),
+        _ => return inputs_row(field),
+    })
+}
+
 // Returns the row of a type-specific field, if the type has it.
 #[inline(always)]
 #[tactic(auto, unfolding(crate::specs::Table::own_row, crate::specs::Table::numeric_input_row, crate::specs::Table::bi_row, crate::specs::Table::bo_row, crate::specs::Table::mbbi_row, crate::specs::Table::mbbo_row, crate::specs::Table::text_input_row, crate::specs::Table::stringout_row))]
@@ -228,5 +295,8 @@ pub fn own_row(record_type: RecordType, field: OwnField) -> Option<Row>
         RecordType::Fanout => fanout_row(field),
         RecordType::Ai => ai_row(field),
         RecordType::Ao => ao_row(field),
+        RecordType::Calc => calc_row(field),
+        RecordType::Calcout => calcout_row(field),
+        RecordType::Sel => sel_row(field),
     }
 }

@@ -28,6 +28,22 @@ pub static LINKS: [&str; 16] = [
     "LNKC", "LNKD", "LNKE", "LNKF",
 ];
 
+/// The names of the values of the inputs. Those behind L are fields of no type.
+pub static LETTERS: [&str; 16] = [
+    "A", "B", "C", "D", "E", "F", "G", "H", "I", "J", "K", "L", "M", "N", "O", "P",
+];
+
+/// The names of the values of the inputs that monitors were last sent.
+pub static LAST_LETTERS: [&str; 16] = [
+    "LA", "LB", "LC", "LD", "LE", "LF", "LG", "LH", "LI", "LJ", "LK", "LL", "LM", "LN", "LO", "LP",
+];
+
+/// The names of the inputs.
+pub static INPUT_LINKS: [&str; 16] = [
+    "INPA", "INPB", "INPC", "INPD", "INPE", "INPF", "INPG", "INPH", "INPI", "INPJ", "INPK", "INPL",
+    "INPM", "INPN", "INPO", "INPP",
+];
+
 /// Returns the name of the slot's field among these names.
 #[inline]
 pub fn name_at(names: &[&'static str; 16], slot: FieldSlot) -> &'static str

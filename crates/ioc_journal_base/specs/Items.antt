@@ -4,6 +4,8 @@ use Rattle.std.specs.Prelude.{ℕ, nat_eq, Bool, if◌then◌else◌, List, [], 
 use Rattle.std.specs.List.{flat_map}
 use Rattle.std.specs.Cmp.Lexicographic.{pointwise}
 use Rattle.ioc_fields.specs.declared.field_no.FieldNo.{FieldNo}
+use Rattle.ioc_fields.specs.declared.field_no.FieldNo.TheVariants.{Own}
+use Rattle.ioc_fields.specs.declared.field_no.OwnField.TheVariants.{Calc, Ocal}
 use Rattle.ioc_fields.specs.Names.{name_of, all_fields}
 use Rattle.ioc_journal_file.specs.declared.base.HiddenState.{HiddenState}
 use Rattle.ioc_journal_file.specs.declared.base.Part.{Part}
@@ -25,9 +27,18 @@ part_words (Some p) = part_text p
 abbrev pub is_same_part : Option Part → Option Part → Bool
 is_same_part p q = is_same (part_words p) (part_words q)
 
--- A new record with the type and the name of this one.
+-- The record with this expression in a field, if there is one.
+abbrev pub with_text : Record → FieldNo → Option (List ℕ) → Record
+with_text r f None = r
+with_text r f (Some text) = record_rules.with_calculation r f text
+
+-- The record with the expression that another one has in this field, if it has one there.
+abbrev pub with_expression : Record → Record → FieldNo → Record
+with_expression from r f = with_text r f (record_rules.calculation from f)
+
+-- A new record with the type, the name and the expressions of this one: a database text alone sets expressions.
 abbrev pub fresh_of : Record → Record
-fresh_of r = new_record (record_rules.record_type r) r.common.name
+fresh_of r = with_expression r (with_expression r (new_record (record_rules.record_type r) r.common.name) (Own Calc)) (Own Ocal)
 
 -- ---- The lines of a record
 

@@ -10,7 +10,7 @@ use Rattle.ioc_alarms.specs.declared.alarms.Alarms.{Alarms}
 use Rattle.ioc_fields.specs.declared.field_no.FieldNo.{FieldNo}
 use Rattle.ioc_fields.specs.declared.field_no.FieldNo.TheVariants.{Common as Common-field, Own}
 use Rattle.ioc_fields.specs.declared.field_no.OwnField.{OwnField}
-use Rattle.ioc_fields.specs.declared.field_no.OwnField.TheVariants.{Lalm, Mlst, Alst, Init, Oval, Pval}
+use Rattle.ioc_fields.specs.declared.field_no.OwnField.TheVariants.{Val, Lalm, Mlst, Alst, Init, Oval, Pval, LastLetter}
 use Rattle.ioc_fields.specs.declared.field_no.CommonField.{CommonField}
 use Rattle.ioc_fields.specs.declared.field_no.CommonField.TheVariants.{Name, Tse, Time, Stat, Sevr, Nsta, Nsev, Lcnt, Pact, Putf, Rpro}
 use Rattle.ioc_dbcommon.specs.declared.common.Common.{Common}
@@ -27,8 +27,12 @@ use Rattle.rec_state.specs.declared.output.StateOutput.{StateOutput}
 use Rattle.rec_analog.specs.declared.analog.Analog.{Analog}
 use Rattle.rec_analog.specs.declared.input.Ai.{Ai as AiFields}
 use Rattle.rec_analog.specs.declared.output.Ao.{Ao as AoFields}
+use Rattle.rec_calc.specs.declared.calc.Calc.{Calc as CalcFields}
+use Rattle.rec_calc.specs.declared.calcout.Calcout.{Calcout as CalcoutFields}
+use Rattle.rec_calc.specs.Inputs.{with_sent}
+use Rattle.rec_sel.specs.declared.sel.Sel.{Sel as SelFields}
 use Rattle.rec_types.specs.declared.record.Body.{Body}
-use Rattle.rec_types.specs.declared.record.Body.TheVariants.{Ai, Ao, Longin, Longout, Int64in, Int64out, Bi, Bo, Mbbi, Mbbo}
+use Rattle.rec_types.specs.declared.record.Body.TheVariants.{Ai, Ao, Calc, Calcout, Sel, Longin, Longout, Int64in, Int64out, Bi, Bo, Mbbi, Mbbo}
 use Rattle.rec_types.specs.Record.{Record, record_rules, stored}
 
 -- ---- What a field has
@@ -104,7 +108,7 @@ body_alarmed (Mbbi b) v = Mbbi (state_input_alarmed b (ushort_in v))
 body_alarmed (Mbbo b) v = Mbbo (state_output_alarmed b (ushort_in v))
 body_alarmed b v = b
 
--- The fields that ai and ao share, with one set that no put changes.
+-- The fields that the analog types share, with one set that no put changes.
 unfoldable pub analog_kept : Analog → OwnField → Value → Analog
 analog_kept b Lalm v = record b { last_alarmed = unwrap_or (double_in v) b.last_alarmed }
 analog_kept b Mlst v = record b { last_monitored = unwrap_or (double_in v) b.last_monitored }
@@ -120,6 +124,20 @@ ao_kept b Oval v = record b { driven = unwrap_or (double_in v) b.driven }
 ao_kept b Pval v = record b { previous = unwrap_or (double_in v) b.previous }
 ao_kept b f v = record b { analog = analog_kept b.analog f v }
 
+unfoldable pub calc_kept : CalcFields → OwnField → Value → CalcFields
+calc_kept b (LastLetter slot) v = record b { inputs = with_sent b.inputs (LastLetter slot) v }
+calc_kept b f v = record b { analog = analog_kept b.analog f v }
+
+unfoldable pub calcout_kept : CalcoutFields → OwnField → Value → CalcoutFields
+calcout_kept b Oval v = record b { output_value = unwrap_or (double_in v) b.output_value }
+calcout_kept b Pval v = record b { previous = unwrap_or (double_in v) b.previous }
+calcout_kept b f v = record b { calc = calc_kept b.calc f v }
+
+unfoldable pub sel_kept : SelFields → OwnField → Value → SelFields
+sel_kept b Val v = record b { analog = record b.analog { value = unwrap_or (double_in v) b.analog.value } }
+sel_kept b (LastLetter slot) v = record b { inputs = with_sent b.inputs (LastLetter slot) v }
+sel_kept b f v = record b { analog = analog_kept b.analog f v }
+
 -- Those of a type of whole numbers or states: LALM alone is set.
 unfoldable pub alarmed_kept : Body → OwnField → Value → Body
 alarmed_kept b Lalm v = body_alarmed b v
@@ -129,6 +147,9 @@ alarmed_kept b f v = b
 unfoldable pub body_kept : Body → OwnField → Value → Body
 body_kept (Ai b) f v = Ai (ai_kept b f v)
 body_kept (Ao b) f v = Ao (ao_kept b f v)
+body_kept (Calc b) f v = Calc (calc_kept b f v)
+body_kept (Calcout b) f v = Calcout (calcout_kept b f v)
+body_kept (Sel b) f v = Sel (sel_kept b f v)
 body_kept b f v = alarmed_kept b f v
 
 -- The record with the value of a field, which no other field follows.

@@ -1,12 +1,14 @@
 //! Type-specific fields that no put changes, set as they are.
 ghost use Rattle.std.specs.Prelude.{◌≡◌};
-ghost use Rattle.ioc_journal_base.specs.States.{analog_kept, ai_kept, ao_kept, alarmed_kept, body_kept};
+ghost use Rattle.ioc_journal_base.specs.States.{analog_kept, ai_kept, ao_kept, calc_kept, calcout_kept, sel_kept, alarmed_kept, body_kept};
 
 use crate::last_alarmed::set_last_alarmed;
 use ioc_dbcommon::{double_in, uchar_in};
 use ioc_fields::OwnField;
 use ioc_values::Value;
 use rec_analog::{Ai, Analog, Ao};
+use rec_calc::{Calc, Calcout};
+use rec_sel::Sel;
 use rec_types::Body;
 
 #[tactic(auto, unfolding(crate::specs::States::analog_kept))]
@@ -42,6 +44,38 @@ fn set_ao(body: &mut Ao, field: OwnField, value: Value)
     }
 }
 
+#[tactic(auto, unfolding(crate::specs::States::calc_kept))]
+fn set_calc(body: &mut Calc, field: OwnField, value: Value)
+    ensures { body.new ≡ calc_kept body.old field value }
+{
+    match field {
+        OwnField::LastLetter(_) => body.inputs.set_sent(field, value),
+        _ => set_analog(&mut body.analog, field, value),
+    }
+}
+
+#[tactic(auto, unfolding(crate::specs::States::calcout_kept))]
+fn set_calcout(body: &mut Calcout, field: OwnField, value: Value)
+    ensures { body.new ≡ calcout_kept body.old field value }
+{
+    match field {
+        OwnField::Oval => body.output_value = double_in(value).unwrap_or(body.output_value),
+        OwnField::Pval => body.previous = double_in(value).unwrap_or(body.previous),
+        _ => set_calc(&mut body.calc, field, value),
+    }
+}
+
+#[tactic(auto, unfolding(crate::specs::States::sel_kept))]
+fn set_sel(body: &mut Sel, field: OwnField, value: Value)
+    ensures { body.new ≡ sel_kept body.old field value }
+{
+    match field {
+        OwnField::Val => body.analog.value = double_in(value).unwrap_or(body.analog.value),
+        OwnField::LastLetter(_) => body.inputs.set_sent(field, value),
+        _ => set_analog(&mut body.analog, field, value),
+    }
+}
+
 #[tactic(auto, unfolding(crate::specs::States::alarmed_kept))]
 fn set_alarmed(body: &mut Body, field: OwnField, value: Value)
     ensures { body.new ≡ alarmed_kept body.old field value }
@@ -61,6 +95,9 @@ pub(crate) fn set_kept(body: &mut Body, field: OwnField, value: Value)
     match body {
         Body::Ai(kept) => set_ai(kept.get_mut(), field, value),
         Body::Ao(kept) => set_ao(kept.get_mut(), field, value),
+        Body::Calc(kept) => set_calc(kept.get_mut(), field, value),
+        Body::Calcout(kept) => set_calcout(kept.get_mut(), field, value),
+        Body::Sel(kept) => set_sel(kept.get_mut(), field, value),
         other => set_alarmed(other, field, value),
     }
 }

@@ -52,6 +52,9 @@ pub(crate) fn set_last_alarmed(body: &mut Body, value: Value)
         | Body::Fanout(_)
         | Body::Event(_)
         | Body::Ai(_)
-        | Body::Ao(_) => {}
+        | Body::Ao(_)
+        | Body::Calc(_)
+        | Body::Calcout(_)
+        | Body::Sel(_) => {}
     }
 }

@@ -1,11 +1,11 @@
 //! The lines of a record's state, and the record that they lead to.
 ghost use Rattle.std.specs.Prelude.{◌≡◌, ◌++◌, ◌∷◌, [], IfOk, OnOk};
 ghost use Rattle.rec_types.specs.Record.{Record};
-ghost use Rattle.ioc_journal_base.specs.Items.{part_words, is_same, is_same_part, fresh_of, field_items, record_items, part_for, given_part, chosen_part, hidden_given, with_chosen, rebuilt};
+ghost use Rattle.ioc_journal_base.specs.Items.{part_words, is_same, is_same_part, with_expression, fresh_of, field_items, record_items, part_for, given_part, chosen_part, hidden_given, with_chosen, rebuilt};
 
 use crate::parts::{hidden_of, part_of, set_hidden, set_part};
 use ioc_fields::field_list::fields;
-use ioc_fields::{FieldNo, name_of};
+use ioc_fields::{FieldNo, OwnField, name_of};
 use ioc_journal_file::{BaseItem, HiddenState, Part, add_part};
 use ioc_names::RecordNo;
 use ioc_record::RecordKind;
@@ -40,7 +40,17 @@ fn is_same_part(alloc: Global, one: &Option<Part>, other: &Option<Part>) -> Resu
     Ok(is_same(words.as_slice(), others.as_slice()))
 }
 
-/// Returns a new record with the type and the name of this one.
+// Gives a record the expression that another one has in this field, if it has one there.
+fn copy_expression(from: &Record, record: &mut Record, field: FieldNo)
+    ensures { «record».new ≡ with_expression from.now «record».old field }
+{
+    if let Some(calculation) = from.calculation(field) {
+        record.set_calculation(field, calculation.copy());
+    }
+}
+
+/// Returns a new record with the type, the name and the expressions of this one: a database text alone
+/// sets expressions.
 ///
 /// # Errors
 ///
@@ -49,7 +59,10 @@ pub fn fresh_of(alloc: Global, record: &Record) -> Result<Record, AllocError>
     ensures { IfOk result (λ fresh. fresh ≡ fresh_of «record».now) }
 {
     let body = Body::new(alloc, record.record_type())?;
-    Ok(ioc_record::Record::new(record.common.name, body))
+    let mut fresh = ioc_record::Record::new(record.common.name, body);
+    copy_expression(record, &mut fresh, FieldNo::Own(OwnField::Calc));
+    copy_expression(record, &mut fresh, FieldNo::Own(OwnField::Ocal));
+    Ok(fresh)
 }
 
 // Appends a line.

@@ -4,9 +4,9 @@ use Rattle.std.specs.Prelude.{codes, decimal}
 use Rattle.ioc_fields.specs.declared.field_no.FieldNo.{FieldNo}
 use Rattle.ioc_fields.specs.declared.field_no.FieldNo.TheVariants.{Common, Own}
 use Rattle.ioc_fields.specs.declared.field_no.CommonField.TheVariants.{Name}
-use Rattle.ioc_fields.specs.declared.field_no.OwnField.TheVariants.{StateValue, StateText, StateSeverity, Lnk}
+use Rattle.ioc_fields.specs.declared.field_no.OwnField.TheVariants.{StateValue, StateText, StateSeverity, Lnk, Letter, LastLetter, InputLink}
 use Rattle.ioc_fields.specs.declared.field_no.FieldSlot.TheVariants.{N0}
-use Rattle.ioc_fields.specs.Names.{common_name, own_name, link_name, state_value_name, state_text_name, state_severity_name, name_of, all_fields}
+use Rattle.ioc_fields.specs.Names.{common_name, own_name, link_name, last_letter_name, input_name, state_value_name, state_text_name, state_severity_name, name_of, all_fields}
 use Rattle.ioc_links.specs.declared.link.Link.{Link}
 use Rattle.ioc_links.specs.declared.link.Link.TheVariants.{Empty, Constant, Real, Device, Database}
 use Rattle.ioc_links.specs.declared.link.Mode.{Mode}
@@ -25,21 +25,27 @@ use Rattle.ioc_journal_file.proofs.NumbersAgain.{number_again, integer_again}
 use Rattle.ioc_journal_file.proofs.TextsAgain.{text_again}
 
 field_read : (f : FieldNo) → field_of (name_of f) ≡ Some f
-unfolding all_fields common_name own_name link_name state_value_name state_text_name state_severity_name
+unfolding all_fields common_name own_name link_name last_letter_name input_name state_value_name state_text_name state_severity_name
 field_read (Common Name) = refl
 field_read (Own (StateValue N0)) = refl
 field_read (Own (StateText N0)) = refl
 field_read (Own (StateSeverity N0)) = refl
 field_read (Own (Lnk N0)) = refl
+field_read (Own (Letter N0)) = refl
+field_read (Own (LastLetter N0)) = refl
+field_read (Own (InputLink N0)) = refl
 field_read _ = refl
 
 pub name_whole : (f : FieldNo) → is_whole (name_of f) ≡ true
-unfolding common_name own_name link_name state_value_name state_text_name state_severity_name
+unfolding common_name own_name link_name last_letter_name input_name state_value_name state_text_name state_severity_name
 name_whole (Common Name) = refl
 name_whole (Own (StateValue N0)) = refl
 name_whole (Own (StateText N0)) = refl
 name_whole (Own (StateSeverity N0)) = refl
 name_whole (Own (Lnk N0)) = refl
+name_whole (Own (Letter N0)) = refl
+name_whole (Own (LastLetter N0)) = refl
+name_whole (Own (InputLink N0)) = refl
 name_whole _ = refl
 
 pub field_again : (f : FieldNo) (c : ℕ) (rest : List ℕ) → ends_word c ≡ true → field_at (name_of f ++ c ∷ rest) ≡ Some (f, rest)

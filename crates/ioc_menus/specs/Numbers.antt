@@ -20,6 +20,12 @@ use Rattle.ioc_menus.specs.declared.linr.Linr.{Linr}
 use Rattle.ioc_menus.specs.declared.linr.Linr.TheVariants as linr
 use Rattle.ioc_menus.specs.declared.oif.Oif.{Oif}
 use Rattle.ioc_menus.specs.declared.oif.Oif.TheVariants as oif
+use Rattle.ioc_menus.specs.declared.oopt.Oopt.{Oopt}
+use Rattle.ioc_menus.specs.declared.oopt.Oopt.TheVariants as oopt
+use Rattle.ioc_menus.specs.declared.dopt.Dopt.{Dopt}
+use Rattle.ioc_menus.specs.declared.dopt.Dopt.TheVariants as dopt
+use Rattle.ioc_menus.specs.declared.selmode.Selmode.{Selmode}
+use Rattle.ioc_menus.specs.declared.selmode.Selmode.TheVariants as selmode
 
 -- The number of a `Severity` choice.
 abbrev pub severity_number : Severity → ℕ
@@ -154,6 +160,42 @@ oif_number oif.Incremental = 1
 abbrev pub oifs : List Oif
 oifs =
     oif.Full ∷ oif.Incremental ∷ []
+
+-- The number of an `Oopt` choice.
+abbrev pub oopt_number : Oopt → ℕ
+oopt_number oopt.EveryTime = 0
+oopt_number oopt.OnChange = 1
+oopt_number oopt.WhenZero = 2
+oopt_number oopt.WhenNonZero = 3
+oopt_number oopt.TransitionToZero = 4
+oopt_number oopt.TransitionToNonZero = 5
+
+-- The `Oopt` choices, in the order of their numbers.
+abbrev pub oopts : List Oopt
+oopts =
+    oopt.EveryTime ∷ oopt.OnChange ∷ oopt.WhenZero ∷ oopt.WhenNonZero ∷ oopt.TransitionToZero ∷ oopt.TransitionToNonZero ∷ []
+
+-- The number of a `Dopt` choice.
+abbrev pub dopt_number : Dopt → ℕ
+dopt_number dopt.UseCalc = 0
+dopt_number dopt.UseOcal = 1
+
+-- The `Dopt` choices, in the order of their numbers.
+abbrev pub dopts : List Dopt
+dopts =
+    dopt.UseCalc ∷ dopt.UseOcal ∷ []
+
+-- The number of a `Selmode` choice.
+abbrev pub selmode_number : Selmode → ℕ
+selmode_number selmode.Specified = 0
+selmode_number selmode.HighSignal = 1
+selmode_number selmode.LowSignal = 2
+selmode_number selmode.MedianSignal = 3
+
+-- The `Selmode` choices, in the order of their numbers.
+abbrev pub selmodes : List Selmode
+selmodes =
+    selmode.Specified ∷ selmode.HighSignal ∷ selmode.LowSignal ∷ selmode.MedianSignal ∷ []
 
 -- Holds if the answer is a choice exactly if this is its number.
 abbrev pub IsNumbered : {C : Type 0} → (C → ℕ) → ℕ → Option C → Type 0

@@ -2,7 +2,7 @@
 use Rattle.std.specs.Prelude.{ℕ, Option, List, [], ◌∷◌, position, slice_get, codes}
 use Rattle.std.specs.Str.{bytes_eq}
 use Rattle.ioc_menus.specs.declared.menu.Menu.{Menu}
-use Rattle.ioc_menus.specs.declared.menu.Menu.TheVariants.{Severity, Status, Scan, Priority, Pini, Omsl, Ivoa, Selm, Linr, Oif}
+use Rattle.ioc_menus.specs.declared.menu.Menu.TheVariants.{Severity, Status, Scan, Priority, Pini, Omsl, Ivoa, Selm, Linr, Oif, Oopt, Dopt, Selmode}
 
 -- The texts of SEVR, NSEV and every other field that holds a severity.
 abbrev pub severity_texts : List (List ℕ)
@@ -54,6 +54,21 @@ abbrev pub oif_texts : List (List ℕ)
 oif_texts =
     codes "Full" ∷ codes "Incremental" ∷ []
 
+-- The texts of OOPT.
+abbrev pub oopt_texts : List (List ℕ)
+oopt_texts =
+    codes "Every Time" ∷ codes "On Change" ∷ codes "When Zero" ∷ codes "When Non-zero" ∷ codes "Transition To Zero" ∷ codes "Transition To Non-zero" ∷ []
+
+-- The texts of DOPT.
+abbrev pub dopt_texts : List (List ℕ)
+dopt_texts =
+    codes "Use CALC" ∷ codes "Use OCAL" ∷ []
+
+-- The texts of SELM of a sel.
+abbrev pub selmode_texts : List (List ℕ)
+selmode_texts =
+    codes "Specified" ∷ codes "High Signal" ∷ codes "Low Signal" ∷ codes "Median Signal" ∷ []
+
 -- The texts of a menu's choices, in the order of their numbers.
 abbrev pub texts_of : Menu → List (List ℕ)
 texts_of Severity = severity_texts
@@ -66,6 +81,9 @@ texts_of Ivoa = ivoa_texts
 texts_of Selm = selm_texts
 texts_of Linr = linr_texts
 texts_of Oif = oif_texts
+texts_of Oopt = oopt_texts
+texts_of Dopt = dopt_texts
+texts_of Selmode = selmode_texts
 
 -- The number of the choice with this text.
 abbrev pub choice_of : Menu → List ℕ → Option ℕ

@@ -17,6 +17,10 @@ pub enum Menu {
     Selm,
     Linr,
     Oif,
+    Oopt,
+    Dopt,
+    /// SELM of a sel.
+    Selmode,
 }
 
 static SEVERITY: [&str; 4] = ["NO_ALARM", "MINOR", "MAJOR", "INVALID"];
@@ -77,6 +81,19 @@ static LINR: [&str; 3] = ["NO CONVERSION", "SLOPE", "LINEAR"];
 
 static OIF: [&str; 2] = ["Full", "Incremental"];
 
+static OOPT: [&str; 6] = [
+    "Every Time",
+    "On Change",
+    "When Zero",
+    "When Non-zero",
+    "Transition To Zero",
+    "Transition To Non-zero",
+];
+
+static DOPT: [&str; 2] = ["Use CALC", "Use OCAL"];
+
+static SELMODE: [&str; 4] = ["Specified", "High Signal", "Low Signal", "Median Signal"];
+
 /// Returns the texts of the menu's choices, in the order of their numbers.
 pub fn choices(menu: Menu) -> &'static [&'static str]
     ensures texts { map (λ t. t.now) result.now ≡ texts_of menu }
@@ -93,6 +110,9 @@ pub fn choices(menu: Menu) -> &'static [&'static str]
         Menu::Selm => &SELM,
         Menu::Linr => &LINR,
         Menu::Oif => &OIF,
+        Menu::Oopt => &OOPT,
+        Menu::Dopt => &DOPT,
+        Menu::Selmode => &SELMODE,
     }
 }
 

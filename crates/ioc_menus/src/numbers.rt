@@ -1,16 +1,19 @@
 //! The numbers of the choices, which are counted from 0 in the order of each menu. Record
 //! Reference Manual, "Menu Types".
 ghost use Rattle.std.specs.Prelude.{◌≡◌, slice_get};
-ghost use Rattle.ioc_menus.specs.Numbers.{severity_number, severities, status_number, statuses, scan_number, scans, priority_number, priorities, pini_number, pinis, omsl_number, omsls, ivoa_number, ivoas, selm_number, selms, linr_number, linrs, oif_number, oifs, IsNumbered};
+ghost use Rattle.ioc_menus.specs.Numbers.{severity_number, severities, status_number, statuses, scan_number, scans, priority_number, priorities, pini_number, pinis, omsl_number, omsls, ivoa_number, ivoas, selm_number, selms, linr_number, linrs, oif_number, oifs, oopt_number, oopts, dopt_number, dopts, selmode_number, selmodes, IsNumbered};
 
+use crate::dopt::Dopt;
 use crate::ivoa::Ivoa;
 use crate::linr::Linr;
 use crate::oif::Oif;
 use crate::omsl::Omsl;
+use crate::oopt::Oopt;
 use crate::pini::Pini;
 use crate::priority::Priority;
 use crate::scan::Scan;
 use crate::selm::Selm;
+use crate::selmode::Selmode;
 use crate::severity::Severity;
 use crate::status::Status;
 
@@ -76,6 +79,24 @@ static SELMS: [Selm; 3] = [Selm::All, Selm::Specified, Selm::Mask];
 static LINRS: [Linr; 3] = [Linr::NoConversion, Linr::Slope, Linr::Linear];
 
 static OIFS: [Oif; 2] = [Oif::Full, Oif::Incremental];
+
+static OOPTS: [Oopt; 6] = [
+    Oopt::EveryTime,
+    Oopt::OnChange,
+    Oopt::WhenZero,
+    Oopt::WhenNonZero,
+    Oopt::TransitionToZero,
+    Oopt::TransitionToNonZero,
+];
+
+static DOPTS: [Dopt; 2] = [Dopt::UseCalc, Dopt::UseOcal];
+
+static SELMODES: [Selmode; 4] = [
+    Selmode::Specified,
+    Selmode::HighSignal,
+    Selmode::LowSignal,
+    Selmode::MedianSignal,
+];
 
 // Returns the choice with this number among the choices of a menu.
 #[inline]
@@ -252,5 +273,56 @@ impl Oif {
         ensures numbered { IsNumbered oif_number number result }
     {
         choice_at(&OIFS, number)
+    }
+}
+
+impl Oopt {
+    /// Returns the number of the choice, counted from 0.
+    pub fn number(self) -> u16
+        ensures { result ≡ oopt_number self }
+    {
+        self as u16
+    }
+
+    /// Returns the choice with this number, or `None` if there is none.
+    pub fn from_number(number: u16) -> Option<Self>
+        ensures value { result ≡ slice_get oopts number }
+        ensures numbered { IsNumbered oopt_number number result }
+    {
+        choice_at(&OOPTS, number)
+    }
+}
+
+impl Dopt {
+    /// Returns the number of the choice, counted from 0.
+    pub fn number(self) -> u16
+        ensures { result ≡ dopt_number self }
+    {
+        self as u16
+    }
+
+    /// Returns the choice with this number, or `None` if there is none.
+    pub fn from_number(number: u16) -> Option<Self>
+        ensures value { result ≡ slice_get dopts number }
+        ensures numbered { IsNumbered dopt_number number result }
+    {
+        choice_at(&DOPTS, number)
+    }
+}
+
+impl Selmode {
+    /// Returns the number of the choice, counted from 0.
+    pub fn number(self) -> u16
+        ensures { result ≡ selmode_number self }
+    {
+        self as u16
+    }
+
+    /// Returns the choice with this number, or `None` if there is none.
+    pub fn from_number(number: u16) -> Option<Self>
+        ensures value { result ≡ slice_get selmodes number }
+        ensures numbered { IsNumbered selmode_number number result }
+    {
+        choice_at(&SELMODES, number)
     }
 }

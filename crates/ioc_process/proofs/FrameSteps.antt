@@ -41,7 +41,7 @@ use Rattle.ioc_process.specs.Keeping.{keeps_on, keeps-changed, keeps-put, sent-k
 use Rattle.ioc_store.specs.Given.{Answers}
 use Rattle.ioc_store.specs.Notifying.{passed_on, notified}
 
-followed_by-assoc : (a b c : Requests) → followed_by (followed_by a b) c ≡ followed_by a (followed_by b c)
+pub followed_by-assoc : (a b c : Requests) → followed_by (followed_by a b) c ≡ followed_by a (followed_by b c)
 followed_by-assoc None b c = refl
 followed_by-assoc (Request outcome caused later) b c = ap (Request outcome caused) (followed_by-assoc later b c)
 

@@ -3,6 +3,7 @@ mod FrameSteps
 mod FrameTurns
 mod FrameWork
 mod Handing
+mod InputSteps
 mod Needs
 pub mod OneLook
 mod Ready

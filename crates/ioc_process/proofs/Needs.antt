@@ -5,7 +5,7 @@ use Rattle.ioc_ledger.specs.Requests.{None}
 use Rattle.ioc_dbcommon.specs.declared.link_field.LinkUse.{LinkUse}
 use Rattle.ioc_dbcommon.specs.declared.link_field.LinkUse.TheVariants.{Unused, OwnDevice, Absent, Standing}
 use Rattle.ioc_dbcommon.specs.declared.body.Want.{Want}
-use Rattle.ioc_dbcommon.specs.declared.body.Want.TheVariants.{NoInput, ReadLink, ReadDevice}
+use Rattle.ioc_dbcommon.specs.declared.body.Want.TheVariants.{NoInput, ReadLink, ReadDevice, ReadInputs}
 use Rattle.ioc_dbcommon.specs.declared.body.Need.TheVariants as need
 use Rattle.ioc_dbcommon.specs.declared.body.Got.{Got}
 use Rattle.ioc_dbcommon.specs.declared.body.Got.TheVariants as got
@@ -25,6 +25,7 @@ pub needs-link : (want : Want) → need_of want ≡ need.Link → want ≡ ReadL
 needs-link NoInput is = absurd cc
 needs-link (ReadLink link) is = refl
 needs-link ReadDevice is = absurd cc
+needs-link (ReadInputs link) is = absurd cc
 
 no_device : (link : LinkUse) → need_of (ReadLink link) ≡ need.Device → ReadLink link ≡ ReadDevice
 no_device Unused is = absurd cc
@@ -36,6 +37,19 @@ pub needs-device : (want : Want) → need_of want ≡ need.Device → want ≡ R
 needs-device NoInput is = absurd cc
 needs-device (ReadLink link) is = no_device link is
 needs-device ReadDevice is = refl
+needs-device (ReadInputs link) is = absurd cc
+
+no_inputs : (link : LinkUse) → need_of (ReadLink link) ≡ need.Inputs → ReadLink link ≡ ReadInputs link
+no_inputs Unused is = absurd cc
+no_inputs OwnDevice is = absurd cc
+no_inputs Absent is = absurd cc
+no_inputs (Standing t) is = absurd cc
+
+pub needs-inputs : (want : Want) → need_of want ≡ need.Inputs → want ≡ ReadInputs (link_wanted want)
+needs-inputs NoInput is = absurd cc
+needs-inputs (ReadLink link) is = no_inputs link is
+needs-inputs ReadDevice is = absurd cc
+needs-inputs (ReadInputs link) is = refl
 
 -- The record that a standing link names exists.
 pub named_there : {R : Type 0} (w : World R) (link : LinkUse) → IsStanding w link → (n : ℕ) → record_named link ≡ Some n → Has w n
@@ -54,6 +68,7 @@ module _ {R : Type 0} (k : RecordRules R) (lawful : IsLawful k) where
   input-nothing answers w s (ReadLink Absent) is = absurd cc
   input-nothing answers w s (ReadLink (Standing t)) is = absurd cc
   input-nothing answers w s ReadDevice is = absurd cc
+  input-nothing answers w s (ReadInputs link) is = absurd cc
 
   -- A body that needs no input continues with an empty one.
   pub body-nothing : (answers : Answers) (w : World R) (s : ℕ) → need_of (k.begin (at k w s)) ≡ need.Nothing →

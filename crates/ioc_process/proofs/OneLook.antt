@@ -18,7 +18,7 @@ use Rattle.ioc_store.specs.PutBack.{on_ok, on_err_as, put-at}
 use Rattle.ioc_store.specs.Worlds.{at-put_same, has-put}
 use Rattle.ioc_process.specs.Looks.{Opens, Opened}
 use Rattle.ioc_process.specs.declared.fast_path.IdleStart.{IdleStart}
-use Rattle.ioc_process.specs.declared.fast_path.IdleStart.TheVariants.{ReadsDisable, Disabled, ReadsLink, ReadsDevice, Took, PutsOut}
+use Rattle.ioc_process.specs.declared.fast_path.IdleStart.TheVariants.{ReadsDisable, Disabled, ReadsLink, ReadsDevice, ReadsInputs, Took, PutsOut}
 
 twice : {X : Type 0} (b : Bool) (q r o : Option X) → cond b q (cond b r o) ≡ cond b q o
 twice true q r o = refl
@@ -70,6 +70,7 @@ module _ {R : Type 0} (k : RecordRules R) where
   opened w n Disabled written r after is there = (there ∙ changed_still w n unblocked r is.0, is.1, is.2)
   opened w n ReadsLink written r after is there = (there ∙ changed_still w n unblocked r is.0, is.1)
   opened w n ReadsDevice written r after is there = (there ∙ changed_still w n unblocked r is.0, is.1)
+  opened w n ReadsInputs written r after is there = (there ∙ changed_still w n unblocked r is.0, is.1)
   opened w n Took written r after is there = (there ∙ sym (changed_on w n unblocked r) ∙ ap (put (changed k w n unblocked) n) is.0, is.1, is.2)
   opened w n PutsOut written r after is there = (there ∙ sym (changed_on w n unblocked r) ∙ ap (put (changed k w n unblocked) n) is.0, is.1, is.2)
 

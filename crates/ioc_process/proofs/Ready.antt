@@ -16,7 +16,7 @@ use Rattle.ioc_store.specs.Worlds.{room-active}
 use Rattle.ioc_store.specs.Places.{requested_at}
 use Rattle.ioc_process.specs.Frames.{Turn, Ended, Turns, turn_of, calls_left}
 use Rattle.ioc_process.specs.Depth.{stays-changed}
-use Rattle.ioc_process.specs.Keeping.{keeps_all, keeps-active, keeps-changed, closed_on}
+use Rattle.ioc_process.specs.Keeping.{keeps_all, keeps_on, keeps-active, keeps-changed, closed_on}
 use Rattle.ioc_process.specs.Ready.{IsReady, TakesTurn}
 use Rattle.ioc_process.proofs.FrameSteps.{back-idle, back-inactive}
 use Rattle.ioc_process.proofs.FrameTurns.{opens_pushed, turn_pushed}
@@ -44,6 +44,11 @@ module _ {R : Type 0} (k : RecordRules R) where
       → TakesTurn k v after most before frames result → TakesTurn k w after most' before frames result
   takes_ready stays left takes = record { turns = turns_ready stays left takes.turns; opens = takes.opens; room = takes.room }
 
+  -- The frames are those that were open at the start.
+  pub takes_ready_at : {w v after : World R} {s most most' : ℕ} {before mid frames : Vec Frame} {result : Next} → mid ≡ before → StaysReady w v s 0 → most ≤ most'
+      → TakesTurn k v after most mid frames result → TakesTurn k w after most' before frames result
+  takes_ready_at is stays left takes = rw (← is) (takes_ready stays left takes)
+
   -- A turn makes at most as many requests as a larger bound.
   pub takes_more : {w after : World R} {most most' : ℕ} {before frames : Vec Frame} {result : Next} → most ≤ most' → TakesTurn k w after most before frames result → TakesTurn k w after most' before frames result
   takes_more left takes = record { turns = turns_on k (keeps_all k _) (omega arith) left takes.turns; opens = takes.opens; room = takes.room }
@@ -59,6 +64,12 @@ module _ {R : Type 0} (k : RecordRules R) (lawful : IsLawful k) where
     keeps = keeps;
     fewer = omega (arith, stays.fewer);
   })
+
+  -- A step that keeps the links leaves a record ready that was left ready before.
+  pub ready_then : {w mid v step : World R} {s : ℕ} → StaysReady k w mid s 0 → v ≡ step → Keeps k mid step → Stays k mid s step → StaysReady k w v s 0
+  ready_then first is keeps stays =
+      let next = ready_by is keeps stays first.there first.closed first.is_idle in
+      record { there = next.there; closed = next.closed; is_idle = next.is_idle; keeps = keeps_on k first.keeps next.keeps; fewer = omega (arith, first.fewer, next.fewer) }
 
   -- A record that resumes is ready.
   pub ready_again : {w v : World R} {s : ℕ} → v ≡ changed k w s (with_active false) → Has w s → IsClosed k w → StaysReady k w v s 1

@@ -7,12 +7,13 @@ use Rattle.ioc_dbcommon.specs.declared.link_field.LinkUse.TheVariants.{Unused, O
 use Rattle.ioc_dbcommon.specs.declared.link_field.StandingLink.{StandingLink}
 use Rattle.ioc_dbcommon.specs.declared.body.Got.{Got}
 use Rattle.ioc_dbcommon.specs.declared.body.Want.{Want}
-use Rattle.ioc_dbcommon.specs.declared.body.Want.TheVariants.{NoInput, ReadLink, ReadDevice}
+use Rattle.ioc_dbcommon.specs.declared.body.Want.TheVariants.{NoInput, ReadLink, ReadDevice, ReadInputs}
 use Rattle.ioc_dbcommon.specs.declared.body.Output.{Output}
 use Rattle.ioc_dbcommon.specs.declared.body.Output.TheVariants.{NoOutput, WriteLink, WriteDevice, FollowLinks, PostEvent}
 use Rattle.ioc_fields.specs.declared.field_no.FieldNo.{FieldNo}
 use Rattle.ioc_fields.specs.declared.field_no.FieldNo.TheVariants.{Own}
-use Rattle.ioc_fields.specs.declared.field_no.OwnField.TheVariants.{Lnk}
+use Rattle.ioc_fields.specs.declared.field_no.OwnField.TheVariants.{Lnk, Letter, InputLink, Seln}
+use Rattle.ioc_fields.specs.declared.field_no.OwnField.{OwnField}
 use Rattle.ioc_fields.specs.declared.field_no.FieldSlot.{FieldSlot}
 use Rattle.ioc_values.specs.declared.input.Input.{Input}
 use Rattle.ioc_values.specs.declared.input.Input.TheVariants.{Value as InputValue}
@@ -37,10 +38,12 @@ use Rattle.ioc_device.specs.declared.Ask.{Ask}
 use Rattle.ioc_device.specs.declared.Ask.TheVariants.{Read as Read-ask, Write as Write-ask}
 use Rattle.ioc_values.specs.declared.value.Finished.{Finished}
 use Rattle.ioc_dbcommon.specs.declared.body.InputKind.{InputKind}
+use Rattle.ioc_dbcommon.specs.declared.body.InputKind.TheVariants as input-kind
 use Rattle.ioc_dbcommon.specs.declared.body.Got.TheVariants.{Nothing as Got-nothing, Value as Got-value, Fault as Got-fault}
-use Rattle.ioc_store.specs.Links.{link_at, use_of_field, chosen_links, is_proc, requests_first, requests_after, handed_on}
+use Rattle.ioc_store.specs.Inputs.{is_fault, kept}
+use Rattle.ioc_store.specs.Links.{link_at, input_at, use_of_field, chosen_links, is_proc, requests_first, requests_after, handed_on}
 use Rattle.ioc_ledger.specs.Requests.{Requests, None, Request, followed_by}
-use Rattle.ioc_process.specs.Processing.{Done, Ran, Read, Came, Reading, Written, PutOut, as_request, ran_after, processed, asked, next_call, judged, begun_idle, ran, resumed_with, caused, followed, inherits, value_came, stored_at, wrote, after_writing, write_link, followed_each, finished, finished_if, after_output, acknowledged, write_device, put_out, prepared, read_record, faulted, read_link, completed, completed_if, device_gave, received, read_device, can_ask, input, body, turned_away, requested, nested, request, read_at}
+use Rattle.ioc_process.specs.Processing.{Done, Ran, Read, Came, Reading, Written, PutOut, as_request, ran_after, processed, asked, next_call, judged, begun_idle, ran, resumed_with, caused, followed, inherits, value_came, stored_at, wrote, after_writing, write_link, followed_each, finished, finished_if, after_output, acknowledged, write_device, put_out, prepared, read_record, faulted, read_link, completed, completed_if, device_gave, received, read_device, can_ask, input, body, turned_away, requested, nested, request, read_at, read_each, read_chosen, read_inputs}
 use Rattle.ioc_store.specs.Rests.{rested, disable_came}
 use Rattle.ioc_store.specs.StepFrames.{OwnLinks, blocked-frame, stored_with}
 use Rattle.ioc_store.specs.Named.{link_named}
@@ -94,7 +97,7 @@ pub record Guards {R : Type 0} (k : RecordRules R) (May : ℕ → Type 0) (Good 
   pub link : {n : ℕ} {r : R} → Good n r → (target : ℕ) → Contains (targets k r) target → May target
   pub common : {n : ℕ} {r : R} → Good n r → (c : Common) → OwnLinks (k.common r) c → Good n (k.with_common r c)
   pub taken : {n : ℕ} {r : R} → Good n r → (got : Got) → Good n (k.taken r got)
-  pub posted : {n : ℕ} {r : R} → Good n r → Good n (k.posted r)
+  pub posted : {n : ℕ} {r : R} → Good n r → (changed : Bool) → Good n (k.posted r changed)
   pub finished : {n : ℕ} {r : R} → Good n r → (x : Finished) → Good n (k.finished r x)
   pub stored : {n : ℕ} {r : R} → Good n r → (f : FieldNo) (v : Value) → Good n (k.stored r f v)
   pub put : {w v : World R} → Inv w v → (n : ℕ) → May n → (r : R) → Good n r → (k.common r).notification ≡ (common_at k w n).notification → Inv (put w n r) (put v n r)
@@ -309,6 +312,15 @@ module _ {R : Type 0} (k : RecordRules R) (lawful : IsLawful k) (May : ℕ → T
       (stored-goes inv t there (tried (at k w t.number)) (untested-good inv t there (InputValue x)) (untested-kept (at k w t.number) t.field (InputValue x))) in
       record { inv = handed-goes first.inv s may t there; stored = first.stored }
 
+  -- Keeping what was read in a field of the record keeps the relation.
+  kept-goes : {w v : World R} → Inv w v → (s : ℕ) → May s → (f : OwnField) (got : Got) → Inv (kept k w s f got) (kept k v s f got)
+  unfolding kept
+  kept-goes {w} {v} inv s may f (Got-value x) =
+      subst (λ (r : R). Inv (put w s (k.stored (at k w s) (Own f) x)) (put v s (k.stored r (Own f) x))) (g.same inv s may)
+      (g.put inv s may _ (g.stored (g.good inv s may) (Own f) x) (ap (λ (c : Common). c.notification) (lawful.stored_common (at k w s) (Own f) x)))
+  kept-goes inv s may f Got-nothing = inv
+  kept-goes inv s may f Got-fault = inv
+
   acknowledged-goes : {w v : World R} → Inv w v → (s : ℕ) → May s → (answer : Answer) → GoesOut Inv (acknowledged k w s answer) (acknowledged k v s answer)
   unfolding acknowledged
   acknowledged-goes inv s may (Done-answer x) = record { inv = inv; requests = refl; goes_on = refl }
@@ -350,7 +362,7 @@ module _ {R : Type 0} (k : RecordRules R) (lawful : IsLawful k) (May : ℕ → T
   shown-at : {w v : World R} → Inv w v → (s : ℕ) → May s → Inv (showing k w s) (put v s (shown_record k w.moment (at k v s)))
   shown-at {w} {v} inv s may =
       subst (λ (r : R). Inv (showing k w s) (put v s (shown_record k w.moment r))) (g.same inv s may)
-      (g.put inv s may _ (g.posted (g.common (g.good inv s may) _ (refl, refl))) (ap (λ (c : Common). c.notification) (shown-common k lawful w.moment (at k w s))))
+      (g.put inv s may _ (g.posted (g.common (g.good inv s may) _ (refl, refl)) _) (ap (λ (c : Common). c.notification) (shown-common k lawful w.moment (at k w s))))
 
   shown-goes : {w v : World R} → Inv w v → (s : ℕ) → May s → Inv (showing k w s) (showing k v s)
   shown-goes {w} {v} inv s may = subst (λ (n : ℕ). Inv (showing k w s) (put v s (shown_record k n (at k v s)))) (g.moment inv) (shown-at inv s may)
@@ -473,6 +485,45 @@ module _ {R : Type 0} (k : RecordRules R) (lawful : IsLawful k) (May : ℕ → T
               ∙ ap (followed_by (followed k other v s (link_at k v s slot)).requests) rest.requests;
         }
 
+    input_at-there : {w v : World R} → Inv w v → (s : ℕ) → May s → (slot : FieldSlot) (t : StandingLink) → input_at k w s slot ≡ Standing t → May t.number
+    input_at-there {w} inv s may slot t is = g.link (g.good inv s may) t.number (link_named k lawful (at k w s) (Own (InputLink slot)) t is)
+
+    read_each-goes : (slots : List FieldSlot) {w v : World R} → Inv w v → (s : ℕ) → May s → (has_fault : Bool)
+        → GoesThrough Inv (read_each k ask w s has_fault slots) (read_each k other v s has_fault slots)
+    unfolding read_each
+    read_each-goes [] inv s may has_fault = record { inv = inv; requests = refl; came = refl }
+    read_each-goes (slot ∷ slots) {w} {v} inv s may has_fault =
+        let mine = read_link k ask (λ _. input-kind.Double) w s (input_at k w s slot) in
+        let theirs = read_link k other (λ _. input-kind.Double) v s (input_at k v s slot) in
+        let first : GoesThrough Inv mine theirs = subst (λ (link : LinkUse). GoesThrough Inv mine (read_link k other (λ _. input-kind.Double) v s link))
+        (ap (λ (r : R). use_of_field (k.link r (Own (InputLink slot)))) (g.same inv s may))
+        (read_link-goes (λ _. input-kind.Double) inv s may (input_at k w s slot) (input_at-there inv s may slot)) in
+        let after : Inv (kept k mine.world s (Letter slot) mine.came) (kept k theirs.world s (Letter slot) theirs.came) =
+        subst (λ (got : Got). Inv (kept k mine.world s (Letter slot) mine.came) (kept k theirs.world s (Letter slot) got)) first.came (kept-goes first.inv s may (Letter slot) mine.came) in
+        let rest = subst (λ (got : Got). GoesThrough Inv (read_each k ask (kept k mine.world s (Letter slot) mine.came) s (has_fault || is_fault mine.came) slots)
+        (read_each k other (kept k theirs.world s (Letter slot) theirs.came) s (has_fault || is_fault got) slots))
+        first.came (read_each-goes slots after s may (has_fault || is_fault mine.came)) in
+        record { inv = rest.inv; requests = both_followed first.requests rest.requests; came = rest.came }
+
+    read_chosen-goes : (chosen chosen' : Came R) → GoesCame Inv chosen chosen' → (s : ℕ) → May s → GoesThrough Inv (read_chosen k ask chosen s) (read_chosen k other chosen' s)
+    unfolding read_chosen
+    read_chosen-goes chosen chosen' go s may =
+        let ready = kept k chosen.world s Seln chosen.came in
+        let ready' = kept k chosen'.world s Seln chosen.came in
+        let there = kept-goes go.inv s may Seln chosen.came in
+        subst (λ (got : Got). GoesThrough Inv (read_chosen k ask chosen s)
+        (read_each k other (kept k chosen'.world s Seln got) s (is_fault got) (chosen_links (k.inputs (at k (kept k chosen'.world s Seln got) s) got)))) go.came
+        (subst (λ (r : R). GoesThrough Inv (read_chosen k ask chosen s) (read_each k other ready' s (is_fault chosen.came) (chosen_links (k.inputs r chosen.came)))) (g.same there s may)
+        (read_each-goes (chosen_links (k.inputs (at k ready s) chosen.came)) there s may (is_fault chosen.came)))
+
+    pub read_inputs-goes : {w v : World R} → Inv w v → (s : ℕ) → May s → (link : LinkUse) → ((t : StandingLink) → link ≡ Standing t → May t.number)
+        → GoesThrough Inv (read_inputs k ask w s link) (read_inputs k other v s link)
+    unfolding read_inputs
+    read_inputs-goes inv s may link there =
+        let first = read_link-goes k.input_kind inv s may link there in
+        let rest = read_chosen-goes _ _ (record { inv = first.inv; came = first.came }) s may in
+        record { inv = rest.inv; requests = both_followed first.requests rest.requests; came = rest.came }
+
     pub finished-goes : {w v : World R} → Inv w v → (s : ℕ) → May s → Goes Inv (finished k ask w s) (finished k other v s)
     unfolding finished
     finished-goes {w} {v} inv s may =
@@ -532,19 +583,24 @@ module _ {R : Type 0} (k : RecordRules R) (lawful : IsLawful k) (May : ℕ → T
           record { inv = rest.inv; requests = ap (λ (x : Requests). followed_by x (completed_if k answers ask reading.world s reading.came).requests) go.requests ∙ ap (followed_by reading'.requests) rest.requests }
 
       pub input-goes : {w v : World R} → Inv w v → (s : ℕ) → May s → (want : Want) → ((t : StandingLink) → want ≡ ReadLink (Standing t) → May t.number)
+          → ((t : StandingLink) → want ≡ ReadInputs (Standing t) → May t.number)
           → GoesRead Inv (input k answers ask w s want) (input k answers other v s want)
       unfolding input
-      input-goes inv s may NoInput there = record { inv = inv; requests = refl; came = refl }
-      input-goes inv s may (ReadLink link) there =
+      input-goes inv s may NoInput there chosen = record { inv = inv; requests = refl; came = refl }
+      input-goes inv s may (ReadLink link) there chosen =
           let read = read_link-goes k.input_kind inv s may link (λ t is. there t (ap ReadLink is)) in
           record { inv = read.inv; requests = read.requests; came = ap Some read.came }
-      input-goes inv s may ReadDevice there = read_device-goes answers inv s may
+      input-goes inv s may ReadDevice there chosen = read_device-goes answers inv s may
+      input-goes inv s may (ReadInputs link) there chosen =
+          let read = read_inputs-goes inv s may link (λ t is. chosen t (ap ReadInputs is)) in
+          record { inv = read.inv; requests = read.requests; came = ap Some read.came }
 
       pub body-goes : {w v : World R} → Inv w v → (s : ℕ) → May s → Goes Inv (body k answers ask w s) (body k answers other v s)
       unfolding body
       body-goes {w} {v} inv s may =
           rw (← g.same inv s may)
-          (rest-goes _ _ (input-goes inv s may (k.begin (at k w s)) (λ t is. g.link (g.good inv s may) t.number (lawful.begin_named (at k w s) t is))) s may)
+          (rest-goes _ _ (input-goes inv s may (k.begin (at k w s)) (λ t is. g.link (g.good inv s may) t.number (lawful.begin_named (at k w s) t is))
+          (λ t is. g.link (g.good inv s may) t.number (lawful.choice_named (at k w s) t is))) s may)
 
       pub judged-goes : {w v : World R} → Inv w v → (s : ℕ) → May s → GoesRan Inv (judged k answers ask w s) (judged k answers other v s)
       unfolding judged

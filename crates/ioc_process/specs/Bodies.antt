@@ -2,7 +2,7 @@
 use Rattle.std.proofs.Common.{◌≡◌, ℕ, true, false, refl, ap, ◌∙◌}
 use Rattle.ioc_ledger.specs.declared.tally.Tally.{Tally}
 use Rattle.ioc_dbcommon.specs.declared.body.Got.{Got}
-use Rattle.ioc_dbcommon.specs.declared.body.Want.TheVariants.{ReadLink}
+use Rattle.ioc_dbcommon.specs.declared.body.Want.TheVariants.{ReadLink, ReadInputs}
 use Rattle.ioc_fields.specs.declared.field_no.FieldNo.TheVariants.{Own}
 use Rattle.ioc_fields.specs.declared.field_no.OwnField.TheVariants.{Lnk}
 use Rattle.ioc_fields.specs.declared.field_no.FieldSlot.{FieldSlot}
@@ -47,6 +47,9 @@ module _ {R : Type 0} (k : RecordRules R) (lawful : IsLawful k) where
 
   pub input_stands : (w : World R) (s : ℕ) (link : LinkUse) → IsClosed k w → k.begin (at k w s) ≡ ReadLink link → IsStanding w link
   input_stands w s link is reads = λ t e. is.closed s t.number (lawful.begin_named (at k w s) t (reads ∙ ap ReadLink e))
+
+  pub choice_stands : (w : World R) (s : ℕ) (link : LinkUse) → IsClosed k w → k.begin (at k w s) ≡ ReadInputs link → IsStanding w link
+  choice_stands w s link is reads = λ t e. is.closed s t.number (lawful.choice_named (at k w s) t (reads ∙ ap ReadInputs e))
 
   pub output_stands : (w : World R) (s : ℕ) (got : Got) → IsClosed k w → (t : StandingLink) (v : Value) → k.output (at k w s) got ≡ WriteLink (Standing t) v → Has w t.number
   output_stands w s got is t v writes = is.closed s t.number (lawful.output_named (at k w s) got t v writes)

@@ -8,9 +8,12 @@ use Rattle.ioc_dbcommon.specs.declared.link_field.StandingLink.{StandingLink}
 use Rattle.ioc_dbcommon.specs.declared.body.Got.{Got}
 use Rattle.ioc_dbcommon.specs.declared.body.Got.TheVariants.{Nothing as Got-nothing, Value as Got-value, Fault as Got-fault}
 use Rattle.ioc_dbcommon.specs.declared.body.Want.{Want}
-use Rattle.ioc_dbcommon.specs.declared.body.Want.TheVariants.{NoInput, ReadLink}
+use Rattle.ioc_dbcommon.specs.declared.body.Want.TheVariants.{NoInput, ReadLink, ReadDevice, ReadInputs}
 use Rattle.ioc_dbcommon.specs.declared.body.Output.{Output}
 use Rattle.ioc_dbcommon.specs.declared.body.Output.TheVariants.{NoOutput, WriteLink, WriteDevice, FollowLinks, PostEvent}
+use Rattle.ioc_fields.specs.declared.field_no.FieldNo.TheVariants.{Own}
+use Rattle.ioc_fields.specs.declared.field_no.OwnField.{OwnField}
+use Rattle.ioc_fields.specs.declared.field_no.OwnField.TheVariants.{Letter, Seln}
 use Rattle.ioc_fields.specs.declared.field_no.FieldSlot.{FieldSlot}
 use Rattle.ioc_values.specs.declared.input.Input.{Input}
 use Rattle.ioc_values.specs.declared.input.Input.TheVariants.{Value as InputValue}
@@ -22,6 +25,7 @@ use Rattle.ioc_values.specs.declared.error.IocError.{IocError}
 use Rattle.ioc_dbcommon.specs.Links.{use_of}
 use Rattle.std.proofs.lemmas.Grind.{common_steps}
 use Rattle.ioc_dbcommon.specs.declared.body.InputKind.{InputKind}
+use Rattle.ioc_dbcommon.specs.declared.body.InputKind.TheVariants as input-kind
 use Rattle.ioc_dbcommon.specs.Steps.{inherited, blocked, unblocked, with_active, waiting, is_passive, with_put_mark, disabled, disable_kind, change_numbered, with_notification}
 use Rattle.ioc_store.specs.Marks.{is_put_down, put_down, put_mark_passed, at_rest, with_disable_input, is_disabled}
 use Rattle.ioc_store.specs.declared.call.Call.{Call}
@@ -32,9 +36,10 @@ use Rattle.ioc_record.specs.Laws.{IsLawful}
 use Rattle.ioc_store.specs.declared.outbox.OutboxItem.{OutboxItem}
 use Rattle.ioc_store.specs.declared.outbox.OutboxItem.TheVariants.{Once, Post}
 use Rattle.ioc_store.specs.World.{World, Has, at, common_at, put, called, sent, changed, idle, Stays, lost, taken_on, let_go}
-use Rattle.ioc_store.specs.Links.{link_at, chosen_links, requests_first, requests_after, handed_on}
+use Rattle.ioc_store.specs.Inputs.{kept}
+use Rattle.ioc_store.specs.Links.{link_at, input_at, chosen_links, requests_first, requests_after, handed_on}
 use Rattle.ioc_ledger.specs.Requests.{None, Request, more}
-use Rattle.ioc_process.specs.Processing.{Done, Ran, Read, Reading, Written, PutOut, as_request, ran_after, processed, asked, next_call, as_input, judged, begun_idle, ran, caused, followed, inherits, value_came, stored_at, wrote, after_writing, write_link, followed_each, finished, finished_if, after_output, acknowledged, write_device, put_out, prepared, read_record, faulted, read_link, completed, completed_if, device_gave, received, read_device, can_ask, input, body, turned_away, requested, nested, request, read_at}
+use Rattle.ioc_process.specs.Processing.{Done, Ran, Read, Came, Reading, Written, PutOut, as_request, ran_after, processed, asked, next_call, as_input, judged, begun_idle, ran, caused, followed, inherits, value_came, stored_at, wrote, after_writing, write_link, followed_each, finished, finished_if, after_output, acknowledged, write_device, put_out, prepared, read_record, faulted, read_link, completed, completed_if, device_gave, received, read_device, can_ask, input, body, turned_away, requested, nested, request, read_at, read_each, read_chosen, read_inputs}
 use Rattle.ioc_store.specs.Rests.{rested, disable_came}
 use Rattle.std.specs.Prelude.{nat_lt, ◌++◌, Result, Ok, Err}
 use Rattle.ioc_fields.specs.declared.field_no.FieldNo.{FieldNo}
@@ -206,6 +211,12 @@ module _ {R : Type 0} (k : RecordRules R) (lawful : IsLawful k) where
 
   pub taken-stays : (w : World R) (s : ℕ) (got : Got) → Stays k w s (put w s (k.taken (at k w s) got))
   taken-stays w s got = stays-put w s s _ (lawful.taken_active _ got)
+
+  pub kept-stays : (w : World R) (s : ℕ) (f : OwnField) (got : Got) → Stays k w s (kept k w s f got)
+  unfolding kept
+  kept-stays w s f (Got-value v) = stays-put w s s _ (lawful.stored_active (at k w s) (Own f) v)
+  kept-stays w s f Got-nothing = stays_here k w s
+  kept-stays w s f Got-fault = stays_here k w s
 
   pub room-shown : (w : World R) (s : ℕ) → idle k (showing k w s) + one_if_not (common_at k w s).active ≡ idle k w
   room-shown w s = omega (arith, idle-put k lawful w s (shown_record k w.moment (at k w s)), ap (λ (c : Common). one_if_not c.active) (shown-common k lawful w.moment (at k w s)))
@@ -402,6 +413,48 @@ module _ {R : Type 0} (k : RecordRules R) (lawful : IsLawful k) where
         let first = followed-stays w s (link_at k w s slot) room in
         rw (← followed-same w s (link_at k w s slot) room, followed_each-same slots _ s (room_on k bound w _ s room first)) refl
 
+    -- Record `s` has read one of its inputs, and kept it.
+    one_kept-stays : (w : World R) (s : ℕ) (slot : FieldSlot) (link : LinkUse) → FewIdle k bound w s
+        → (let read = read_link k ask (λ _. input-kind.Double) w s link in Stays k w s (kept k read.world s (Letter slot) read.came))
+    one_kept-stays w s slot link room = stays_on k (read_link-stays (λ _. input-kind.Double) w s link room) (kept-stays _ s (Letter slot) _)
+
+    pub read_each-stays : (slots : List FieldSlot) (w : World R) (s : ℕ) (has_fault : Bool) → FewIdle k bound w s → Stays k w s (read_each k ask w s has_fault slots).world
+    unfolding read_each
+    read_each-stays [] w s has_fault room = stays_here k w s
+    read_each-stays (slot ∷ slots) w s has_fault room =
+        let first = one_kept-stays w s slot (input_at k w s slot) room in
+        stays_on k first (read_each-stays slots _ s _ (room_on k bound w _ s room first))
+
+    read_each-same : (slots : List FieldSlot) (w : World R) (s : ℕ) (has_fault : Bool) → FewIdle k bound w s → read_each k ask w s has_fault slots ≡ read_each k other w s has_fault slots
+    unfolding read_each
+    read_each-same [] w s has_fault room = refl
+    read_each-same (slot ∷ slots) w s has_fault room =
+        let first = one_kept-stays w s slot (input_at k w s slot) room in
+        rw (← read_link-same (λ _. input-kind.Double) w s (input_at k w s slot) room, read_each-same slots _ s _ (room_on k bound w _ s room first)) refl
+
+    pub read_chosen-stays : (chosen : Came R) (s : ℕ) → FewIdle k bound chosen.world s → Stays k chosen.world s (read_chosen k ask chosen s).world
+    unfolding read_chosen
+    read_chosen-stays chosen s room =
+        let first = kept-stays chosen.world s Seln chosen.came in
+        stays_on k first (read_each-stays _ _ s _ (room_on k bound chosen.world _ s room first))
+
+    read_chosen-same : (chosen : Came R) (s : ℕ) → FewIdle k bound chosen.world s → read_chosen k ask chosen s ≡ read_chosen k other chosen s
+    unfolding read_chosen
+    read_chosen-same chosen s room = read_each-same _ _ s _ (room_on k bound chosen.world _ s room (kept-stays chosen.world s Seln chosen.came))
+
+    pub read_inputs-stays : (w : World R) (s : ℕ) (link : LinkUse) → FewIdle k bound w s → Stays k w s (read_inputs k ask w s link).world
+    unfolding read_inputs
+    read_inputs-stays w s link room =
+        let first = read_link-stays k.input_kind w s link room in
+        stays_on k first (read_chosen-stays _ s (room_on k bound w _ s room first))
+
+    read_inputs-same : (w : World R) (s : ℕ) (link : LinkUse) → FewIdle k bound w s → read_inputs k ask w s link ≡ read_inputs k other w s link
+    unfolding read_inputs
+    read_inputs-same w s link room =
+        let first = read_link k ask k.input_kind w s link in
+        let chosen : Came R = record { world = first.world; came = first.came } in
+        rw (← read_link-same k.input_kind w s link room, read_chosen-same chosen s (room_on k bound w _ s room (read_link-stays k.input_kind w s link room))) refl
+
     module _ (w : World R) (s : ℕ) (inactive : (common_at k w s).active ≡ false) (small : idle k w ≤ bound) where
       ready_world : World R
       ready_world = showing k w s
@@ -497,13 +550,15 @@ module _ {R : Type 0} (k : RecordRules R) (lawful : IsLawful k) where
     unfolding input
     input-reads w s NoInput room = reads w s _ (stays_here k w s)
     input-reads w s (ReadLink link) room = reads w s _ (read_link-stays bound ask other asks k.input_kind w s link room)
-    input-reads w s Device room = read_device-reads answers w s
+    input-reads w s ReadDevice room = read_device-reads answers w s
+    input-reads w s (ReadInputs link) room = reads w s _ (read_inputs-stays bound ask other asks w s link room)
 
     input-same : (w : World R) (s : ℕ) (want : Want) → FewIdle k bound w s → input k answers ask w s want ≡ input k answers other w s want
     unfolding input
     input-same w s NoInput room = refl
     input-same w s (ReadLink link) room = ap (λ (r : Read R). as_input r) (read_link-same bound ask other asks k.input_kind w s link room)
-    input-same w s Device room = refl
+    input-same w s ReadDevice room = refl
+    input-same w s (ReadInputs link) room = ap (λ (r : Read R). as_input r) (read_inputs-same bound ask other asks w s link room)
 
     pub put_out-outs : (w : World R) (s : ℕ) (output : Output) → FewIdle k bound w s → Outs k w s (put_out k answers ask w s output)
     unfolding put_out
@@ -691,6 +746,9 @@ module _ {R : Type 0} (k : RecordRules R) (lawful : IsLawful k) where
 
       pub stays-read_link : (kind : R → InputKind) (link : LinkUse) → Stays k w s (read_link k (request k answers) kind w s link).world
       stays-read_link kind link = read_link-stays _ _ _ (request-asks (idle k w + 1)) kind w s link free
+
+      pub stays-read_each : (has_fault : Bool) (slots : List FieldSlot) → Stays k w s (read_each k (request k answers) w s has_fault slots).world
+      stays-read_each has_fault slots = read_each-stays _ _ _ (request-asks (idle k w + 1)) slots w s has_fault free
 
       pub reads-input : (want : Want) → Reads k w s (input k answers (request k answers) w s want)
       reads-input want = input-reads answers _ _ _ (request-asks (idle k w + 1)) w s want free

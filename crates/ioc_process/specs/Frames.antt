@@ -1,6 +1,6 @@
 -- What is left to do of a request, given the open frames. How requests are made is this project's
 -- own design.
-use Rattle.std.specs.Prelude.{◌≡◌, ℕ, ◌+◌, ◌-◌, ◌≤◌, filter, drop, true, false, if◌then◌else◌, List, [], ◌∷◌, ◌++◌, Option, Some}
+use Rattle.std.specs.Prelude.{◌≡◌, ℕ, ◌+◌, ◌-◌, ◌≤◌, filter, drop, Bool, true, false, ◌||◌, if◌then◌else◌, List, [], ◌∷◌, ◌++◌, Option, Some}
 use Rattle.std.specs.Prelude.{None as Nothing_}
 use Rattle.std.specs.List.{last_or}
 use Rattle.ioc_ledger.specs.declared.tally.Tally.{Tally}
@@ -8,18 +8,22 @@ use Rattle.ioc_ledger.specs.declared.outcome.Outcome.{Outcome}
 use Rattle.ioc_ledger.specs.declared.outcome.Outcome.TheVariants.{Active, Reprocess}
 use Rattle.ioc_ledger.specs.Requests.{None, followed_by, counted}
 use Rattle.ioc_fields.specs.Names.{all_slots}
+use Rattle.ioc_fields.specs.Slots.{slot_number}
 use Rattle.ioc_fields.specs.declared.field_no.FieldSlot.{FieldSlot}
+use Rattle.ioc_dbcommon.specs.declared.link_field.StandingLink.{StandingLink}
 use Rattle.ioc_dbcommon.specs.Steps.{with_active, disable_kind}
 use Rattle.ioc_record.specs.RecordRules.{RecordRules}
 use Rattle.ioc_store.specs.declared.frames.ResumePoint.{ResumePoint}
-use Rattle.ioc_store.specs.declared.frames.ResumePoint.TheVariants.{ReadingDisable, Reading as Reading-place, Writing, FollowingEach, Following}
+use Rattle.ioc_store.specs.declared.frames.ResumePoint.TheVariants.{ReadingDisable, Reading as Reading-place, Choosing, ReadingEach, Writing, FollowingEach, Following}
+use Rattle.ioc_store.specs.declared.frames.InputsLeft.{InputsLeft}
 use Rattle.ioc_store.specs.declared.frames.Frame.{Frame}
 use Rattle.ioc_store.specs.declared.frames.Next.{Next}
 use Rattle.ioc_store.specs.declared.frames.Next.TheVariants.{Requests as Requests-next, Ends}
 use Rattle.ioc_store.specs.World.{World, Has, common_at, changed, idle, Keeps}
 use Rattle.ioc_store.specs.Marks.{is_put_down, put_down, put_mark_passed}
+use Rattle.ioc_store.specs.Inputs.{is_fault}
 use Rattle.ioc_store.specs.Links.{is_chosen}
-use Rattle.ioc_process.specs.Processing.{Done, Ran, Read, Reading, as_request, processed, ran_after, completed_if, request, ran, read_at, judged, completed, finished, followed_each}
+use Rattle.ioc_process.specs.Processing.{Done, Ran, Came, Read, Reading, as_input, as_request, processed, ran_after, completed_if, request, ran, read_at, input_read, read_each, read_chosen, judged, completed, finished, followed_each}
 use Rattle.ioc_store.specs.Given.{Answers}
 use Rattle.ioc_store.specs.Notifying.{passed_on}
 use Rattle.ioc_store.specs.Places.{requested_at}
@@ -67,14 +71,21 @@ abbrev pub calls : Turn → ℕ
 calls (Ended outcome) = 0
 calls (Calls frame) = 1
 
--- The largest number of requests that a body still makes when it resumes at this point: sixteen
+-- The largest number of requests that a body still makes when it resumes at this point: of the inputs that it reads, sixteen
 -- links and the forward link at most.
 abbrev pub calls_left : ResumePoint → ℕ
-calls_left (ReadingDisable t) = 18
+calls_left (ReadingDisable t) = 34
 calls_left (Reading-place t) = 17
+calls_left (Choosing t) = 33
+calls_left (ReadingEach left t) = (15 - slot_number left.slot) + 17
 calls_left (Writing target) = 1
 calls_left (FollowingEach links target next) = (16 - next) + 1
 calls_left (Following target) = 0
+
+-- Whether a body that resumes at this point is done: it has followed its forward link.
+abbrev pub is_done_at : ResumePoint → Bool
+is_done_at (Following target) = true
+is_done_at _ = false
 
 -- The largest number of requests that are still made after a turn, including the one that the turn
 -- makes.
@@ -82,15 +93,15 @@ abbrev pub turn_left : Turn → ℕ
 turn_left (Ended outcome) = 0
 turn_left (Calls frame) = 1 + calls_left frame.place
 
--- The largest number of requests that a body makes: of the record that it reads, of sixteen links,
--- and of its forward link.
+-- The largest number of requests that a body makes: of the record that it reads first, of sixteen inputs, of sixteen links, and
+-- of its forward link.
 abbrev pub most_calls : ℕ
-most_calls = 18
+most_calls = 34
 
 -- The largest number of requests that a request makes: those of the body, and that of the record
 -- that SDIS names.
 abbrev pub most_of_request : ℕ
-most_of_request = 19
+most_of_request = 35
 
 -- Holds if the records of a frame exist.
 pub record FrameStands {R : Type 0} (w : World R) (frame : Frame) : Type 0 where
@@ -126,6 +137,26 @@ module _ {R : Type 0} (k : RecordRules R) (answers : Answers) where
       let rest = finished k (request k answers) done.world s in
       record { world = rest.world; requests = followed_by done.requests rest.requests }
 
+  -- The part of a body after its input.
+  unfoldable pub after_reading : ℕ → Reading R → Done R
+  after_reading s reading =
+      let rest = completed_if k answers (request k answers) reading.world s reading.came in
+      record { world = rest.world; requests = followed_by reading.requests rest.requests }
+
+  -- Record `s` reads these inputs, and its body goes on with what comes of them.
+  unfoldable pub then_read_each : ℕ → Bool → List FieldSlot → World R → Ran R
+  then_read_each s has_fault slots w = processed (after_reading s (as_input (read_each k (request k answers) w s has_fault slots)))
+
+  -- Record `s` reads the inputs that are chosen by what came, and its body goes on.
+  unfoldable pub then_chosen : ℕ → Came R → Ran R
+  then_chosen s chosen = processed (after_reading s (as_input (read_chosen k (request k answers) chosen s)))
+
+  -- Record `s` reads one of its inputs, and then those that are left.
+  unfoldable pub resumed_reading : World R → ℕ → InputsLeft → StandingLink → Ran R
+  resumed_reading w s left t =
+      let read = input_read k w s t left.slot in
+      then_read_each s (left.has_fault || is_fault read.came) (remaining left.inputs (slot_number left.slot + 1)) read.world
+
   -- Record `s` resumes at this point.
   unfoldable pub went_on : World R → ℕ → ResumePoint → Ran R
   went_on w s (ReadingDisable t) =
@@ -134,16 +165,12 @@ module _ {R : Type 0} (k : RecordRules R) (answers : Answers) where
   went_on w s (Reading-place t) =
       let read = read_at k k.input_kind (changed k w s (with_active false)) s t in
       processed (completed k answers (request k answers) read.world s read.came)
+  went_on w s (Choosing t) = then_chosen s (read_at k k.input_kind (changed k w s (with_active false)) s t)
+  went_on w s (ReadingEach left t) = resumed_reading (changed k w s (with_active false)) s left t
   went_on w s (Writing target) = processed (finished k (request k answers) (changed k w s (with_active false)) s)
   went_on w s (FollowingEach links target next) =
       processed (then_finished s (followed_each k (request k answers) (changed k w s (with_active false)) s (remaining links next)))
   went_on w s (Following target) = processed (record { world = rested k (changed k w s (with_active true)) s; requests = None })
-
-  -- The part of a body after its input.
-  unfoldable pub after_reading : ℕ → Reading R → Done R
-  after_reading s reading =
-      let rest = completed_if k answers (request k answers) reading.world s reading.came in
-      record { world = rest.world; requests = followed_by reading.requests rest.requests }
 
   -- These requests, followed by what resumes at the frame.
   unfoldable pub then_frame : Done R → Frame → Ran R

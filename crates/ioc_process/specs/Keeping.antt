@@ -226,7 +226,7 @@ module _ {R : Type 0} (k : RecordRules R) (lawful : IsLawful k) where
       link = λ {n} {r} good target links. closed.closed n target (subst (λ (l : List ℕ). Contains l target) (targets_same k lawful good.1) links);
       common = λ good c same. (good.0, links_on k good.1 (links-set k lawful _ c same));
       taken = λ good got. (good.0, links_on k good.1 (links-taken k lawful _ got));
-      posted = λ good. (good.0, links_on k good.1 (links-posted k lawful _));
+      posted = λ good changes. (good.0, links_on k good.1 (links-posted k lawful _ changes));
       finished = λ good x. (good.0, links_on k good.1 (links-finished k lawful _ x));
       stored = λ good f v. (good.0, links_on k good.1 (links-stored k lawful _ f v));
       put = λ inv n may r good _. (ap (λ (w : World R). put w n r) inv.0, put_kept k w0 _ n may r inv.1 good.1);

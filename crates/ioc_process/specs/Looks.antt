@@ -16,7 +16,7 @@ use Rattle.ioc_store.specs.World.{World, at, common_at, put}
 use Rattle.ioc_process.specs.declared.fast_path.IdleStart.{IdleStart}
 use Rattle.ioc_process.specs.declared.fast_path.Shown.{Shown}
 use Rattle.ioc_process.specs.declared.fast_path.Shown.TheVariants.{Named, Done, Rests}
-use Rattle.ioc_process.specs.declared.fast_path.IdleStart.TheVariants.{ReadsDisable, Disabled, ReadsLink, ReadsDevice, Took, PutsOut}
+use Rattle.ioc_process.specs.declared.fast_path.IdleStart.TheVariants.{ReadsDisable, Disabled, ReadsLink, ReadsDevice, ReadsInputs, Took, PutsOut}
 
 module _ {R : Type 0} (k : RecordRules R) where
   -- Holds if SDIS is no link, the record isn't disabled, and its body needs this first.
@@ -31,6 +31,7 @@ module _ {R : Type 0} (k : RecordRules R) where
   Opens r Disabled written after = (after ≡ r) × (is_unused (use_of (k.common r).disable_link) ≡ true) × (is_disabled (k.common r) ≡ true)
   Opens r ReadsLink written after = (after ≡ r) × Begins r need.Link
   Opens r ReadsDevice written after = (after ≡ r) × Begins r need.Device
+  Opens r ReadsInputs written after = (after ≡ r) × Begins r need.Inputs
   Opens r Took written after = (after ≡ k.taken r got.Nothing) × Begins r need.Nothing × (puts_out (k.output r got.Nothing) ≡ false)
   Opens r PutsOut written after = (after ≡ k.taken r got.Nothing) × Begins r need.Nothing × (written ≡ k.output r got.Nothing)
 
@@ -40,6 +41,7 @@ module _ {R : Type 0} (k : RecordRules R) where
   Opened w s Disabled written after = (after ≡ w) × (is_unused (use_of (common_at k w s).disable_link) ≡ true) × (is_disabled (common_at k w s) ≡ true)
   Opened w s ReadsLink written after = (after ≡ w) × Begins (at k w s) need.Link
   Opened w s ReadsDevice written after = (after ≡ w) × Begins (at k w s) need.Device
+  Opened w s ReadsInputs written after = (after ≡ w) × Begins (at k w s) need.Inputs
   Opened w s Took written after = (after ≡ put w s (k.taken (at k w s) got.Nothing)) × Begins (at k w s) need.Nothing × (puts_out (k.output (at k w s) got.Nothing) ≡ false)
   Opened w s PutsOut written after = (after ≡ put w s (k.taken (at k w s) got.Nothing)) × Begins (at k w s) need.Nothing × (written ≡ k.output (at k w s) got.Nothing)
 

@@ -1,6 +1,6 @@
 -- The rules allow the result of `request`.
 use Rattle.std.proofs.Common.{◌≡◌, ℕ, zero, suc, ◌+◌, ◌<◌, ◌≤◌, Bool, true, false, cond, eqb, nat_lt, List, [], ◌∷◌, Option, Some, None as Nothing_, refl, ap, subst, ◌∙◌, arith}
-use Rattle.std.specs.Prelude.{◌≢◌, length, Result, Ok, Err}
+use Rattle.std.specs.Prelude.{◌≢◌, ◌||◌, length, Result, Ok, Err}
 use Rattle.std.proofs.lemmas.Grind.{common_steps}
 use Rattle.ioc_dbcommon.specs.declared.link_field.LinkUse.{LinkUse}
 use Rattle.ioc_dbcommon.specs.declared.link_field.LinkUse.TheVariants.{Unused, OwnDevice, Absent, Standing}
@@ -8,6 +8,7 @@ use Rattle.ioc_dbcommon.specs.declared.link_field.StandingLink.{StandingLink}
 use Rattle.ioc_dbcommon.specs.declared.body.Got.{Got}
 use Rattle.ioc_dbcommon.specs.declared.body.Got.TheVariants.{Nothing as Got-nothing, Value as Got-value, Fault as Got-fault}
 use Rattle.ioc_dbcommon.specs.declared.body.InputKind.{InputKind}
+use Rattle.ioc_dbcommon.specs.declared.body.InputKind.TheVariants as input-kind
 use Rattle.ioc_dbcommon.specs.Links.{use_of}
 use Rattle.ioc_device.specs.declared.Ask.{Ask}
 use Rattle.ioc_device.specs.declared.Ask.TheVariants.{Read as Read-ask, Write as Write-ask}
@@ -16,7 +17,7 @@ use Rattle.ioc_store.specs.Showing.{showing}
 use Rattle.ioc_store.specs.declared.outbox.OutboxItem.TheVariants.{Once}
 use Rattle.ioc_store.specs.Marks.{is_put_down, put_down, put_mark_passed, resumed, at_rest, is_disabled}
 use Rattle.ioc_dbcommon.specs.declared.body.Want.{Want}
-use Rattle.ioc_dbcommon.specs.declared.body.Want.TheVariants.{NoInput, ReadLink, ReadDevice}
+use Rattle.ioc_dbcommon.specs.declared.body.Want.TheVariants.{NoInput, ReadLink, ReadDevice, ReadInputs}
 use Rattle.ioc_device.specs.declared.Answer.{Answer}
 use Rattle.ioc_device.specs.declared.Answer.TheVariants.{Done as Done-answer, Fault as Fault-answer, Later}
 use Rattle.ioc_values.specs.declared.value.Value.{Value}
@@ -24,20 +25,22 @@ use Rattle.ioc_values.specs.declared.error.IocError.{IocError}
 use Rattle.ioc_record.specs.Values.{read_as, converted_to, put_untested}
 use Rattle.ioc_values.specs.declared.input.Input.TheVariants.{Value as InputValue}
 use Rattle.ioc_fields.specs.declared.field_no.FieldSlot.{FieldSlot}
+use Rattle.ioc_fields.specs.declared.field_no.OwnField.TheVariants.{Letter, Seln}
 use Rattle.ioc_dbcommon.specs.declared.body.Output.{Output}
 use Rattle.ioc_dbcommon.specs.declared.body.Output.TheVariants.{NoOutput, WriteLink, WriteDevice, FollowLinks, PostEvent}
 use Rattle.ioc_dbcommon.specs.Steps.{inherited, unblocked, with_active, is_passive, disabled, disable_kind}
 use Rattle.ioc_record.specs.RecordRules.{RecordRules}
 use Rattle.ioc_record.specs.Laws.{IsLawful}
 use Rattle.ioc_store.specs.World.{World, at, common_at, put, changed, idle, called, sent}
-use Rattle.ioc_store.specs.Links.{link_at, chosen_links, requests_first, requests_after, handed_on}
+use Rattle.ioc_store.specs.Inputs.{is_fault}
+use Rattle.ioc_store.specs.Links.{link_at, input_at, chosen_links, requests_first, requests_after, handed_on}
 use Rattle.ioc_ledger.specs.Requests.{None, Request, followed_by}
 use Rattle.ioc_ledger.specs.declared.outcome.Outcome.TheVariants.{Disabled, Reprocess}
-use Rattle.ioc_process.specs.Processing.{Done, Reading, PutOut, caused, followed, inherits, faulted, value_came, stored_at, wrote, after_writing, write_link, followed_each, finished, finished_if, after_output, acknowledged, write_device, put_out, prepared, read_record, read_link, completed, completed_if, device_gave, received, read_device, can_ask, input, body, turned_away, processed, requested, request, Ran, as_request, ran_after, asked, next_call, judged, begun_idle, ran, resumed_with, read_at}
+use Rattle.ioc_process.specs.Processing.{Done, Reading, PutOut, caused, followed, inherits, faulted, value_came, stored_at, wrote, after_writing, write_link, followed_each, finished, finished_if, after_output, acknowledged, write_device, put_out, prepared, read_record, read_link, completed, completed_if, device_gave, received, read_device, can_ask, input, body, turned_away, processed, requested, request, Ran, as_request, ran_after, asked, next_call, judged, begun_idle, ran, resumed_with, read_at, read_each, read_chosen, read_inputs}
 use Rattle.ioc_store.specs.Rests.{rested, disable_came}
-use Rattle.ioc_process.specs.Rules.{Inherits, from_itself, from_another, Takes, that_converts, that_does_not, Receives, a_value, a_bad_value, a_fault, not_yet, Puts, that_fits, that_does_not_fit, Acknowledges, written, written_badly, not_written_yet, Gives, next, asked_too_often, no_more_numbers, Requested, while_active, while_idle, Causes, meanwhile_active, unused, absent, no_such_device, as_it_stands, after_request, Writes, to_nothing, to_absent, to_no_device, in_vain, alone, and_requests, Follows, to_record, to_scanned, nowhere, FollowsEach, no_more, one_more, PutsOut, nothing, to_link, to_device, to_links, as_event, Gets, no_input, of_device, Finishes, forward, Proceeds, at_once, kept_waiting, Runs, Disables, by_value, not_given, not_read, Rests, for_good, once_more, while_disabled, Asks, for_later, straight_away, Reads, Resumes, takes_completion, of_link}
+use Rattle.ioc_process.specs.Rules.{Inherits, from_itself, from_another, Takes, that_converts, that_does_not, Receives, a_value, a_bad_value, a_fault, not_yet, Puts, that_fits, that_does_not_fit, Acknowledges, written, written_badly, not_written_yet, Gives, next, asked_too_often, no_more_numbers, Requested, while_active, while_idle, Causes, meanwhile_active, unused, absent, no_such_device, as_it_stands, after_request, Writes, to_nothing, to_absent, to_no_device, in_vain, alone, and_requests, Follows, to_record, to_scanned, nowhere, FollowsEach, no_more, one_more, PutsOut, nothing, to_link, to_device, to_links, as_event, Gets, no_input, of_device, Finishes, forward, Proceeds, at_once, kept_waiting, Runs, Disables, by_value, not_given, not_read, Rests, for_good, once_more, while_disabled, Asks, for_later, straight_away, Reads, Resumes, takes_completion, of_link, of_inputs, ReadsEach, none_left, one_read}
 use Rattle.ioc_store.specs.Worlds.{idle-changed, idle-kept, one_of_two}
-use Rattle.ioc_process.specs.Depth.{passed-active, stays-changed, stays_on, stays-read_link, disable_came-stays, FewIdle, room_on, room-shown, shown-active, taken-stays, wrote-stays, stays-followed, outs-put_out, reads-input, request-rule, passed_on-idle}
+use Rattle.ioc_process.specs.Depth.{passed-active, stays-changed, stays_on, stays-read_link, disable_came-stays, kept-stays, FewIdle, room_on, room-shown, shown-active, taken-stays, wrote-stays, stays-followed, outs-put_out, reads-input, request-rule, passed_on-idle}
 use Rattle.ioc_process.specs.RulesAlone.{followed_by-none}
 use Rattle.ioc_store.specs.Given.{Answers}
 use Rattle.ioc_store.specs.Notifying.{passed_on, notified}
@@ -221,12 +224,31 @@ module _ {R : Type 0} (k : RecordRules R) (lawful : IsLawful k) (answers : Answe
     read_link-allowed kind w s OwnDevice room = no_such_device
     read_link-allowed kind w s Absent room = absent
 
+    read_each-allowed : (slots : List FieldSlot) (w : World R) (s : ℕ) (has_fault : Bool) → FewIdle k bound w s
+        → let read = read_each k ask w s has_fault slots in ReadsEach k answers w s has_fault slots read.world read.came read.requests
+    unfolding read_each
+    read_each-allowed [] w s has_fault room = none_left
+    read_each-allowed (slot ∷ slots) w s has_fault room =
+        let link = input_at k w s slot in
+        let read = read_link k ask (λ _. input-kind.Double) w s link in
+        let stays = stays_on k (stays-read_link k lawful answers w s (λ _. input-kind.Double) link) (kept-stays k lawful read.world s (Letter slot) read.came) in
+        one_read (read_link-allowed (λ _. input-kind.Double) w s link room) (read_each-allowed slots _ s (has_fault || is_fault read.came) (room_on k bound w _ s room stays))
+
+    read_inputs-allowed : (w : World R) (s : ℕ) (link : LinkUse) → FewIdle k bound w s
+        → let read = read_inputs k ask w s link in Gets k answers w s (ReadInputs link) read.world (Some read.came) read.requests
+    unfolding read_inputs read_chosen
+    read_inputs-allowed w s link room =
+        let read = read_link k ask k.input_kind w s link in
+        let stays = stays_on k (stays-read_link k lawful answers w s k.input_kind link) (kept-stays k lawful read.world s Seln read.came) in
+        of_inputs (read_link-allowed k.input_kind w s link room) refl (read_each-allowed _ _ s (is_fault read.came) (room_on k bound w _ s room stays))
+
     input-allowed : (w : World R) (s : ℕ) (want : Want) → FewIdle k bound w s
         → Gets k answers w s want (input k answers ask w s want).world (input k answers ask w s want).came (input k answers ask w s want).requests
     unfolding input
     input-allowed w s NoInput room = no_input
     input-allowed w s (ReadLink link) room = of_link (read_link-allowed k.input_kind w s link room)
     input-allowed w s ReadDevice room = device-allowed w s
+    input-allowed w s (ReadInputs link) room = read_inputs-allowed w s link room
 
     followed_each-allowed : (slots : List FieldSlot) (w : World R) (s : ℕ) → FewIdle k bound w s → FollowsEach k answers w s slots (followed_each k ask w s slots).world (followed_each k ask w s slots).requests
     unfolding followed_each

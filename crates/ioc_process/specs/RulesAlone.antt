@@ -1,5 +1,6 @@
 -- The rules allow no other result than that of `request`.
 use Rattle.std.proofs.Common.{◌≡◌, ◌≢◌, ℕ, Bool, true, false, eqb, List, ◌∷◌, Option, Some, None as Nothing_, refl, sym, ap, ◌∙◌, arith}
+use Rattle.std.specs.Prelude.{◌||◌}
 use Rattle.std.proofs.lemmas.Grind.{common_steps}
 use Rattle.ioc_dbcommon.specs.declared.link_field.LinkUse.{LinkUse}
 use Rattle.ioc_dbcommon.specs.declared.link_field.LinkUse.TheVariants.{Unused, OwnDevice, Absent, Standing}
@@ -13,21 +14,24 @@ use Rattle.ioc_dbcommon.specs.Links.{use_of}
 use Rattle.ioc_record.specs.Values.{read_as}
 use Rattle.ioc_values.specs.declared.value.Value.{Value}
 use Rattle.ioc_fields.specs.declared.field_no.FieldSlot.{FieldSlot}
+use Rattle.ioc_fields.specs.declared.field_no.OwnField.TheVariants.{Letter, Seln}
 use Rattle.ioc_dbcommon.specs.declared.body.Output.{Output}
 use Rattle.ioc_dbcommon.specs.Steps.{unblocked, with_active, is_passive, disabled, disable_kind}
 use Rattle.ioc_store.specs.Showing.{showing}
-use Rattle.ioc_store.specs.Links.{link_at, requests_first, requests_after, handed_on}
+use Rattle.ioc_store.specs.Inputs.{is_fault, kept}
+use Rattle.ioc_store.specs.Links.{link_at, input_at, chosen_links, requests_first, requests_after, handed_on}
 use Rattle.ioc_record.specs.RecordRules.{RecordRules}
 use Rattle.ioc_record.specs.Laws.{IsLawful}
 use Rattle.ioc_dbcommon.specs.declared.body.InputKind.{InputKind}
+use Rattle.ioc_dbcommon.specs.declared.body.InputKind.TheVariants as input-kind
 use Rattle.ioc_device.specs.declared.Ask.TheVariants.{Read as Read-ask, Write as Write-ask}
 use Rattle.ioc_values.specs.declared.value.Finished.{Finished}
 use Rattle.ioc_store.specs.Marks.{is_put_down, put_down, put_mark_passed, is_disabled}
 use Rattle.ioc_store.specs.World.{World, at, common_at, put, changed, called}
 use Rattle.ioc_ledger.specs.Requests.{Requests, None, Request, followed_by}
-use Rattle.ioc_process.specs.Processing.{Done, Came, Reading, Written, PutOut, caused, followed, inherits, faulted, value_came, stored_at, wrote, after_writing, write_link, followed_each, finished, after_output, acknowledged, write_device, put_out, prepared, read_record, read_link, completed, completed_if, device_gave, received, read_device, can_ask, input, body, turned_away, processed, requested, request, Ran, Read, as_request, ran_after, asked, judged, begun_idle, ran, as_input, resumed_with, read_at}
+use Rattle.ioc_process.specs.Processing.{Done, Came, Reading, Written, PutOut, caused, followed, inherits, faulted, value_came, stored_at, wrote, after_writing, write_link, followed_each, finished, after_output, acknowledged, write_device, put_out, prepared, read_record, read_link, completed, completed_if, device_gave, received, read_device, can_ask, input, body, turned_away, processed, requested, request, Ran, Read, as_request, ran_after, asked, judged, begun_idle, ran, as_input, resumed_with, read_at, read_each, read_chosen, read_inputs}
 use Rattle.ioc_store.specs.Rests.{rested, disable_came}
-use Rattle.ioc_process.specs.Rules.{Inherits, from_itself, from_another, Takes, that_converts, that_does_not, Receives, a_value, a_bad_value, a_fault, not_yet, Puts, that_fits, that_does_not_fit, Acknowledges, written, written_badly, not_written_yet, Gives, next, asked_too_often, no_more_numbers, Requested, while_active, while_idle, Causes, meanwhile_active, Reads, unused, absent, no_such_device, as_it_stands, after_request, Writes, to_nothing, to_absent, to_no_device, in_vain, alone, and_requests, Follows, to_record, to_scanned, nowhere, FollowsEach, no_more, one_more, PutsOut, nothing, to_link, to_device, to_links, as_event, Gets, no_input, of_device, Finishes, forward, Proceeds, at_once, kept_waiting, Runs, Disables, by_value, not_given, not_read, Rests, for_good, once_more, while_disabled, Asks, for_later, straight_away, Resumes, takes_completion, of_link}
+use Rattle.ioc_process.specs.Rules.{Inherits, from_itself, from_another, Takes, that_converts, that_does_not, Receives, a_value, a_bad_value, a_fault, not_yet, Puts, that_fits, that_does_not_fit, Acknowledges, written, written_badly, not_written_yet, Gives, next, asked_too_often, no_more_numbers, Requested, while_active, while_idle, Causes, meanwhile_active, Reads, unused, absent, no_such_device, as_it_stands, after_request, Writes, to_nothing, to_absent, to_no_device, in_vain, alone, and_requests, Follows, to_record, to_scanned, nowhere, FollowsEach, no_more, one_more, PutsOut, nothing, to_link, to_device, to_links, as_event, Gets, no_input, of_device, of_inputs, ReadsEach, none_left, one_read, Finishes, forward, Proceeds, at_once, kept_waiting, Runs, Disables, by_value, not_given, not_read, Rests, for_good, once_more, while_disabled, Asks, for_later, straight_away, Resumes, takes_completion, of_link}
 use Rattle.ioc_process.specs.Depth.{request-rule}
 use Rattle.ioc_store.specs.Given.{Answers}
 use Rattle.ioc_store.specs.Notifying.{passed_on, notified}
@@ -188,6 +192,19 @@ module _ {R : Type 0} (k : RecordRules R) (lawful : IsLawful k) (answers : Answe
   unfolding followed_each
   each-step w s slot slots first rest is more = rw (is, more) refl
 
+  read-step-each : (w : World R) (s : ℕ) (has_fault : Bool) (slot : FieldSlot) (slots : List FieldSlot) (first rest : Read R)
+      → read_link k ask (λ _. input-kind.Double) w s (input_at k w s slot) ≡ first
+      → read_each k ask (kept k first.world s (Letter slot) first.came) s (has_fault || is_fault first.came) slots ≡ rest
+      → read_each k ask w s has_fault (slot ∷ slots) ≡ record { world = rest.world; requests = followed_by first.requests rest.requests; came = rest.came }
+  unfolding read_each
+  read-step-each w s has_fault slot slots first rest is more = rw (is, more) refl
+
+  inputs-step : (w ready : World R) (s : ℕ) (link : LinkUse) (first rest : Read R) → read_link k ask k.input_kind w s link ≡ first → ready ≡ kept k first.world s Seln first.came
+      → read_each k ask ready s (is_fault first.came) (chosen_links (k.inputs (at k ready s) first.came)) ≡ rest
+      → read_inputs k ask w s link ≡ record { world = rest.world; requests = followed_by first.requests rest.requests; came = rest.came }
+  unfolding read_inputs read_chosen
+  inputs-step w ready s link first rest is r more = rw (is, ← r, more) refl
+
   -- A write that isn't stored raises an alarm and requests nothing.
   vain-step : (w : World R) (s : ℕ) (t : StandingLink) → after_writing k ask (record { world = w; stored = false }) s t ≡ record { world = faulted k w s; requests = None }
   unfolding after_writing
@@ -239,7 +256,7 @@ module _ {R : Type 0} (k : RecordRules R) (lawful : IsLawful k) (answers : Answe
   body-waits w mid s first is = body-step w s _ is ∙ rw followed_by-none refl
 
   mutual
-    unfolding read_link followed input faulted write_link put_out followed_each ran_after
+    unfolding read_link followed input faulted write_link put_out followed_each read_each ran_after
 
     pub request-is : {w : World R} {s : ℕ} {w' : World R} {requests : Requests} → Requested k answers w s w' requests → request k answers w s ≡ record { world = w'; requests = requests }
     request-is (while_active {w} {s} active) = request-active w s active
@@ -266,6 +283,12 @@ module _ {R : Type 0} (k : RecordRules R) (lawful : IsLawful k) (answers : Answe
     read_link-is (as_it_stands {kind} {w} {w'} {s} {t} {got} plain takes) = read-step kind w s t (record { world = w; requests = None }) w' got (prepared-plain w s t plain) (takes-is k takes)
     read_link-is (after_request {kind} {w} {w'} {w''} {s} {t} {got} {requests} pp c takes) =
         read-step kind w s t (record { world = w'; requests = requests }) w'' got (prepared-request w s t pp ∙ caused-is c) (takes-is k takes)
+
+    pub read_each-is : {w : World R} {s : ℕ} {has_fault : Bool} {slots : List FieldSlot} {w' : World R} {came : Got} {requests : Requests} → ReadsEach k answers w s has_fault slots w' came requests
+        → read_each k ask w s has_fault slots ≡ record { world = w'; requests = requests; came = came }
+    read_each-is none_left = refl
+    read_each-is (one_read {w} {w'} {w''} {s} {has_fault} {slot} {slots} {got} {came} {first} {rest} r more) =
+        read-step-each w s has_fault slot slots (record { world = w'; requests = first; came = got }) (record { world = w''; requests = rest; came = came }) (read_link-is r) (read_each-is more)
 
     pub followed-is : {w : World R} {s : ℕ} {link : LinkUse} {w' : World R} {requests : Requests} → Follows k answers w s link w' requests → followed k ask w s link ≡ record { world = w'; requests = requests }
     followed-is (to_record {w} {w'} {s} {t} passive c) = followed-passive w s t passive ∙ caused-is c
@@ -298,6 +321,9 @@ module _ {R : Type 0} (k : RecordRules R) (lawful : IsLawful k) (answers : Answe
     input-is no_input = refl
     input-is (of_link r) = ap (λ (x : Read R). as_input x) (read_link-is r)
     input-is (of_device g r) = read_device-is g ∙ received-is k r
+    input-is (of_inputs {w} {w'} {ready} {w''} {s} {link} {got} {came} {first} {rest} read r more) =
+        ap (λ (x : Read R). as_input x)
+        (inputs-step w ready s link (record { world = w'; requests = first; came = got }) (record { world = w''; requests = rest; came = came }) (read_link-is read) r (read_each-is more))
 
     pub finished-is : {w : World R} {s : ℕ} {w' : World R} {requests : Requests} → Finishes k answers w s w' requests → finished k ask w s ≡ record { world = w'; requests = requests }
     finished-is (forward {w} {ready} {w'} {w''} {s} r f rests) = finished-step w s ready _ w'' r (followed-is f) (rests-is k rests)

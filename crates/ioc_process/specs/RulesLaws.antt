@@ -5,6 +5,9 @@ use Rattle.std.proofs.lemmas.Grind.{common_steps}
 use Rattle.ioc_device.specs.declared.Answer.{Answer}
 use Rattle.ioc_ledger.specs.Requests.{Requests, more}
 use Rattle.ioc_fields.specs.declared.field_no.FieldSlot.{FieldSlot}
+use Rattle.ioc_fields.specs.declared.field_no.OwnField.{OwnField}
+use Rattle.ioc_fields.specs.declared.field_no.OwnField.TheVariants.{Letter, Seln}
+use Rattle.ioc_fields.specs.declared.field_no.FieldNo.TheVariants.{Own as Own-field}
 use Rattle.ioc_values.specs.declared.value.Value.{Value}
 use Rattle.ioc_values.specs.declared.input.Input.TheVariants.{Value as InputValue}
 use Rattle.ioc_record.specs.Values.{put_untested, converted_for}
@@ -12,11 +15,13 @@ use Rattle.ioc_dbcommon.specs.declared.body.Output.{Output}
 use Rattle.ioc_store.specs.Showing.{showing-common}
 use Rattle.ioc_store.specs.declared.outbox.OutboxItem.{OutboxItem}
 use Rattle.ioc_store.specs.declared.outbox.OutboxItem.TheVariants.{Once, Post}
+use Rattle.ioc_store.specs.Inputs.{kept}
 use Rattle.ioc_store.specs.Links.{handed_on}
 use Rattle.ioc_dbcommon.specs.declared.common.Common.{Common}
 use Rattle.ioc_dbcommon.specs.declared.link_field.LinkUse.{LinkUse}
 use Rattle.ioc_dbcommon.specs.declared.link_field.StandingLink.{StandingLink}
 use Rattle.ioc_dbcommon.specs.declared.body.Got.{Got}
+use Rattle.ioc_dbcommon.specs.declared.body.Got.TheVariants.{Nothing as Got-nothing, Value as Got-value, Fault as Got-fault}
 use Rattle.ioc_dbcommon.specs.declared.body.Want.{Want}
 use Rattle.ioc_dbcommon.specs.Steps.{blocked, unblocked, with_active, waiting, with_put_mark, with_reprocess_mark, disabled, change_numbered, with_notification}
 use Rattle.ioc_dbcommon.specs.declared.body.InputKind.{InputKind}
@@ -26,7 +31,7 @@ use Rattle.ioc_store.specs.Marks.{put_down, put_mark_passed, resumed, at_rest, w
 use Rattle.ioc_record.specs.RecordRules.{RecordRules}
 use Rattle.ioc_record.specs.Laws.{IsLawful}
 use Rattle.ioc_store.specs.World.{World, at, common_at, put, changed, called, sent, lost, taken_on, let_go}
-use Rattle.ioc_process.specs.Rules.{Left, as_it_was, now_waits, LeavesAll, Inherits, from_itself, from_another, Takes, that_converts, that_does_not, Receives, a_value, a_bad_value, a_fault, not_yet, Puts, that_fits, that_does_not_fit, Acknowledges, written, written_badly, not_written_yet, Gives, next, asked_too_often, no_more_numbers, Requested, while_active, while_idle, Causes, meanwhile_active, Reads, unused, absent, no_such_device, as_it_stands, after_request, Writes, to_nothing, to_absent, to_no_device, in_vain, alone, and_requests, Follows, to_record, to_scanned, nowhere, FollowsEach, no_more, one_more, PutsOut, nothing, to_link, to_device, to_links, as_event, Gets, no_input, of_link, of_device, Finishes, forward, Proceeds, at_once, kept_waiting, Runs, Disables, by_value, not_given, not_read, Rests, for_good, once_more, while_disabled, Asks, for_later, straight_away, Resumes, takes_completion}
+use Rattle.ioc_process.specs.Rules.{Left, as_it_was, now_waits, LeavesAll, Inherits, from_itself, from_another, Takes, that_converts, that_does_not, Receives, a_value, a_bad_value, a_fault, not_yet, Puts, that_fits, that_does_not_fit, Acknowledges, written, written_badly, not_written_yet, Gives, next, asked_too_often, no_more_numbers, Requested, while_active, while_idle, Causes, meanwhile_active, Reads, unused, absent, no_such_device, as_it_stands, after_request, Writes, to_nothing, to_absent, to_no_device, in_vain, alone, and_requests, Follows, to_record, to_scanned, nowhere, FollowsEach, no_more, one_more, PutsOut, nothing, to_link, to_device, to_links, as_event, Gets, no_input, of_link, of_device, of_inputs, ReadsEach, none_left, one_read, Finishes, forward, Proceeds, at_once, kept_waiting, Runs, Disables, by_value, not_given, not_read, Rests, for_good, once_more, while_disabled, Asks, for_later, straight_away, Resumes, takes_completion}
 use Rattle.ioc_store.specs.StepFrames.{blocked-frame, stored_with}
 use Rattle.ioc_store.specs.Worlds.{at-put_same, at-put_other, common_at-changed}
 use Rattle.ioc_store.specs.Given.{Answers}
@@ -266,6 +271,12 @@ module _ {R : Type 0} (k : RecordRules R) (lawful : IsLawful k) where
   unfolding Own
   taken-both w taken s got t = subst (Both s w) (sym t) (both-put w s s _ (record { active = lawful.taken_active _ got; pending = lawful.taken_pending _ got }))
 
+  kept-both : (w : World R) (s : ℕ) (f : OwnField) (got : Got) → Both s w (kept k w s f got)
+  unfolding kept Own
+  kept-both w s f (Got-value v) = both-put w s s _ (record { active = lawful.stored_active (at k w s) (Own-field f) v; pending = lawful.stored_pending (at k w s) (Own-field f) v })
+  kept-both w s f Got-nothing = both_here w s
+  kept-both w s f Got-fault = both_here w s
+
   module _ (answers : Answers) where
     gives-both : {w : World R} {s : ℕ} {ask : Ask} {w' : World R} {answer : Answer} → Gives k answers w s ask w' answer → Both s w w'
     unfolding at called Own
@@ -381,10 +392,16 @@ module _ {R : Type 0} (k : RecordRules R) (lawful : IsLawful k) where
       follows-both (to_scanned {w} {s} _) = both_here w s
       follows-both (nowhere {w} {s} _) = both_here w s
 
+      read_each-both : {w : World R} {s : ℕ} {has_fault : Bool} {slots : List FieldSlot} {w' : World R} {came : Got} {requests : Requests} → ReadsEach k answers w s has_fault slots w' came requests → Both s w w'
+      read_each-both (none_left {w} {s}) = both_here w s
+      read_each-both (one_read {w} {w'} {w''} {s} {has_fault} {slot} {slots} {got} r rest) = both_on (reads-both r) (both_on (kept-both w' s (Letter slot) got) (read_each-both rest))
+
       gets-both : {w : World R} {s : ℕ} {want : Want} {w' : World R} {came : Option Got} {requests : Requests} → Gets k answers w s want w' came requests → BothIf s w w' came
       gets-both (no_input {w} {s}) = both_if (both_here w s)
       gets-both (of_link r) = both_if (reads-both r)
       gets-both (of_device g r) = after_giving (gives-both g) (receives-both r)
+      gets-both (of_inputs {w} {w'} {ready} {w''} {s} {link} {got} r is rest) =
+          both_if (both_on (reads-both r) (both_on (subst (Both s w') (sym is) (kept-both w' s Seln got)) (read_each-both rest)))
 
       writes-both : {w : World R} {s : ℕ} {link : LinkUse} {v : Value} {w' : World R} {requests : Requests} → Writes k answers w s link v w' requests → Both s w w'
       writes-both (to_nothing {w} {s}) = both_here w s

@@ -7,6 +7,8 @@ use Rattle.ioc_device.specs.declared.Ask.{Ask}
 use Rattle.ioc_ledger.specs.Requests.{Requests, more}
 use Rattle.ioc_fields.specs.declared.field_no.FieldNo.{FieldNo}
 use Rattle.ioc_fields.specs.declared.field_no.FieldSlot.{FieldSlot}
+use Rattle.ioc_fields.specs.declared.field_no.OwnField.{OwnField}
+use Rattle.ioc_fields.specs.declared.field_no.OwnField.TheVariants.{Letter, Seln}
 use Rattle.ioc_values.specs.declared.value.Value.{Value}
 use Rattle.ioc_values.specs.declared.value.Finished.{Finished}
 use Rattle.ioc_values.specs.declared.input.Input.TheVariants.{Value as InputValue}
@@ -15,6 +17,7 @@ use Rattle.ioc_dbcommon.specs.declared.common.Common.{Common}
 use Rattle.ioc_dbcommon.specs.declared.link_field.LinkUse.{LinkUse}
 use Rattle.ioc_dbcommon.specs.declared.link_field.StandingLink.{StandingLink}
 use Rattle.ioc_dbcommon.specs.declared.body.Got.{Got}
+use Rattle.ioc_dbcommon.specs.declared.body.Got.TheVariants.{Nothing as Got-nothing, Value as Got-value, Fault as Got-fault}
 use Rattle.ioc_dbcommon.specs.declared.body.Want.{Want}
 use Rattle.ioc_dbcommon.specs.declared.body.Output.{Output}
 use Rattle.ioc_dbcommon.specs.declared.body.InputKind.{InputKind}
@@ -28,13 +31,14 @@ use Rattle.ioc_store.specs.declared.outbox.OutboxItem.TheVariants.{Once, Post}
 use Rattle.ioc_store.specs.World.{World, at, common_at, put, changed, called, sent, lost, taken_on, let_go}
 use Rattle.ioc_store.specs.Worlds.{at-put_same, at-put_other, common_at-changed}
 use Rattle.ioc_store.specs.StepFrames.{blocked-frame, stored_with}
+use Rattle.ioc_store.specs.Inputs.{kept}
 use Rattle.ioc_store.specs.Links.{handed_on}
 use Rattle.ioc_store.specs.Given.{Answers}
 use Rattle.ioc_store.specs.Scanning.{moved, rescanned}
 use Rattle.ioc_store.specs.ScanLaws.{moved-either, rescanned-either}
 use Rattle.ioc_store.specs.Notifying.{passed_on, notified_as, notified}
 use Rattle.ioc_store.specs.NotifyLaws.{passed-either, notified-either}
-use Rattle.ioc_process.specs.Rules.{IdleIsFree, Inherits, from_itself, from_another, Takes, that_converts, that_does_not, Receives, a_value, a_bad_value, a_fault, not_yet, Puts, that_fits, that_does_not_fit, Acknowledges, written, written_badly, not_written_yet, Gives, next, asked_too_often, no_more_numbers, Requested, while_active, while_idle, Causes, meanwhile_active, Reads, unused, absent, no_such_device, as_it_stands, after_request, Writes, to_nothing, to_absent, to_no_device, in_vain, alone, and_requests, Follows, to_record, to_scanned, nowhere, FollowsEach, no_more, one_more, PutsOut, nothing, to_link, to_device, to_links, as_event, Gets, no_input, of_link, of_device, Finishes, forward, Proceeds, at_once, kept_waiting, Runs, Disables, by_value, not_given, not_read, Rests, for_good, once_more, while_disabled, Asks, for_later, straight_away, Resumes, takes_completion}
+use Rattle.ioc_process.specs.Rules.{IdleIsFree, Inherits, from_itself, from_another, Takes, that_converts, that_does_not, Receives, a_value, a_bad_value, a_fault, not_yet, Puts, that_fits, that_does_not_fit, Acknowledges, written, written_badly, not_written_yet, Gives, next, asked_too_often, no_more_numbers, Requested, while_active, while_idle, Causes, meanwhile_active, Reads, unused, absent, no_such_device, as_it_stands, after_request, Writes, to_nothing, to_absent, to_no_device, in_vain, alone, and_requests, Follows, to_record, to_scanned, nowhere, FollowsEach, no_more, one_more, PutsOut, nothing, to_link, to_device, to_links, as_event, Gets, no_input, of_link, of_device, of_inputs, ReadsEach, none_left, one_read, Finishes, forward, Proceeds, at_once, kept_waiting, Runs, Disables, by_value, not_given, not_read, Rests, for_good, once_more, while_disabled, Asks, for_later, straight_away, Resumes, takes_completion}
 
 not-both : true ≡ false → ⊥
 not-both is = cc
@@ -235,6 +239,12 @@ module _ {R : Type 0} (k : RecordRules R) (lawful : IsLawful k) (n : ℕ) where
   readied : (w ready : World R) (s : ℕ) → ready ≡ changed k w s unblocked → But s w → But s ready
   readied w ready s is but apart = subst IsFree (sym is) (told-changed w s unblocked (λ c. refl) (λ c. refl) (but apart))
 
+  kept-told : (w : World R) (s : ℕ) (f : OwnField) (got : Got) → n ≢ s → IsFree w → IsFree (kept k w s f got)
+  unfolding kept
+  kept-told w s f (Got-value v) apart told = put-other w s _ apart told
+  kept-told w s f Got-nothing apart told = told
+  kept-told w s f Got-fault apart told = told
+
   module _ (answers : Answers) where
     gives-told : {w : World R} {s : ℕ} {ask : Ask} {w' : World R} {answer : Answer} → Gives k answers w s ask w' answer → IsFree w → IsFree w'
     gives-told (next {w} _ _ _) told = called-told _ w told
@@ -271,10 +281,16 @@ module _ {R : Type 0} (k : RecordRules R) (lawful : IsLawful k) (n : ℕ) where
       follows-told (to_scanned _) but = but
       follows-told (nowhere _) but = but
 
+      read_each-told : {w : World R} {s : ℕ} {has_fault : Bool} {slots : List FieldSlot} {w' : World R} {came : Got} {requests : Requests} → ReadsEach k answers w s has_fault slots w' came requests → But s w → But s w'
+      read_each-told none_left but = but
+      read_each-told (one_read {w} {w'} {w''} {s} {has_fault} {slot} {slots} {got} r rest) but = read_each-told rest (λ apart. kept-told w' s (Letter slot) got apart (reads-told r but apart))
+
       gets-told : {w : World R} {s : ℕ} {want : Want} {w' : World R} {came : Option Got} {requests : Requests} → Gets k answers w s want w' came requests → But s w → After s w' came
       gets-told no_input but = but
       gets-told (of_link r) but = reads-told r but
       gets-told (of_device g r) but = receives-told r (λ apart. gives-told g (but apart))
+      gets-told (of_inputs {w} {w'} {ready} {w''} {s} {link} {got} r is rest) but =
+          read_each-told rest (λ apart. subst IsFree (sym is) (kept-told w' s Seln got apart (reads-told r but apart)))
 
       writes-told : {w : World R} {s : ℕ} {link : LinkUse} {v : Value} {w' : World R} {requests : Requests} → Writes k answers w s link v w' requests → But s w → But s w'
       writes-told to_nothing but = but

@@ -23,6 +23,8 @@ pub enum IdleStart {
     ReadsLink,
     /// The body reads its device first.
     ReadsDevice,
+    /// The body reads several inputs.
+    ReadsInputs,
     /// The body needs no input; the record has taken an empty one and has no output.
     Took,
     /// The body needs no input; the record has taken an empty one and has an output.
@@ -69,6 +71,7 @@ fn open_record<K: RecordKind>(this: &mut K, output: &mut Output) -> IdleStart
     match this.begin() {
         Need::Link => IdleStart::ReadsLink,
         Need::Device => IdleStart::ReadsDevice,
+        Need::Inputs => IdleStart::ReadsInputs,
         Need::Nothing => take_nothing(this, output),
     }
 }
@@ -92,8 +95,9 @@ pub fn begin_fast<S: Store>(store: &mut S, number: RecordNo, output: &mut Output
 fn show_record<K: RecordKind>(this: &mut K, moment: u64) -> Shown
     ensures { Shows K.rules (shown_record K.rules moment this.old) result this.new }
 {
+    let alarm_changed = this.common().condition.alarms.changes();
     this.common_mut().show(moment);
-    this.post();
+    this.post(alarm_changed);
     let common = this.common();
     if let Some(target) = common.forward_link.record_named() {
         return Shown::Named(target);

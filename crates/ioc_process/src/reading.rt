@@ -8,6 +8,7 @@ ghost use Rattle.ioc_process.specs.Frames.{after_reading, most_calls};
 use crate::finishing::{finish_body, take_fault};
 use crate::inputs::{ask_device, read_value};
 use crate::opening::open_frame;
+use crate::reading_each::begin_inputs;
 use crate::steps::{need, passes_on, wanted_link};
 use ioc_dbcommon::{Got, LinkUse, Need, StandingLink};
 use ioc_ledger::Outcome;
@@ -29,6 +30,7 @@ pub fn begin_body<S: Store>(store: &mut S, frames: &mut Vec<Frame>, number: Reco
         Need::Nothing => finish_body(store, frames, number, &Got::Nothing),
         Need::Link => begin_wanted(store, frames, number),
         Need::Device => begin_asking(store, frames, number),
+        Need::Inputs => begin_inputs(store, frames, number),
     }
 }
 

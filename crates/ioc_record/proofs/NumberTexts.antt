@@ -1,5 +1,5 @@
 -- A number is shown in the same way in every field.
-use Rattle.std.proofs.Common.{◌≡◌, ℕ, ℤ, Option, Some, None, ap, ◌∙◌}
+use Rattle.std.proofs.Common.{◌≡◌, ℕ, ℤ, List, Option, Some, None, ap, ◌∙◌}
 use Rattle.std.specs.Fmt.{signed_decimal}
 use Rattle.ioc_values.specs.declared.value.Value.{Value}
 use Rattle.ioc_values.specs.declared.value.Value.TheVariants as value
@@ -23,7 +23,8 @@ plain_number digits (value.Int64 m) z is = decimal_of z m is
 plain_number digits (value.Double x) z is = cc
 plain_number digits (value.Text text) z is = cc
 
-pub shown_elsewhere : (sort : FieldSort) (digits : ℕ) (v : Option Value) (z : ℤ) → Some z ≡ number_shown v → signed_decimal z ≡ text_with sort digits None v
-shown_elsewhere sort digits None z is = cc
-shown_elsewhere sort digits (Some v) z is =
+pub shown_elsewhere : (sort : FieldSort) (digits : ℕ) (v : Option Value) (c : Option (List ℕ)) (z : ℤ) → Some z ≡ number_shown v
+    → signed_decimal z ≡ text_with sort digits None v c
+shown_elsewhere sort digits None c z is = cc
+shown_elsewhere sort digits (Some v) c z is =
     plain_number digits v z is ∙ plain_elsewhere sort digits v (λ n e. let none : Some z ≡ None = is ∙ ap (λ (w : Value). number_shown (Some w)) e in cc)

@@ -8,8 +8,8 @@ use ioc_fields::FieldKind;
 use ioc_menus::choices;
 use ioc_values::{Kind, Text};
 
-/// Returns what a field of the kind holds, with the texts of the record's states. A link has no
-/// value; its text is a text.
+/// Returns what a field of the kind holds, with the texts of the record's states. A link and an
+/// expression have no value; their text is a text.
 #[tactic(auto, unfolding(crate::specs::Values::field_sort, ioc_values::specs::Conversion::sort_of))]
 pub fn held_by(kind: FieldKind, states: &[Text]) -> Kind<'_>
     ensures { sort_of result ≡ field_sort states.now kind }
@@ -17,7 +17,7 @@ pub fn held_by(kind: FieldKind, states: &[Text]) -> Kind<'_>
     match kind {
         FieldKind::Number(range) => Kind::Number(range),
         FieldKind::Double => Kind::Double,
-        FieldKind::Text | FieldKind::Link(_) => Kind::Text,
+        FieldKind::Text | FieldKind::Expression | FieldKind::Link(_) => Kind::Text,
         FieldKind::Menu(menu) => Kind::Menu(choices(menu)),
         FieldKind::State => Kind::State(states),
     }

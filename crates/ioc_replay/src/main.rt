@@ -1,5 +1,6 @@
 //! `ioc-replay DB SCRIPT [NAME=VALUE]..`: loads a database text with these macros, runs a script on
-//! it, and prints a line for each reply. By its flags, and to a user at a terminal, it tells more.
+//! it, and prints a line for each reply. By its flags, and to a user at a terminal, it tells more. With
+//! `-d`, `-I` or `--adapt` the database is that of a site's files.
 #![tactic(auto)]
 
 use ioc_command_line::{FileRole, Program, Stage, Stop, given, open, read_whole, show};
@@ -7,6 +8,7 @@ use ioc_commands::{Dialect, Help};
 use ioc_dbfile::Macros;
 use ioc_main::{run, whole_run};
 use ioc_session::{Arguments, Expectations, Manner, Verdict, ending, run_dialogue};
+use ioc_site_database::{HELP, SiteFault, SiteText, SiteWords, site_text};
 use std::alloc::{AllocError, Global};
 use std::env;
 use std::io::{self, BufWriter, IsTerminal, Read, Write};
@@ -33,7 +35,7 @@ fn notes(alloc: Global) -> Result<String, AllocError> {
     format!(in alloc;
         "The lines of a script:\n{lines}\
         expect TEXT         with --test, and at a terminal: the last line of replies is to be TEXT\n\n\
-        At a terminal, the line help prints what else there is.\n\n{STATUSES}"
+        At a terminal, the line help prints what else there is.\n\n{HELP}\n\n{STATUSES}"
     )
 }
 
@@ -92,36 +94,77 @@ fn telling<R: Read + Drop, W: Write>(
     }
 }
 
-fn replay(rt: &HostRuntime) -> Result<Verdict, Stop> {
+// Runs the script of a command line on a database text, in which these macros are replaced.
+fn run_on(
+    rt: &HostRuntime,
+    text: &[u8],
+    macros: &Macros,
+    script: &str,
+    manner: Manner,
+) -> Result<Verdict, Stop> {
+    let lines = open(rt, FileRole::Script, script)?;
+    let path = String::from_str(rt.alloc(), script)?;
+    let Ok(mut out) = BufWriter::with_capacity(rt.alloc(), room(rt, manner), io::writer(rt)) else {
+        return Err(Stop::Memory(Stage::Loading));
+    };
+    if manner.is_plain() {
+        plain(rt.alloc(), text, macros, lines, &mut out, path)
+    } else {
+        telling(rt, text, macros, lines, &mut out, path, manner)
+    }
+}
+
+// Returns how a script is answered: to a user at a terminal more is told.
+fn manner_of(rt: &HostRuntime, script: &str, manner: Manner) -> Manner {
+    if script == "-" && rt.stdin().is_terminal() {
+        manner.at_terminal()
+    } else {
+        manner
+    }
+}
+
+// Runs the words of a command line that names one database text.
+fn replay_text(rt: &HostRuntime, program: &Program<'_>, words: &[String]) -> Result<Verdict, Stop> {
+    let Arguments { files, manner } = Arguments::from_words(rt.alloc(), program, words)?;
+    let manner = manner_of(rt, files.other, manner);
+    let text = read_whole(rt, FileRole::Database, files.database)?;
+    run_on(rt, &text, &files.macros, files.other, manner)
+}
+
+// Runs the words of a command line that names a site's files.
+fn replay_site(
+    rt: &HostRuntime,
+    program: &Program<'_>,
+    site: &SiteWords<'_>,
+) -> Result<Verdict, SiteFault> {
+    let left = site.left(PROGRAM.name)?;
+    let Arguments { files, manner } = Arguments::from_words(rt.alloc(), program, left.as_slice())?;
+    let manner = manner_of(rt, files.other, manner);
+    let definitions = site.words_behind(2)?;
+    let SiteText { text, told } = site_text(rt, site, files.database, &definitions)?;
+    let _written = eprint!(rt; "{told}");
+    let macros = Macros::new(rt.alloc());
+    Ok(run_on(rt, &text, &macros, files.other, manner)?)
+}
+
+// Does what the words of the command line ask for.
+fn replay(rt: &HostRuntime) -> Result<Verdict, SiteFault> {
     let words = given(rt.alloc(), env::args(rt))?;
     let notes = notes(rt.alloc())?;
     let program = Program {
         notes: &notes,
         ..PROGRAM
     };
-    let Arguments { files, manner } = Arguments::from_words(
-        rt.alloc(),
-        &program,
-        words.as_slice(),
-    )?;
-    let manner = if files.other == "-" && rt.stdin().is_terminal() {
-        manner.at_terminal()
-    } else {
-        manner
-    };
-    let text = read_whole(rt, FileRole::Database, files.database)?;
-    let lines = open(rt, FileRole::Script, files.other)?;
-    let script = String::from_str(rt.alloc(), files.other)?;
-    let Ok(mut out) = BufWriter::with_capacity(rt.alloc(), room(rt, manner), io::writer(rt)) else {
-        return Err(Stop::Memory(Stage::Loading));
-    };
-    if manner.is_plain() {
-        plain(rt.alloc(), &text, &files.macros, lines, &mut out, script)
-    } else {
-        telling(rt, &text, &files.macros, lines, &mut out, script, manner)
+    match SiteWords::from_words(rt.alloc(), words.as_slice())? {
+        Some(site) => replay_site(rt, &program, &site),
+        None => Ok(replay_text(rt, &program, words.as_slice())?),
     }
 }
 
 fn main(rt: HostRuntime) -> ExitCode {
-    show(&rt, &ending(PROGRAM.name, replay(&rt)))
+    let ending = match replay(&rt) {
+        Ok(verdict) => ending(PROGRAM.name, Ok(verdict)),
+        Err(fault) => fault.ending(PROGRAM.name),
+    };
+    show(&rt, &ending)
 }

@@ -42,6 +42,7 @@ impl fmt::Display for Taken {
             FieldKind::Number(range) => f.write_str(range_words(range)),
             FieldKind::Double => f.write_str("Double, a decimal, nan or inf"),
             FieldKind::Text => f.write_str("a text"),
+            FieldKind::Expression => f.write_str("an expression, which a database text alone sets"),
             FieldKind::Menu(menu) => write_choices(f, choices(menu)),
             FieldKind::State => f.write_str("the text of a state or its number"),
             FieldKind::Link(_) => f.write_str("a link"),

@@ -4,19 +4,21 @@ use Rattle.std.proofs.Common.{◌≡◌, ℕ, ◌+◌, Bool, true, false, List, 
 use Rattle.ioc_values.specs.declared.value.Value.{Value}
 use Rattle.ioc_values.specs.declared.value.Finished.{Finished}
 use Rattle.ioc_fields.specs.declared.field_no.FieldNo.TheVariants.{Own}
-use Rattle.ioc_fields.specs.declared.field_no.OwnField.TheVariants.{Lnk}
+use Rattle.ioc_fields.specs.declared.field_no.OwnField.TheVariants.{Lnk, InputLink, Letter, Seln}
 use Rattle.ioc_fields.specs.declared.field_no.FieldSlot.{FieldSlot}
+use Rattle.ioc_fields.specs.declared.field_no.OwnField.{OwnField}
 use Rattle.ioc_ledger.specs.Requests.{Requests}
 use Rattle.ioc_dbcommon.specs.declared.common.Common.{Common}
 use Rattle.ioc_dbcommon.specs.declared.link_field.LinkUse.{LinkUse}
 use Rattle.ioc_dbcommon.specs.declared.link_field.LinkUse.TheVariants.{Standing}
 use Rattle.ioc_dbcommon.specs.declared.link_field.StandingLink.{StandingLink}
 use Rattle.ioc_dbcommon.specs.declared.body.Got.{Got}
+use Rattle.ioc_dbcommon.specs.declared.body.Got.TheVariants.{Nothing as Got-nothing, Value as Got-value, Fault as Got-fault}
 use Rattle.ioc_dbcommon.specs.declared.body.InputKind.{InputKind}
 use Rattle.ioc_dbcommon.specs.declared.body.Output.{Output}
 use Rattle.ioc_dbcommon.specs.declared.body.Output.TheVariants.{WriteLink}
 use Rattle.ioc_dbcommon.specs.declared.body.Want.{Want}
-use Rattle.ioc_dbcommon.specs.declared.body.Want.TheVariants.{ReadLink}
+use Rattle.ioc_dbcommon.specs.declared.body.Want.TheVariants.{ReadLink, ReadInputs}
 use Rattle.ioc_dbcommon.specs.Steps.{blocked, unblocked, with_active, with_reprocess_mark}
 use Rattle.ioc_dbcommon.specs.Links.{use_of}
 use Rattle.ioc_record.specs.RecordRules.{RecordRules}
@@ -25,13 +27,14 @@ use Rattle.ioc_store.specs.Showing.{links-shown, shown-common}
 use Rattle.ioc_store.specs.declared.outbox.OutboxItem.TheVariants.{Post}
 use Rattle.ioc_store.specs.World.{World, Has, IsClosed, at, common_at, put, changed}
 use Rattle.ioc_store.specs.Worlds.{common_at-changed}
-use Rattle.ioc_store.specs.StepFrames.{blocked-frame, links-taken, links-finished}
+use Rattle.ioc_store.specs.StepFrames.{blocked-frame, links-taken, links-finished, links-stored}
 use Rattle.ioc_store.specs.Named.{link_named}
+use Rattle.ioc_store.specs.Inputs.{kept}
 use Rattle.ioc_store.specs.Links.{handed_on}
 use Rattle.ioc_store.specs.Marks.{put_down, put_mark_passed}
 use Rattle.ioc_store.specs.Given.{Answers}
 use Rattle.ioc_store.specs.Notifying.{notified, passed_on}
-use Rattle.ioc_process.specs.Rules.{Left, as_it_was, now_waits, Requested, while_active, while_disabled, while_idle, Asks, for_later, straight_away, Causes, meanwhile_active, Reads, unused, absent, no_such_device, as_it_stands, after_request, Writes, to_nothing, to_absent, to_no_device, in_vain, alone, and_requests, Follows, to_record, to_scanned, nowhere, FollowsEach, no_more, one_more, PutsOut, nothing, to_link, to_device, to_links, as_event, Gets, no_input, of_link, of_device, Finishes, forward, Proceeds, at_once, kept_waiting, Runs, Resumes, takes_completion}
+use Rattle.ioc_process.specs.Rules.{Left, as_it_was, now_waits, Requested, while_active, while_disabled, while_idle, Asks, for_later, straight_away, Causes, meanwhile_active, Reads, unused, absent, no_such_device, as_it_stands, after_request, Writes, to_nothing, to_absent, to_no_device, in_vain, alone, and_requests, Follows, to_record, to_scanned, nowhere, FollowsEach, no_more, one_more, PutsOut, nothing, to_link, to_device, to_links, as_event, Gets, no_input, of_link, of_device, of_inputs, ReadsEach, none_left, one_read, Finishes, forward, Proceeds, at_once, kept_waiting, Runs, Resumes, takes_completion}
 use Rattle.ioc_process.specs.RulesLaws.{requested-leaves}
 use Rattle.ioc_set.proofs.AwaitingAlike.{Alike, alike-on, alike-sent, alike-changed, alike-passed_on, alike-notified, alike-handed_on, alike-disabled, mark-links, mark-active, mark-pending, puts-alike, takes-alike, disables-alike}
 use Rattle.ioc_set.proofs.AwaitingCounts.{Fine, Under, target-has, fine-alike, under-alike, under-has, begins, under-put, under-changed, resumes-under, gives-under, After, has_come, waiting-fine, come-under, receives-after, AfterOutput, goes_on, waits_on-fine, goes_on-under, acknowledges-after, rests-fine}
@@ -105,6 +108,14 @@ module _ {R : Type 0} (k : RecordRules R) (lawful : IsLawful k) (answers : Answe
   taken-under : {due : ℕ} (w taken : World R) (s : ℕ) (got : Got) → taken ≡ put w s (k.taken (at k w s) got) → Under_ due s w → Under_ due s taken
   taken-under {due} w taken s got t under = subst (Under_ due s) (sym t) (under-put k lawful w0 closed w s _ (links-taken k lawful _ got) (lawful.taken_pending _ got ∙ under.none) under)
 
+  -- Record `s` keeps what it has read in a field of its own.
+  kept-under : {due : ℕ} (w : World R) (s : ℕ) (f : OwnField) (got : Got) → Under_ due s w → Under_ due s (kept k w s f got)
+  unfolding kept
+  kept-under w s f (Got-value v) under =
+      under-put k lawful w0 closed w s _ (links-stored k lawful _ (Own f) v) (lawful.stored_pending (at k w s) (Own f) v ∙ under.none) under
+  kept-under w s f Got-nothing under = under
+  kept-under w s f Got-fault under = under
+
   mutual
     pub requested-fine : {due : ℕ} {w : World R} {s : ℕ} {w' : World R} {requests : Requests} → Requested k answers w s w' requests → Has w0 s → Fine_ due w → Fine_ due w'
     requested-fine (while_active {w} {s} _) there fine = fine-alike k lawful w0 closed (blocked-alike w s (fine.keeps.has s there)) fine
@@ -147,11 +158,20 @@ module _ {R : Type 0} (k : RecordRules R) (lawful : IsLawful k) (answers : Answe
     follows-under (to_scanned _) under leads = under
     follows-under (nowhere _) under leads = under
 
+    read_each-under : {due : ℕ} {w : World R} {s : ℕ} {has_fault : Bool} {slots : List FieldSlot} {w' : World R} {came : Got} {requests : Requests} → ReadsEach k answers w s has_fault slots w' came requests
+        → Under_ due s w → Under_ due s w'
+    read_each-under none_left under = under
+    read_each-under (one_read {w} {w'} {w''} {s} {has_fault} {slot} {slots} {got} r rest) under =
+        read_each-under rest (kept-under w' s (Letter slot) got
+        (reads-under r under (λ t is. target-has k lawful w0 closed under.fine s t.number (link_named k lawful (at k w s) (Own (InputLink slot)) t is))))
+
     gets-after : {due : ℕ} {w : World R} {s : ℕ} {want : Want} {w' : World R} {came : Option Got} {requests : Requests} → Gets k answers w s want w' came requests → Under_ due s w
-        → ((t : StandingLink) → want ≡ ReadLink (Standing t) → Has w0 t.number) → After_ due s w' came
-    gets-after no_input under leads = has_come under
-    gets-after (of_link r) under leads = has_come (reads-under r under (λ t is. leads t (ap ReadLink is)))
-    gets-after (of_device g r) under leads = receives-after k lawful w0 closed r (gives-under k lawful w0 closed answers g under)
+        → ((t : StandingLink) → want ≡ ReadLink (Standing t) → Has w0 t.number) → ((t : StandingLink) → want ≡ ReadInputs (Standing t) → Has w0 t.number) → After_ due s w' came
+    gets-after no_input under leads chosen = has_come under
+    gets-after (of_link r) under leads chosen = has_come (reads-under r under (λ t is. leads t (ap ReadLink is)))
+    gets-after (of_device g r) under leads chosen = receives-after k lawful w0 closed r (gives-under k lawful w0 closed answers g under)
+    gets-after {due} (of_inputs {w} {w'} {ready} {w''} {s} {link} {got} r is rest) under leads chosen =
+        has_come (read_each-under rest (subst (Under_ due s) (sym is) (kept-under w' s Seln got (reads-under r under (λ t e. chosen t (ap ReadInputs e))))))
 
     writes-under : {due : ℕ} {w : World R} {s : ℕ} {link : LinkUse} {v : Value} {w' : World R} {requests : Requests} → Writes k answers w s link v w' requests → Under_ due s w → Leads link → Under_ due s w'
     writes-under to_nothing under leads = under
@@ -194,9 +214,11 @@ module _ {R : Type 0} (k : RecordRules R) (lawful : IsLawful k) (answers : Answe
 
     runs-fine : {due : ℕ} {w : World R} {s : ℕ} {w' : World R} {requests : Requests} → Runs k answers w s w' requests → Under_ due s w → Fine_ due w'
     runs-fine (Runs.to_end {w} {w'} {w''} {s} g f) under =
-        proceeds-fine f (come-under k lawful w0 closed (gets-after g under (λ t is. target-has k lawful w0 closed under.fine s t.number (lawful.begin_named (at k w s) t is))))
+        proceeds-fine f (come-under k lawful w0 closed (gets-after g under (λ t is. target-has k lawful w0 closed under.fine s t.number (lawful.begin_named (at k w s) t is))
+        (λ t is. target-has k lawful w0 closed under.fine s t.number (lawful.choice_named (at k w s) t is))))
     runs-fine (Runs.waits {w} {w'} {s} g) under =
-        waiting-fine k lawful w0 closed (gets-after g under (λ t is. target-has k lawful w0 closed under.fine s t.number (lawful.begin_named (at k w s) t is)))
+        waiting-fine k lawful w0 closed (gets-after g under (λ t is. target-has k lawful w0 closed under.fine s t.number (lawful.begin_named (at k w s) t is))
+        (λ t is. target-has k lawful w0 closed under.fine s t.number (lawful.choice_named (at k w s) t is)))
 
   -- A record whose device answered later no longer awaits a completion.
   pub resumes-fine : {due : ℕ} {w : World R} {s : ℕ} {x : Finished} {w' : World R} {requests : Requests} → Resumes k answers w s x w' requests → Has w0 s → IsSome (common_at k w s).pending

@@ -4,12 +4,12 @@ use Rattle.std.proofs.lemmas.Slice.Eq.{bytes_eq-Decides}
 use Rattle.std.specs.List.{slice_get, list_any}
 use Rattle.std.specs.Str.{bytes_eq}
 use Rattle.ioc_fields.specs.declared.field_no.FieldNo.{FieldNo}
-use Rattle.ioc_fields.specs.Names.{common_name, link_name, state_value_name, state_text_name, state_severity_name, own_name, name_of, all_fields}
+use Rattle.ioc_fields.specs.Names.{common_name, link_name, last_letter_name, input_name, state_value_name, state_text_name, state_severity_name, own_name, name_of, all_fields}
 use Rattle.ioc_fields.specs.LinkFields.{place}
 use Rattle.ioc_fields.specs.Once.{are_named_apart, not_and, not_among}
 
 all_named_apart : are_named_apart all_fields ≡ true
-unfolding are_named_apart all_fields common_name own_name link_name state_value_name state_text_name state_severity_name
+unfolding are_named_apart all_fields common_name own_name link_name last_letter_name input_name state_value_name state_text_name state_severity_name
 all_named_apart = refl
 
 differ : (h : FieldNo) (hs : List FieldNo) (n : ℕ) (f g : FieldNo) → h ≡ f → slice_get hs n ≡ Some g → list_any (λ x. bytes_eq (name_of h) (name_of x)) hs ≡ false → name_of f ≡ name_of g → ⊥

@@ -8,4 +8,4 @@ mod statement;
 
 pub use finding::{Finding, Severity};
 pub use place::{Place, Word};
-pub use statement::{Entry, EntryKind, Reading, RecordText, Statement};
+pub use statement::{Entry, EntryKind, Reading, RecordText, SourceText, Statement};

@@ -27,6 +27,8 @@ pub struct RecordText {
     pub name: Word,
     pub entries: Vec<Entry>,
     pub aliases: Vec<Word>,
+    /// Whether an entry of the body couldn't be read.
+    pub lacks_entries: bool,
 }
 
 /// A statement of a database file.
@@ -39,12 +41,27 @@ pub enum Statement {
     Skipped(Word),
 }
 
+/// A file that the command line names, as it is written.
+#[derive(Debug, Drop)]
+pub struct SourceText {
+    /// Its number, as [`Place::file`].
+    pub file: u32,
+    /// Whether it is a substitution file.
+    pub has_sets: bool,
+    pub text: Vec<u8>,
+}
+
 /// What the files of a run have in them, in the order in which it stands there.
 #[derive(Debug, Drop)]
 pub struct Reading {
     /// The files' names, by [`Place::file`].
     pub files: Vec<Vec<u8>>,
+    /// The files that the command line names.
+    pub texts: Vec<SourceText>,
     pub statements: Vec<Statement>,
     /// What is wrong with the text.
     pub findings: Vec<Finding>,
+    /// How many statements stand before the first place at which a file or a statement couldn't be read, so
+    /// that there may be more records.
+    pub first_loss: Option<usize>,
 }

@@ -73,13 +73,24 @@ pub fn quote_behind(quote: Option<u8>, byte: u8) -> (bool, Option<u8>) {
     }
 }
 
-/// Returns where the comment of a line begins, or the line's length. A `#` in quotes or in a macro
-/// use begins no comment.
+/// What begins a comment.
+#[derive(Clone, Copy, Debug, PartialEq, Eq)]
+pub enum Comment {
+    /// `#`: the comment has the rest of the line.
+    Own,
+    /// `//` of C, which is a mistake: it is meant to have the rest of the line.
+    Line,
+    /// `/*` of C, which is a mistake: it is meant to end with `*/`.
+    Block,
+}
+
+/// Returns where the first comment of a line begins, and what begins it. What stands in quotes or in a
+/// macro use begins no comment.
 ///
 /// # Errors
 ///
 /// [`AllocError`] if allocation fails.
-pub fn comment_start(alloc: Global, line: &[u8]) -> Result<usize, AllocError> {
+pub fn first_comment(alloc: Global, line: &[u8]) -> Result<Option<(usize, Comment)>, AllocError> {
     let mut quote = None;
     let mut next = 0;
     for (at, byte) in line.iter().enumerate() {
@@ -87,7 +98,9 @@ pub fn comment_start(alloc: Global, line: &[u8]) -> Result<usize, AllocError> {
             continue;
         }
         match line.get(at..).unwrap_or(&[]) {
-            [b'#', ..] if quote.is_none() => return Ok(at),
+            [b'#', ..] if quote.is_none() => return Ok(Some((at, Comment::Own))),
+            [b'/', b'/', ..] if quote.is_none() => return Ok(Some((at, Comment::Line))),
+            [b'/', b'*', ..] if quote.is_none() => return Ok(Some((at, Comment::Block))),
             [b'\\', _, ..] => next = at.saturating_add(2),
             [b'$', bracket @ (b'(' | b'{'), inner @ ..] => {
                 let length = find_sign(alloc, &[closer_of(*bracket)], inner)?;
@@ -97,5 +110,24 @@ pub fn comment_start(alloc: Global, line: &[u8]) -> Result<usize, AllocError> {
             _ => quote = quote_behind(quote, *byte).1,
         }
     }
-    Ok(line.len())
+    Ok(None)
+}
+
+/// Returns the place behind the first `*/` of a line.
+pub fn block_end(line: &[u8]) -> Option<usize> {
+    for at in 0..line.len() {
+        if matches!(line.get(at..), Some([b'*', b'/', ..])) {
+            return Some(at.saturating_add(2));
+        }
+    }
+    None
+}
+
+/// Puts blanks in place of the bytes from the first place up to the second one.
+pub fn clear(line: &mut [u8], from: usize, to: usize) {
+    for (at, byte) in line.iter_mut().enumerate() {
+        if from <= at && at < to {
+            *byte = b' ';
+        }
+    }
 }

@@ -59,7 +59,20 @@ impl Findings {
         false
     }
 
-    /// Adds an error with this text, once at a place.
+    /// Returns whether the words of the line of a place aren't known.
+    fn is_refused(&self, place: Place) -> bool {
+        for finding in &self.list {
+            if (finding.place.file, finding.place.line) == (place.file, place.line)
+                && finding.hides_line()
+            {
+                return true;
+            }
+        }
+        false
+    }
+
+    /// Adds an error with this text, once at a place. On a line whose words aren't known no other is added
+    /// than what says why.
     ///
     /// # Errors
     ///
@@ -78,11 +91,14 @@ impl Findings {
             )?
         };
         let severity = Severity::Error;
-        self.list.push(Finding {
+        let finding = Finding {
             severity,
             place,
             text,
-        })?;
+        };
+        if finding.hides_line() || !self.is_refused(place) {
+            self.list.push(finding)?;
+        }
         Ok(())
     }
 

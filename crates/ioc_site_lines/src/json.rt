@@ -11,7 +11,7 @@ pub struct Json {
     /// The quote of the text that is open.
     pub quote: Option<u8>,
     is_escaped: bool,
-    /// Whether a bracket closes another one than the last that is open.
+    /// Whether a bracket closes another one than the last that is open, or is round.
     pub(crate) is_crossed: bool,
 }
 
@@ -42,7 +42,7 @@ impl Json {
                 self.closers.pop();
                 return Ok(self.closers.is_empty());
             }
-            b'}' | b']' => {
+            b'}' | b']' | b')' => {
                 self.is_crossed = true;
                 return Ok(true);
             }

@@ -52,6 +52,27 @@ fn quoted_length(bytes: &[u8]) -> Option<usize> {
     None
 }
 
+/// Returns whether what is behind a bracket `)` goes on as behind the end of an entry or of a head.
+fn goes_on(bytes: &[u8]) -> bool {
+    let behind = bytes.trim_ascii_start();
+    let entries: [&[u8]; 3] = [b"field(", b"info(", b"alias("];
+    matches!(behind, [] | [b'{' | b'}', ..])
+        || entries.iter().any(|entry| behind.starts_with(*entry))
+}
+
+/// Returns how many bytes at the front are of a text between quotes that isn't closed: those before the
+/// bracket that closes its entry or its head, or all.
+fn unclosed_length(bytes: &[u8]) -> usize {
+    for (at, byte) in bytes.iter().enumerate() {
+        let behind = bytes.get(at.saturating_add(1)..).unwrap_or(&[]);
+        let opens_body = *byte == b'{' && behind.trim_ascii_start().is_empty();
+        if opens_body || (*byte == b')' && goes_on(behind)) {
+            return at;
+        }
+    }
+    bytes.len()
+}
+
 /// Returns how many bytes at the front belong to no token.
 fn fault_length(bytes: &[u8]) -> usize {
     for (at, byte) in bytes.iter().enumerate() {
@@ -79,7 +100,7 @@ pub fn extent_of(bytes: &[u8]) -> Extent {
     let (kind, before, length) = match bytes {
         [b'"', text @ ..] => match quoted_length(text) {
             Some(length) => (Kind::Quoted, 1, length),
-            None => (Kind::Fault, 0, bytes.len()),
+            None => (Kind::Fault, 0, unclosed_length(bytes)),
         },
         [sign, ..] if is_sign(*sign) => (Kind::Sign(*sign), 0, 1),
         _ => match word_length(bytes) {

@@ -13,8 +13,6 @@ mod line;
 mod macros;
 mod opened;
 mod stream;
-#[cfg(test)]
-mod tests;
 mod token;
 
 pub use defining::{Definitions, parse_definitions, split_bare};

@@ -13,6 +13,8 @@ pub struct OpenFile {
     pub number: u32,
     /// Whether it is a substitution file. Such a file's own macros aren't replaced.
     pub has_sets: bool,
+    /// Whether the next line begins in a comment of C.
+    pub is_in_comment: bool,
     text: Vec<u8>,
     /// Where the next line begins.
     behind: usize,
@@ -42,6 +44,7 @@ impl OpenFile {
         OpenFile {
             number,
             has_sets,
+            is_in_comment: false,
             text,
             behind,
             line_number: 0,
@@ -172,10 +175,10 @@ fn fault_text(alloc: Global, written: &[u8]) -> Result<Vec<u8>, AllocError> {
             &[b"the text that begins here isn't closed; put '\"' at its end, on this line"],
         );
     }
-    if written.starts_with(b"/*") || written.starts_with(b"//") {
+    if written.starts_with(b"\xc2\xa0") {
         return joined(
             alloc,
-            &[b"no comment begins here; a comment begins with '#'"],
+            &[b"a no-break space stands here; put a plain one in its place"],
         );
     }
     joined(

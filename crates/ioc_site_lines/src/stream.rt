@@ -1,5 +1,5 @@
 //! The tokens of the files that are open, one after the other.
-use crate::closing::comment_start;
+use crate::closing::{Comment, block_end, clear, first_comment};
 use crate::defining::parse_definitions;
 use crate::expanding::Expander;
 use crate::findings::Findings;
@@ -114,6 +114,70 @@ impl Stream {
         Ok(())
     }
 
+    /// Puts blanks in place of the comments of a line, which begins in one of C or doesn't, and reports
+    /// those of C. In a substitution file, whose paths have slashes, these stand at the front of a line alone.
+    /// Returns whether the next line begins in one.
+    fn clear_comments(
+        &mut self,
+        written: &mut WrittenLine,
+        has_sets: bool,
+        is_in_comment: bool,
+    ) -> Result<bool, AllocError> {
+        if is_in_comment {
+            let Some(end) = block_end(&written.bytes) else {
+                written.bytes.truncate(0);
+                return Ok(true);
+            };
+            clear(written.bytes.as_mut_slice(), 0, end);
+        }
+        for _ in 0..u64::MAX {
+            let front = blanks(&written.bytes);
+            let Some((at, comment)) = first_comment(self.alloc, &written.bytes)? else {
+                break;
+            };
+            if comment == Comment::Own {
+                written.bytes.truncate(at);
+                break;
+            }
+            if has_sets && at != front {
+                break;
+            }
+            if self.pass_comment(written, at, comment)? {
+                return Ok(true);
+            }
+        }
+        Ok(false)
+    }
+
+    /// Reports the comment of C at a byte of a line, and puts blanks in its place. Returns whether it goes
+    /// on behind the line.
+    fn pass_comment(
+        &mut self,
+        written: &mut WrittenLine,
+        at: usize,
+        comment: Comment,
+    ) -> Result<bool, AllocError> {
+        let column = u32::try_from(at).unwrap_or(u32::MAX).saturating_add(1);
+        let place = Place {
+            column,
+            ..written.place
+        };
+        let text = b"no comment begins here; a comment begins with '#'";
+        self.findings.report(place, &[text])?;
+        let inside = at.saturating_add(2);
+        let end = block_end(written.bytes.get(inside..).unwrap_or(&[]));
+        match end {
+            Some(end) if comment == Comment::Block => {
+                clear(written.bytes.as_mut_slice(), at, inside.saturating_add(end));
+                Ok(false)
+            }
+            _ => {
+                written.bytes.truncate(at);
+                Ok(comment == Comment::Block)
+            }
+        }
+    }
+
     /// Reports what is wrong with the macros of a line.
     fn report_faults(&mut self, place: Place) -> Result<(), AllocError> {
         let faults = mem::replace(&mut self.expander.faults, Vec::new(self.alloc));
@@ -200,14 +264,13 @@ impl Stream {
         let Some(file) = self.open.last_mut() else {
             return Ok(false);
         };
-        let has_sets = file.has_sets;
+        let (has_sets, is_in_comment) = (file.has_sets, file.is_in_comment);
         let Some(mut written) = file.next_written(self.alloc)? else {
             return Ok(false);
         };
         self.check_bytes(&mut written)?;
         let place = written.place;
-        let start = comment_start(self.alloc, written.bytes.as_slice())?;
-        written.bytes.truncate(start);
+        let is_in_comment = self.clear_comments(&mut written, has_sets, is_in_comment)?;
         let line = if has_sets {
             Line::written(self.alloc, written.bytes.as_slice())?
         } else {
@@ -218,6 +281,7 @@ impl Stream {
             return Ok(false);
         }
         if let Some(file) = self.open.last_mut() {
+            file.is_in_comment = is_in_comment;
             file.set_line(line);
         }
         Ok(true)

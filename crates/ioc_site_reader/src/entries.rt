@@ -22,6 +22,8 @@ fn near_entry(words: &Words, token: &Token) -> Result<Option<&'static str>, Allo
 pub struct Body {
     pub entries: Vec<Entry>,
     pub aliases: Vec<Word>,
+    /// Whether it is reported that the body isn't closed.
+    is_told_open: bool,
 }
 
 impl Body {
@@ -30,6 +32,7 @@ impl Body {
         Body {
             entries: Vec::new(alloc),
             aliases: Vec::new(alloc),
+            is_told_open: false,
         }
     }
 }
@@ -41,31 +44,43 @@ pub struct Opening<'a> {
     pub name: &'a [u8],
 }
 
-/// Reports a body that isn't closed before a word, or before the end of the text.
-fn report_open(words: &mut Words, opening: Opening) -> Result<(), AllocError> {
+/// Reports a body that isn't closed before what is next, or before the end of the text.
+fn report_open(words: &mut Words, opening: Opening, next: &[u8]) -> Result<(), AllocError> {
     let line = opening.place.line.to_string(words.stream.alloc)?;
-    let mut text = Vec::new(words.stream.alloc);
-    let mut place = opening.place;
-    let remedy = match &words.stream.ahead {
-        Some(token) => {
-            place = token.place;
-            text.extend_from_slice(token.text.as_slice())?;
-            text.extend_from_slice(b" inside ")?;
-            "; close it with '}'"
-        }
-        None => ", isn't closed; put '}' at its end",
+    let place = match &words.stream.ahead {
+        Some(token) => token.place,
+        None => opening.place,
     };
-    text.extend_from_slice(b"the body of \"")?;
-    text.extend_from_slice(opening.name)?;
-    text.extend_from_slice(b"\", which opens on line ")?;
-    text.extend_from_slice(line.as_bytes())?;
-    text.extend_from_slice(remedy.as_bytes())?;
-    words.stream.findings.report_text(place, text)
+    let inside: &[u8] = if next.is_empty() { b"" } else { b" inside " };
+    let remedy: &[u8] = if next.is_empty() {
+        b", isn't closed; put '}' at its end"
+    } else {
+        b"; close it with '}'"
+    };
+    let parts: [&[u8]; 7] = [
+        next,
+        inside,
+        b"the body of \"",
+        opening.name,
+        b"\", which opens on line ",
+        line.as_bytes(),
+        remedy,
+    ];
+    words.report(place, &parts)
+}
+
+/// Reports a body that isn't closed before the token that is next.
+fn report_open_before(words: &mut Words, opening: Opening) -> Result<(), AllocError> {
+    let next = match &words.stream.ahead {
+        Some(token) => token.text.as_slice().to_vec(words.stream.alloc)?,
+        None => Vec::new(words.stream.alloc),
+    };
+    report_open(words, opening, next.as_slice())
 }
 
 /// Returns whether the body ends here, and takes the bracket that closes it. A bracket that is
-/// missing is reported.
-fn ends(words: &mut Words, opening: Opening) -> Result<bool, AllocError> {
+/// missing is reported, once.
+fn ends(words: &mut Words, opening: Opening, body: &Body) -> Result<bool, AllocError> {
     if words.is_at(b'}')? {
         words.take()?;
         return Ok(true);
@@ -74,8 +89,8 @@ fn ends(words: &mut Words, opening: Opening) -> Result<bool, AllocError> {
         Some(token) => token.begins_statement(),
         None => true,
     };
-    if is_open {
-        report_open(words, opening)?;
+    if is_open && !body.is_told_open {
+        report_open_before(words, opening)?;
     }
     Ok(is_open)
 }
@@ -104,8 +119,21 @@ fn entry_keyword(words: &mut Words, token: &Token) -> Result<Option<Keyword>, Al
         words.report(place, &[text])?;
         return Ok(None);
     }
-    let remedy = b"' is no entry of a record; write field, info or alias";
-    words.report(place, &[b"'", text, remedy])?;
+    let is_name = text
+        .iter()
+        .all(|byte| byte.is_ascii_uppercase() || byte.is_ascii_digit());
+    let remedy: [&[u8]; 3] = if text == b",".as_slice() || text == b";".as_slice() {
+        [b"' stands between no entries; drop it", b"", b""]
+    } else if is_name {
+        [b"' is no entry of a record; write field(", text, b", ..)"]
+    } else {
+        [
+            b"' is no entry of a record; write field, info or alias",
+            b"",
+            b"",
+        ]
+    };
+    words.report(place, &[b"'", text, remedy[0], remedy[1], remedy[2]])?;
     Ok(None)
 }
 
@@ -118,43 +146,48 @@ fn entry(words: &mut Words, kind: EntryKind) -> Result<Option<Entry>, AllocError
     if !words.expect(b'(')? {
         return Ok(None);
     }
-    let Some(name) = words.expect_text(missing)? else {
+    let Some(mut name) = words.expect_text(missing)? else {
         return Ok(None);
     };
-    if !words.expect(b',')? {
+    if !words.is_at(b',')? && name.text.ends_with(b":") {
+        name.text.pop();
+    }
+    if !words.expect_comma()? {
         return Ok(None);
     }
     let Some(value) = words.expect_value()? else {
         return Ok(None);
     };
-    if !words.expect_close(&value)? {
-        return Ok(None);
-    }
-    Ok(Some(Entry { kind, name, value }))
+    Ok(if words.expect_close(&value, false)? {
+        Some(Entry { kind, name, value })
+    } else {
+        None
+    })
 }
 
-/// Takes `(ALIAS)`. What is missing is reported.
-fn alias(words: &mut Words) -> Result<Option<Word>, AllocError> {
+/// Reads `(ALIAS)`. What is missing is reported, and so are two names, which belong to a statement: the body
+/// isn't closed before it.
+fn read_alias(words: &mut Words, opening: Opening, body: &mut Body) -> Result<(), AllocError> {
     if !words.expect(b'(')? {
-        return Ok(None);
+        return words.lose_entry();
     }
     let Some(alias) = words.expect_text(b"the alias")? else {
-        return Ok(None);
+        return words.lose_entry();
     };
-    if !words.expect(b')')? {
-        return Ok(None);
+    if words.is_at(b',')? {
+        body.is_told_open = true;
+        words.lacks_records = true;
+        report_open(words, opening, b"alias of two names")?;
+        return words.recover(false);
     }
-    Ok(Some(alias))
+    if !words.expect(b')')? {
+        words.recover(false)?;
+    }
+    Ok(body.aliases.push(alias)?)
 }
 
-/// Reads a field, an info or an alias.
+/// Reads a field or an info.
 fn read_entry(words: &mut Words, found: Keyword, body: &mut Body) -> Result<(), AllocError> {
-    if found == Keyword::Alias {
-        return match alias(words)? {
-            Some(alias) => Ok(body.aliases.push(alias)?),
-            None => words.recover(false),
-        };
-    }
     let kind = if found == Keyword::Info {
         EntryKind::Info
     } else {
@@ -162,7 +195,7 @@ fn read_entry(words: &mut Words, found: Keyword, body: &mut Body) -> Result<(), 
     };
     match entry(words, kind)? {
         Some(entry) => Ok(body.entries.push(entry)?),
-        None => words.recover(false),
+        None => words.lose_entry(),
     }
 }
 
@@ -179,21 +212,22 @@ pub fn read_entries(
 ) -> Result<Option<Word>, AllocError> {
     for _ in 0..u64::MAX {
         words.start();
-        if ends(words, opening)? {
+        if ends(words, opening, &*body)? {
             break;
         }
         let Some(token) = words.take()? else {
             break;
         };
         match entry_keyword(words, &token)? {
-            None => words.recover(false)?,
+            None => words.lose_entry()?,
             Some(Keyword::Include) => {
                 let file = words.expect_text(b"the file's name")?;
                 if file.is_some() {
                     return Ok(file);
                 }
-                words.recover(false)?;
+                words.lose_entry()?;
             }
+            Some(Keyword::Alias) => read_alias(words, opening, body)?,
             Some(found) => read_entry(words, found, body)?,
         }
     }

@@ -4,14 +4,13 @@
 
 mod entries;
 mod files;
+mod first_words;
 mod reader;
 mod sources;
 mod statements;
 mod substitutions;
-#[cfg(test)]
-mod tests;
 mod words;
 
 pub use ioc_site_lines::{Definition, Definitions, parse_definitions};
-pub use reader::{Request, read_files};
+pub use reader::{Request, read_each, read_files};
 pub use sources::Sources;

@@ -1,11 +1,12 @@
 //! Reads files with the files that they include.
 use crate::entries::{Body, Opening, read_entries};
 use crate::files::{Files, ReadFile};
+use crate::first_words::{FirstWord, first_loaded, first_word, wrong_file};
 use crate::sources::Sources;
 use crate::statements::{alias_statement, next_heading, record_head, skipped_statement};
 use crate::substitutions::{Group, is_substitution_file, read_groups};
 use crate::words::Words;
-use ioc_site::{Place, Reading, RecordText, Statement, Word};
+use ioc_site::{Place, Reading, RecordText, SourceText, Statement, Word};
 use ioc_site_lines::{Definition, Keyword};
 use std::alloc::{AllocError, Global};
 
@@ -31,6 +32,17 @@ struct Reader {
     files: Files,
     words: Words,
     statements: Vec<Statement>,
+    texts: Vec<SourceText>,
+    first_loss: Option<usize>,
+}
+
+/// Returns where the file of this number begins.
+fn start_of(file: u32) -> Place {
+    Place {
+        file,
+        line: 1,
+        column: 1,
+    }
 }
 
 /// Returns whether the text is UTF-16, by its first two bytes.
@@ -51,19 +63,54 @@ impl Reader {
         }
         if self.words.stream.open_count() >= MOST_OPEN {
             let text = b"files include one another more than 32 deep; include fewer";
-            return self.words.report(place, &[text]);
+            return self.lose(place, &[text]);
         }
         if is_utf16(text.as_slice()) {
-            let start = Place {
-                file: number,
-                line: 1,
-                column: 1,
-            };
-            return self
-                .words
-                .report(start, &[b"the file is UTF-16; save it as UTF-8"]);
+            return self.lose(start_of(number), &[b"the file is UTF-16; save it as UTF-8"]);
+        }
+        if let Some(word) = first_word(text.as_slice())
+            && let Some(remedy) = wrong_file(has_sets, word.text)
+        {
+            return self.report_wrong_file(number, text.as_slice(), word, remedy);
         }
         self.words.stream.open_file(number, text, has_sets)
+    }
+
+    /// Reports that a text is of another kind of file, by its first word.
+    fn report_wrong_file(
+        &mut self,
+        number: u32,
+        text: &[u8],
+        word: FirstWord<'_>,
+        remedy: &[u8],
+    ) -> Result<(), AllocError> {
+        let place = Place {
+            file: number,
+            line: word.line,
+            column: word.column,
+        };
+        match first_loaded(text) {
+            Some(loaded) => {
+                let gap: &[u8] = if loaded.macros.is_empty() { b"" } else { b" " };
+                let parts: [&[u8]; 7] = [
+                    b"'",
+                    word.text,
+                    remedy,
+                    b", as ",
+                    loaded.file,
+                    gap,
+                    loaded.macros,
+                ];
+                self.lose(place, &parts)
+            }
+            None => self.lose(place, &[b"'", word.text, remedy]),
+        }
+    }
+
+    /// Reports what keeps a file from being read.
+    fn lose(&mut self, place: Place, parts: &[&[u8]]) -> Result<(), AllocError> {
+        self.words.lacks_records = true;
+        self.words.report(place, parts)
     }
 
     /// Begins to read the file that this word names.
@@ -72,7 +119,7 @@ impl Reader {
         let text = name.text.as_slice();
         match self.files.find(sources, place.file, text)? {
             Some(file) => self.open(file, place, false),
-            None => self.words.report(place, &[b"cannot read '", text, b"'"]),
+            None => self.lose(place, &[b"cannot read '", text, b"'"]),
         }
     }
 
@@ -92,6 +139,20 @@ impl Reader {
         Ok(body)
     }
 
+    /// Takes the bracket that opens a body. One that is missing before a field is reported, if the head is
+    /// known. Returns whether there is a body.
+    fn opens_body(&mut self, is_known: bool) -> Result<bool, AllocError> {
+        if self.words.is_at(b'{')? {
+            self.words.take()?;
+            return Ok(true);
+        }
+        let is_field = self.words.is_at_field()?;
+        if is_field && is_known {
+            self.words.expect(b'{')?;
+        }
+        Ok(is_field)
+    }
+
     /// Reads a record, whose first word is at this place.
     fn read_record<S: Sources>(&mut self, sources: &mut S, place: Place) -> Result<(), AllocError> {
         let head = record_head(&mut self.words)?;
@@ -99,24 +160,43 @@ impl Reader {
             Some((_, name)) => name.text.as_slice(),
             None => &[],
         };
-        let body = if self.words.is_at(b'{')? {
-            self.words.take()?;
+        self.words.lacks_entries = false;
+        let body = if self.opens_body(head.is_some())? {
             let place = self.words.last;
             self.read_body(sources, Opening { place, name })?
         } else {
             Body::new(self.alloc)
         };
-        let Body { entries, aliases } = body;
+        let Body {
+            entries,
+            aliases,
+            ..
+        } = body;
         if let Some((record_type, name)) = head {
-            self.statements.push(Statement::Record(RecordText {
+            let lacks_entries = self.words.lacks_entries;
+            self.add(Statement::Record(RecordText {
                 place,
                 record_type,
                 name,
                 entries,
                 aliases,
+                lacks_entries,
             }))?;
         }
         Ok(())
+    }
+
+    /// Notes how many statements stand before the first loss, if there was one.
+    fn note_loss(&mut self) {
+        if self.words.lacks_records && self.first_loss.is_none() {
+            self.first_loss = Some(self.statements.len());
+        }
+    }
+
+    /// Adds a statement.
+    fn add(&mut self, statement: Statement) -> Result<(), AllocError> {
+        self.note_loss();
+        Ok(self.statements.push(statement)?)
     }
 
     /// Reads the folders behind `path` or `addpath`.
@@ -140,17 +220,20 @@ impl Reader {
                 Keyword::Record => self.read_record(sources, token.place)?,
                 Keyword::Alias => {
                     if let Some(alias) = alias_statement(&mut self.words)? {
-                        self.statements.push(alias)?;
+                        self.add(alias)?;
                     }
                 }
                 Keyword::Include => match self.words.expect_text(b"the file's name")? {
                     Some(file) => self.include(sources, file)?,
-                    None => self.words.recover(false)?,
+                    None => {
+                        self.words.lacks_records = true;
+                        self.words.recover(false)?;
+                    }
                 },
                 Keyword::Path => self.read_path(token.text.starts_with(b"add"))?,
                 Keyword::Field | Keyword::Info | Keyword::Definition => {
                     let skipped = skipped_statement(&mut self.words, token)?;
-                    self.statements.push(skipped)?;
+                    self.add(skipped)?;
                 }
             }
         }
@@ -160,15 +243,16 @@ impl Reader {
     /// Reads a file of the request.
     fn read_file<S: Sources>(&mut self, sources: &mut S, path: &[u8]) -> Result<(), AllocError> {
         let number = self.files.number(path)?;
-        let place = Place {
-            file: number,
-            line: 1,
-            column: 1,
-        };
+        let place = start_of(number);
         let Some(text) = sources.read(path)? else {
-            return self.words.report(place, &[b"cannot read '", path, b"'"]);
+            return self.lose(place, &[b"cannot read '", path, b"'"]);
         };
         let has_sets = is_substitution_file(path);
+        self.texts.push(SourceText {
+            file: number,
+            has_sets,
+            text: text.as_slice().to_vec(self.alloc)?,
+        })?;
         self.open(ReadFile { number, text }, place, has_sets)?;
         if has_sets {
             let groups = read_groups(&mut self.words)?;
@@ -188,9 +272,12 @@ impl Reader {
                 let count = self.words.stream.macro_count();
                 let template = self.words.stream.replaced_name(&group.template)?;
                 self.words.stream.define_all(set.as_slice())?;
-                if let Some(template) = template {
-                    self.include(sources, template)?;
-                    self.read_statements(sources)?;
+                match template {
+                    Some(template) => {
+                        self.include(sources, template)?;
+                        self.read_statements(sources)?;
+                    }
+                    None => self.words.lacks_records = true,
                 }
                 self.words.stream.keep_macros(count);
             }
@@ -198,21 +285,24 @@ impl Reader {
         Ok(())
     }
 
-    /// Reads the files of a request.
+    /// Reads the files of a request. Its macros and folders hold in these files alone.
     fn read_all<S: Sources>(
         &mut self,
         sources: &mut S,
         request: Request,
     ) -> Result<(), AllocError> {
+        self.files.clear_folders();
         for folder in request.folders {
             self.files.add_folders(folder)?;
         }
+        let before = self.words.stream.macro_count();
         self.words.stream.define_all(request.macros)?;
         for path in request.paths {
             let count = self.words.stream.macro_count();
             self.read_file(sources, path)?;
             self.words.stream.keep_macros(count);
         }
+        self.words.stream.keep_macros(before);
         Ok(())
     }
 }
@@ -228,22 +318,44 @@ pub fn read_files<S: Sources>(
     sources: &mut S,
     request: Request,
 ) -> Result<Reading, AllocError> {
+    read_each(alloc, sources, &[request])
+}
+
+/// Reads the files of these requests, one after another, as [`read_files`] does. They are one database.
+///
+/// # Errors
+///
+/// [`AllocError`] if allocation fails.
+pub fn read_each<S: Sources>(
+    alloc: Global,
+    sources: &mut S,
+    requests: &[Request],
+) -> Result<Reading, AllocError> {
     let mut reader = Reader {
         alloc,
         files: Files::new(alloc),
         words: Words::new(alloc),
         statements: Vec::new(alloc),
+        texts: Vec::new(alloc),
+        first_loss: None,
     };
-    reader.read_all(sources, request)?;
+    for request in requests {
+        reader.read_all(sources, *request)?;
+    }
+    reader.note_loss();
     let Reader {
         files,
         words,
         statements,
+        texts,
+        first_loss,
         ..
     } = reader;
     Ok(Reading {
         files: files.into_paths(),
+        texts,
         statements,
+        first_loss,
         findings: words.into_findings(),
     })
 }

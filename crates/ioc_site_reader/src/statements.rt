@@ -1,4 +1,5 @@
 //! The statements of database files.
+use crate::first_words::wrong_file;
 use crate::words::Words;
 use ioc_site::{Statement, Word};
 use ioc_site_lines::{Keyword, Kind, Token, keyword_of};
@@ -30,26 +31,13 @@ fn near_statement(alloc: Global, text: &[u8]) -> Result<Option<&'static str>, Al
     nearest(alloc, text, known)
 }
 
-/// Words that begin lines of other files of a site: substitution files and startup scripts.
-const SUBSTITUTIONS: [&[u8]; 2] = [b"file", b"global"];
-
-const STARTUP: [&[u8]; 6] = [
-    b"dbLoadDatabase",
-    b"dbLoadRecords",
-    b"dbLoadTemplate",
-    b"epicsEnvSet",
-    b"iocInit",
-    b"cd",
-];
-
 /// Returns what is said of a word that is no statement and not near to one.
 fn remedy_for(word: &[u8]) -> &'static [u8] {
-    if SUBSTITUTIONS.contains(&word) {
-        b"' is a statement of substitution files; give this file a name that ends in .substitutions"
-    } else if STARTUP.contains(&word) {
-        b"' is a command of startup scripts; name the database files that this one loads"
-    } else {
-        b"' is no statement; begin one with record, alias or include"
+    let is_comment = word.starts_with(b";") || word.starts_with(b"--");
+    match wrong_file(false, word) {
+        Some(remedy) => remedy,
+        None if is_comment => b"' begins no comment; a comment begins with '#'",
+        None => b"' is no statement; begin one with record, alias or include",
     }
 }
 
@@ -119,6 +107,7 @@ pub fn next_heading(words: &mut Words) -> Result<Option<(Keyword, Token)>, Alloc
             return Ok(Some((found, token)));
         }
         if !token.is_sign(b'}') {
+            words.lacks_records = true;
             words.skip_to_statement()?;
         }
     }
@@ -132,11 +121,14 @@ pub fn next_heading(words: &mut Words) -> Result<Option<(Keyword, Token)>, Alloc
 /// [`AllocError`] if allocation fails.
 pub fn record_head(words: &mut Words) -> Result<Option<(Word, Word)>, AllocError> {
     let Some(pair) = words.expect_pair(b"the record type", b"the record's name")? else {
+        words.lacks_records = true;
         words.recover(true)?;
         return Ok(None);
     };
-    if !words.expect(b')')? {
+    if !words.expect_close(&pair.1, true)? {
+        words.lacks_records = true;
         words.recover(true)?;
+        return Ok(None);
     }
     Ok(Some(pair))
 }
@@ -148,6 +140,7 @@ pub fn record_head(words: &mut Words) -> Result<Option<(Word, Word)>, AllocError
 /// [`AllocError`] if allocation fails.
 pub fn alias_statement(words: &mut Words) -> Result<Option<Statement>, AllocError> {
     let Some((record, alias)) = words.expect_pair(b"the record's name", b"the alias")? else {
+        words.lacks_records = true;
         words.recover(false)?;
         return Ok(None);
     };

@@ -23,6 +23,9 @@ struct Items {
 /// The words that begin statements.
 const HEADINGS: [&str; 2] = ["file", "global"];
 
+/// The word before the names of the macros that sets give values.
+const PATTERN: [&str; 1] = ["pattern"];
+
 /// Returns the word that begins a statement and may have been meant by this one.
 fn near_heading(alloc: Global, text: &[u8]) -> Result<Option<&'static str>, AllocError> {
     let known: &'static [&'static str] = &HEADINGS;
@@ -47,8 +50,9 @@ fn unquoted(text: &[u8]) -> &[u8] {
     }
 }
 
-/// Passes what is before the next statement.
+/// Passes what is before the next statement, of which something can't be read.
 fn skip_to_heading(words: &mut Words) -> Result<(), AllocError> {
+    words.lacks_records = true;
     for _ in 0..u64::MAX {
         words.stream.look()?;
         let stops = match &words.stream.ahead {
@@ -125,8 +129,9 @@ fn extend(
     Ok(())
 }
 
-/// Adds the definitions of items `NAME=VALUE`. The first that is none is reported.
-fn define(words: &mut Words, items: &Items, set: &mut Vec<Definition>) -> Result<(), AllocError> {
+/// Adds the definitions of items `NAME=VALUE`. The first that is none is reported. Returns whether each is
+/// one.
+fn define(words: &mut Words, items: &Items, set: &mut Vec<Definition>) -> Result<bool, AllocError> {
     let mut is_reported = false;
     for item in &items.list {
         let text = item.text.as_slice();
@@ -142,22 +147,29 @@ fn define(words: &mut Words, items: &Items, set: &mut Vec<Definition>) -> Result
             }
         }
     }
-    Ok(())
+    Ok(!is_reported)
 }
 
-/// Adds the definitions of the pattern's macros by the values of a set.
+/// Returns the number with the word, which has an `s` unless it is one.
+fn counted(alloc: Global, number: usize, word: &str) -> Result<String, AllocError> {
+    let ending = if number == 1 { "" } else { "s" };
+    format!(in alloc; "{number} {word}{ending}")
+}
+
+/// Adds the definitions of the pattern's macros by the values of a set. Returns whether each has one.
 fn define_by(
     words: &mut Words,
     pattern: &Items,
     items: &Items,
     set: &mut Vec<Definition>,
-) -> Result<(), AllocError> {
+) -> Result<bool, AllocError> {
     let alloc = words.stream.alloc;
-    if pattern.list.len() != items.list.len() {
-        let macros = pattern.list.len();
-        let values = items.list.len();
+    let (count, given) = (pattern.list.len(), items.list.len());
+    if count != given {
+        let macros = counted(alloc, count, "macro")?;
+        let values = counted(alloc, given, "value")?;
         let text = format!(in alloc;
-            "the pattern has {macros} macros and this set {values} values; give one for each"
+            "the pattern has {macros} and this set {values}; give one for each"
         )?;
         words.report(items.place, &[text.as_bytes()])?;
     }
@@ -165,17 +177,34 @@ fn define_by(
         let name = unquoted(name.text.as_slice());
         set.push(Definition::new(alloc, name, value.text.as_slice())?)?;
     }
-    Ok(())
+    Ok(count <= given)
+}
+
+/// Returns whether the word `pattern` is next, or one that is near to it, which is reported.
+fn is_at_pattern(words: &mut Words) -> Result<bool, AllocError> {
+    words.stream.look()?;
+    let Some(token) = &words.stream.ahead else {
+        return Ok(false);
+    };
+    if token.kind != Kind::Word || token.is_word("pattern") {
+        return Ok(token.kind == Kind::Word);
+    }
+    let (place, text) = (
+        token.place,
+        token.text.as_slice().to_vec(words.stream.alloc)?,
+    );
+    let known: &'static [&'static str] = &PATTERN;
+    let is_near = nearest(words.stream.alloc, text.as_slice(), known)?.is_some();
+    if is_near {
+        let remedy = b"' begins no set; did you mean pattern?";
+        words.report(place, &[b"'", text.as_slice(), remedy])?;
+    }
+    Ok(is_near)
 }
 
 /// Takes `pattern { .. }` if it is next.
 fn take_pattern(words: &mut Words) -> Result<Option<Items>, AllocError> {
-    words.stream.look()?;
-    let is_pattern = match &words.stream.ahead {
-        Some(token) => token.is_word("pattern"),
-        None => false,
-    };
-    if !is_pattern {
+    if !is_at_pattern(words)? {
         return Ok(None);
     }
     words.take()?;
@@ -203,11 +232,15 @@ fn read_sets(
             };
             let mut set = Vec::new(alloc);
             extend(alloc, &mut set, globals)?;
-            match &pattern {
+            let is_whole = match &pattern {
                 Some(pattern) => define_by(words, pattern, &items, &mut set)?,
                 None => define(words, &items, &mut set)?,
+            };
+            if is_whole {
+                group.sets.push(set)?;
+            } else {
+                words.lacks_records = true;
             }
-            group.sets.push(set)?;
         }
     }
     Ok(())
@@ -251,7 +284,11 @@ pub fn read_groups(words: &mut Words) -> Result<Vec<Group>, AllocError> {
             None => skip_to_heading(words)?,
             Some(true) => read_group(words, globals.as_slice(), &mut groups)?,
             Some(false) => match expect_items(words)? {
-                Some(items) => define(words, &items, &mut globals)?,
+                Some(items) => {
+                    if !define(words, &items, &mut globals)? {
+                        words.lacks_records = true;
+                    }
+                }
                 None => skip_to_heading(words)?,
             },
         }

@@ -1,6 +1,6 @@
 //! What a statement is made of, and how reading goes on behind a mistake.
 use ioc_site::{Finding, Place, Word};
-use ioc_site_lines::{Json, Kind, Stream, Token, joined, shown, unescaped};
+use ioc_site_lines::{Json, Keyword, Kind, Stream, Token, joined, shown, unescaped};
 use std::alloc::{AllocError, Global};
 use std::mem;
 
@@ -27,6 +27,10 @@ pub struct Words {
     round: u32,
     /// Where the last token is.
     pub last: Place,
+    /// Whether a file or a statement couldn't be read.
+    pub lacks_records: bool,
+    /// Whether an entry of the body that is being read couldn't be read.
+    pub lacks_entries: bool,
 }
 
 impl Words {
@@ -42,6 +46,8 @@ impl Words {
             context: Vec::new(alloc),
             round: 0,
             last,
+            lacks_records: false,
+            lacks_entries: false,
         }
     }
 
@@ -146,6 +152,19 @@ impl Words {
         })
     }
 
+    /// Returns whether the next token begins a field or an info.
+    ///
+    /// # Errors
+    ///
+    /// [`AllocError`] if allocation fails.
+    pub fn is_at_field(&mut self) -> Result<bool, AllocError> {
+        self.stream.look()?;
+        Ok(match &self.stream.ahead {
+            Some(token) => matches!(token.heading(), Some(Keyword::Field | Keyword::Info)),
+            None => false,
+        })
+    }
+
     /// Returns where something is missing: at the next token if it is on the same line, else at the
     /// last one.
     fn missing_place(&self) -> Place {
@@ -232,6 +251,23 @@ impl Words {
         }))
     }
 
+    /// Takes the comma between two texts. One that is missing before the second text is reported, and
+    /// reading goes on as if it were there. Returns whether it goes on.
+    ///
+    /// # Errors
+    ///
+    /// [`AllocError`] if allocation fails.
+    pub fn expect_comma(&mut self) -> Result<bool, AllocError> {
+        if self.expect(b',')? {
+            return Ok(true);
+        }
+        self.stream.look()?;
+        Ok(match &self.stream.ahead {
+            Some(token) => token.is_text(),
+            None => false,
+        })
+    }
+
     /// Takes `(FIRST, SECOND`. What is missing is reported.
     ///
     /// # Errors
@@ -248,7 +284,7 @@ impl Words {
         let Some(front) = self.expect_text(first)? else {
             return Ok(None);
         };
-        if !self.expect(b',')? {
+        if !self.expect_comma()? {
             return Ok(None);
         }
         let Some(back) = self.expect_text(second)? else {
@@ -257,31 +293,54 @@ impl Words {
         Ok(Some((front, back)))
     }
 
-    // Returns whether a word stands behind a value on its line, and begins nothing of its own.
+    // Returns whether a value without quotes goes on behind its first word: on its line stands what begins
+    // nothing of its own.
     fn goes_on(&self, value: &Word) -> bool {
-        let is_same_line = |place: Place| (place.file, place.line)
-            == (value.place.file, value.place.line);
-        match &self.stream.ahead {
-            Some(token) => {
-                token.kind == Kind::Word && token.heading().is_none() && is_same_line(token.place)
-            }
-            None => false,
-        }
+        let Some(token) = &self.stream.ahead else {
+            return false;
+        };
+        let is_part = match token.kind {
+            Kind::Word => token.heading().is_none(),
+            Kind::Sign(sign) => sign == b',',
+            Kind::Fault | Kind::Quoted => true,
+        };
+        !value.quoted
+            && is_part
+            && (token.place.file, token.place.line) == (value.place.file, value.place.line)
     }
 
-    /// Takes the bracket behind a value. Returns whether it is there; if not, that is reported.
+    /// Takes the bracket behind a value, or behind the name of a record, in whose head recovery stops at a
+    /// brace. One that is missing is reported, and what is before the next entry is passed. Returns whether
+    /// the value is whole.
     ///
     /// # Errors
     ///
     /// [`AllocError`] if allocation fails.
-    pub fn expect_close(&mut self, value: &Word) -> Result<bool, AllocError> {
+    pub fn expect_close(&mut self, value: &Word, stops_at_brace: bool) -> Result<bool, AllocError> {
         self.stream.look()?;
-        if value.quoted || !self.goes_on(value) {
-            return self.expect(b')');
+        if self.goes_on(value) {
+            let text: &[u8] =
+                b"a value with spaces or signs stands in double quotes; put '\"' before and behind it";
+            self.report(value.place, &[text])?;
+            return Ok(false);
         }
-        let text = b"a value with spaces stands in double quotes; put '\"' before and behind it";
-        self.report(value.place, &[text])?;
-        Ok(false)
+        if self.take_fault()? {
+            return Ok(false);
+        }
+        if !self.expect(b')')? {
+            self.recover(stops_at_brace)?;
+        }
+        Ok(true)
+    }
+
+    /// Passes the rest of an entry that can't be read.
+    ///
+    /// # Errors
+    ///
+    /// [`AllocError`] if allocation fails.
+    pub fn lose_entry(&mut self) -> Result<(), AllocError> {
+        self.lacks_entries = true;
+        self.recover(false)
     }
 
     /// Takes a value: a word, a text between quotes or JSON. What is missing is reported.
@@ -348,6 +407,7 @@ impl Words {
         }
         match token.kind {
             Kind::Sign(b'{') if stops_at_brace => Step::Stop,
+            Kind::Sign(b'}') if stops_at_brace && self.round == 1 => Step::Last,
             Kind::Sign(b'}') if braces == 0 => Step::Stop,
             Kind::Sign(b')') if braces == 0 && self.round <= 1 => Step::Last,
             _ => Step::Pass,

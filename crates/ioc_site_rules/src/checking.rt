@@ -1,10 +1,10 @@
 //! All checks of a site.
-use crate::chains::{check_cycles, check_unprocessed};
-use crate::gathering::gather;
-use crate::links::follow_links;
-use crate::report::Report;
-use crate::scanning::check_devices;
 use ioc_site::{Finding, Place, Reading};
+use ioc_site_fields::gather;
+use ioc_site_links::{
+    check_calculations, check_cycles, check_devices, check_numbers, check_unprocessed, follow_links,
+};
+use ioc_site_records::Report;
 use std::alloc::{AllocError, Global};
 
 // Warns of files that have no record, though nothing is wrong with their text.
@@ -32,11 +32,12 @@ pub fn check(alloc: Global, reading: &Reading) -> Result<Vec<Finding>, AllocErro
     let site = gather(reading, &mut report)?;
     check_emptiness(reading, &mut report)?;
     check_devices(&site, &mut report)?;
-    let leads = follow_links(&site, &mut report)?;
-    check_cycles(&site, leads.as_slice(), &mut report)?;
-    check_unprocessed(&site, leads.as_slice(), &mut report)?;
-    let Report { findings, .. } = report;
-    Ok(findings)
+    check_numbers(&site, &mut report)?;
+    let followed = follow_links(&site, &mut report)?;
+    check_calculations(&site, followed.leads.as_slice(), &mut report)?;
+    check_cycles(&site, followed.leads.as_slice(), &mut report)?;
+    check_unprocessed(&site, &followed, &mut report)?;
+    Ok(report.into_findings())
 }
 
 // Returns the place in the order in which findings are shown.

@@ -1,12 +1,11 @@
 //! A picture of a site's records and links, in the language of Graphviz.
-use crate::gathering::gather;
-use crate::links::{Lead, follow_links};
-use crate::report::Report;
 use crate::sets::lock_sets;
-use crate::site::{Site, SiteRecord};
 use ioc_fields::{LinkRole, RecordType, name_of};
 use ioc_links::Mode;
 use ioc_site::Reading;
+use ioc_site_fields::gather;
+use ioc_site_links::{Followed, Lead, follow_links};
+use ioc_site_records::{Report, Site, SiteRecord};
 use std::alloc::{AllocError, Global};
 use std::fmt::Write;
 use std::{fmt, str};
@@ -45,6 +44,9 @@ fn colour_of(record_type: Option<RecordType>) -> &'static str {
         Some(RecordType::Event) => "#b6d7a8",
         Some(RecordType::Ai) => "#c9daf8",
         Some(RecordType::Ao) => "#f6b26b",
+        Some(RecordType::Calc) => "#ead1dc",
+        Some(RecordType::Calcout) => "#d5a6bd",
+        Some(RecordType::Sel) => "#a2c4c9",
         None => "#eeeeee",
     }
 }
@@ -118,7 +120,7 @@ fn add_box(
 pub fn add_picture(alloc: Global, reading: &Reading, text: &mut String) -> Result<(), AllocError> {
     let mut report = Report::new(alloc, reading)?;
     let site = gather(reading, &mut report)?;
-    let leads = follow_links(&site, &mut report)?;
+    let Followed { leads, .. } = follow_links(&site, &mut report)?;
     let sets = lock_sets(alloc, leads.as_slice(), site.records.len())?;
     text.push_str("digraph site {\n  rankdir=LR;\n")?;
     text.push_str("  node [shape=box, style=filled];\n")?;

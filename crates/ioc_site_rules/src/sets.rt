@@ -1,14 +1,12 @@
 //! The lock sets of a site: the records that links join.
-use crate::gathering::gather;
-use crate::links::{Lead, follow_links};
-use crate::report::Report;
-use crate::site::Site;
 use ioc_graph::{Edge, are_below, parts_of_all};
 use ioc_names::RecordNo;
 use ioc_site::Reading;
+use ioc_site_fields::gather;
+use ioc_site_links::{Followed, Lead, follow_links};
+use ioc_site_records::{Report, Site, SiteRecord};
 use std::alloc::{AllocError, Global};
 use std::cmp::Reverse;
-use std::fmt::Write;
 
 /// The records of a lock set by their numbers.
 pub type LockSet = Vec<usize>;
@@ -59,6 +57,21 @@ pub fn lock_sets(
     Ok(sets)
 }
 
+// Appends how many records a lock set has.
+fn add_count(alloc: Global, count: usize, out: &mut Vec<u8>) -> Result<(), AllocError> {
+    if count == 1 {
+        return out.extend_from_slice(b"1 record:");
+    }
+    let head = format!(in alloc; "{count} records:")?;
+    out.extend_from_slice(head.as_bytes())
+}
+
+// Appends the name of a record.
+fn add_name(record: &SiteRecord<'_>, out: &mut Vec<u8>) -> Result<(), AllocError> {
+    out.push(b' ')?;
+    out.extend_from_slice(record.name.text.as_slice())
+}
+
 // Appends the line of a lock set.
 fn add_set(
     alloc: Global,
@@ -66,17 +79,10 @@ fn add_set(
     set: &LockSet,
     out: &mut Vec<u8>,
 ) -> Result<(), AllocError> {
-    let count = set.len();
-    let mut head = String::new(alloc);
-    match count {
-        1 => write!(head, "1 record:")?,
-        _ => write!(head, "{count} records:")?,
-    }
-    out.extend_from_slice(head.as_bytes())?;
+    add_count(alloc, set.len(), out)?;
     for number in set.iter() {
         if let Some(record) = site.records.get(*number) {
-            out.push(b' ')?;
-            out.extend_from_slice(record.name.text.as_slice())?;
+            add_name(record, out)?;
         }
     }
     out.push(b'\n')?;
@@ -92,7 +98,7 @@ fn add_set(
 pub fn add_sets(alloc: Global, reading: &Reading, out: &mut Vec<u8>) -> Result<(), AllocError> {
     let mut report = Report::new(alloc, reading)?;
     let site = gather(reading, &mut report)?;
-    let leads = follow_links(&site, &mut report)?;
+    let Followed { leads, .. } = follow_links(&site, &mut report)?;
     let mut sets = lock_sets(alloc, leads.as_slice(), site.records.len())?;
     sets.as_mut_slice()
         .sort_by_key(alloc, |set| Reverse(set.len()))?;

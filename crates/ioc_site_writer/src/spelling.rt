@@ -45,9 +45,11 @@ pub fn add_value(
                 ),
                 _ => quote(text, value),
             },
-            FieldKind::Double | FieldKind::Text | FieldKind::Menu(_) | FieldKind::State => {
-                quote(text, value)
-            }
+            FieldKind::Double
+            | FieldKind::Text
+            | FieldKind::Expression
+            | FieldKind::Menu(_)
+            | FieldKind::State => quote(text, value),
         },
         None => quote(text, value),
     }

@@ -1,4 +1,5 @@
 pub mod World
+pub mod Inputs
 pub mod Links
 pub mod Marks
 pub mod Given

@@ -6,7 +6,7 @@ use Rattle.ioc_fields.specs.Names.{all_slots}
 use Rattle.ioc_fields.specs.Slots.{slot_number}
 use Rattle.ioc_fields.specs.declared.field_no.FieldNo.{FieldNo}
 use Rattle.ioc_fields.specs.declared.field_no.FieldNo.TheVariants.{Common as Common-field, Own}
-use Rattle.ioc_fields.specs.declared.field_no.OwnField.TheVariants.{Lnk}
+use Rattle.ioc_fields.specs.declared.field_no.OwnField.TheVariants.{Lnk, InputLink}
 use Rattle.ioc_fields.specs.declared.field_no.CommonField.TheVariants.{Proc}
 use Rattle.ioc_fields.specs.declared.field_no.FieldSlot.{FieldSlot}
 use Rattle.ioc_dbcommon.specs.declared.link_field.LinkField.{LinkField}
@@ -40,6 +40,10 @@ module _ {R : Type 0} (k : RecordRules R) where
   -- The link with this number.
   abbrev pub link_at : World R → ℕ → FieldSlot → LinkUse
   link_at w s slot = use_of_field (k.link (at k w s) (Own (Lnk slot)))
+
+  -- The input with this number.
+  abbrev pub input_at : World R → ℕ → FieldSlot → LinkUse
+  input_at w s slot = use_of_field (k.link (at k w s) (Own (InputLink slot)))
 
   -- Holds if the record that a link names is requested before it is read: the link has PP, and the
   -- record is passive.

@@ -78,11 +78,15 @@ module _ {R : Type 0} (k : RecordRules R) (lawful : IsLawful k) where
   pub targets-stored : (r : R) (f : FieldNo) (v : Value) → targets k (k.stored r f v) ≡ targets k r
   targets-stored r f v = targets_same (links-stored r f v)
 
-  pub links-posted : (r : R) → SameLinks k r (k.posted r)
-  links-posted r = record { record_type = lawful.posted_type r; fields = lawful.posted_link_fields r; links = lawful.posted_links r }
+  pub links-posted : (r : R) (changes : Bool) → SameLinks k r (k.posted r changes)
+  links-posted r changes = record {
+    record_type = lawful.posted_type r changes;
+    fields = lawful.posted_link_fields r changes;
+    links = lawful.posted_links r changes;
+  }
 
-  pub targets-posted : (r : R) → targets k (k.posted r) ≡ targets k r
-  targets-posted r = targets_same (links-posted r)
+  pub targets-posted : (r : R) (changes : Bool) → targets k (k.posted r changes) ≡ targets k r
+  targets-posted r changes = targets_same (links-posted r changes)
 
   pub targets-taken : (r : R) (got : Got) → targets k (k.taken r got) ≡ targets k r
   targets-taken r got = targets_same (links-taken r got)

@@ -3,6 +3,7 @@ ghost use Rattle.std.specs.Prelude.{◌≡◌};
 ghost use Rattle.ioc_store.specs.Places.{requested_at};
 
 use ioc_dbcommon::StandingLink;
+use ioc_fields::FieldSlot;
 use ioc_ledger::Outcome;
 use ioc_names::RecordNo;
 
@@ -14,6 +15,10 @@ pub enum ResumePoint {
     ReadingDisable(StandingLink),
     /// The body reads this link.
     Reading(StandingLink),
+    /// The body reads the number that chooses its inputs through this link.
+    Choosing(StandingLink),
+    /// The body reads its inputs INPA to INPL.
+    ReadingEach(InputsLeft, StandingLink),
     /// The body has written the record that its output link names.
     Writing(RecordNo),
     /// The body follows its links LNK0 to LNKF whose bits are set: this record now, then the links
@@ -23,6 +28,17 @@ pub enum ResumePoint {
     Following(RecordNo),
 }
 
+/// The inputs that a body has still to read, while it reads one of them.
+#[derive(Clone, Copy, PartialEq, Eq, Debug)]
+pub struct InputsLeft {
+    /// The inputs that it reads, as the bits of their numbers.
+    pub inputs: u16,
+    /// The input that it reads now. Those with greater numbers follow.
+    pub slot: FieldSlot,
+    /// Whether an input before this one returned a fault.
+    pub has_fault: bool,
+}
+
 impl ResumePoint {
     /// Returns the requested record.
     #[inline(always)]
@@ -30,7 +46,10 @@ impl ResumePoint {
         ensures { result ≡ requested_at self.now }
     {
         match self {
-            ResumePoint::ReadingDisable(target) | ResumePoint::Reading(target) => target.number,
+            ResumePoint::ReadingDisable(target)
+            | ResumePoint::Reading(target)
+            | ResumePoint::Choosing(target)
+            | ResumePoint::ReadingEach(_, target) => target.number,
             ResumePoint::Writing(target)
             | ResumePoint::FollowingEach(_, target, _)
             | ResumePoint::Following(target) => *target,

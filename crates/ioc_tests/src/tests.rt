@@ -1,5 +1,6 @@
 //! The tests, by what they test, and what they share.
 mod analog;
+mod calc;
 mod devices;
 mod directory;
 mod doubles;

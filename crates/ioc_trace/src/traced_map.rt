@@ -7,7 +7,7 @@ use crate::lines::{
 use crate::trace_log::TraceLog;
 use ioc_dbcommon::{Got, StandingLink};
 use ioc_device::{Answer, Ask, Device};
-use ioc_fields::name_of;
+use ioc_fields::{FieldNo, OwnField, RecordType, name_of};
 use ioc_ledger::Outcome;
 use ioc_names::RecordNo;
 use ioc_notify::NotifyId;
@@ -114,6 +114,27 @@ impl<K: RecordKind, D: Device> TracedMap<K, D> {
         if let Some(record) = self.map.records.get(number.index()) {
             let alarms = &record.common().condition.alarms;
             self.tell_alarm(number, ShownAlarm::now(alarms), ShownAlarm::raised(alarms));
+        }
+    }
+
+    // Traces the value of a record whose body computes it from several inputs.
+    fn tell_computed(&self, number: RecordNo) {
+        if let Some(value) = self.computed(number) {
+            let mut line = self.line(number);
+            line.extend_cut(b"VAL is ");
+            add_value(&mut line, &value);
+            self.log.add(&line);
+        }
+    }
+
+    // Returns the value of a record that computes it from several inputs, if it is one.
+    fn computed(&self, number: RecordNo) -> Option<Value> {
+        let record = self.map.records.get(number.index())?;
+        match record.record_type() {
+            RecordType::Calc | RecordType::Calcout | RecordType::Sel => {
+                record.get(FieldNo::Own(OwnField::Val))
+            }
+            _ => None,
         }
     }
 
@@ -242,7 +263,10 @@ impl<K: RecordKind, D: Device> Store for TracedMap<K, D> {
                 value,
                 is_stored,
             } => self.tell_written(*writer, link, value, *is_stored),
-            TraceStep::ShowsAlarm(number) => self.show_alarm(*number),
+            TraceStep::ShowsAlarm(number) => {
+                self.tell_computed(*number);
+                self.show_alarm(*number);
+            }
         }
     }
 }

@@ -6,7 +6,13 @@ use Rattle.ioc_values.specs.declared.error.LoadError.{LoadError}
 use Rattle.ioc_values.specs.declared.error.LoadError.TheVariants as load
 use Rattle.ioc_values.specs.declared.error.DbFault.{DbFault}
 use Rattle.ioc_values.specs.declared.error.BadDbKind.{BadDbKind}
-use Rattle.ioc_values.specs.declared.error.BadDbKind.TheVariants.{Syntax, Unclosed, OpenBody, BadType, BadField, NoMod, BadName, BadValue, BadLink, Duplicate, NoRecord, Macro, LeftOut, TooMany}
+use Rattle.ioc_values.specs.declared.error.BadDbKind.TheVariants.{Syntax, Unclosed, OpenBody, BadType, BadField, NoMod, BadName, BadValue, BadLink, Duplicate, NoRecord, Macro, LeftOut, TooMany, BadCalc, CalcLeftOut}
+use Rattle.ioc_calc.specs.declared.token.LeftOut.{LeftOut as Word}
+use Rattle.ioc_calc.specs.Names.{name_of}
+
+-- The reason why an expression that uses something left out was rejected: its name follows.
+unfoldable pub left_out_words : Word → List ℕ
+left_out_words word = codes "left out in calc: " ++ name_of word
 
 -- The reason why a database text was rejected.
 unfoldable pub kind_words : BadDbKind → List ℕ
@@ -24,6 +30,8 @@ kind_words NoRecord = codes "no record"
 kind_words Macro = codes "macro"
 kind_words LeftOut = codes "left out"
 kind_words TooMany = codes "too many"
+kind_words BadCalc = codes "bad calc"
+kind_words (CalcLeftOut word) = left_out_words word
 
 -- The number and the name of an error.
 unfoldable pub refusal_words : IocError → List ℕ

@@ -1,10 +1,11 @@
 //! The errors of the engine's calls.
 
 ghost use Rattle.std.specs.Prelude.{◌≡◌};
-ghost use Rattle.ioc_values.specs.Words.{refusal_words, kind_words};
+ghost use Rattle.ioc_values.specs.Words.{refusal_words, left_out_words, kind_words};
 ghost use Rattle.ioc_values.specs.declared.error.IocError.TheVariants.{NoMemory};
 ghost use Rattle.ioc_values.specs.declared.error.LoadError.TheVariants.{BadDb, NoMemory as No-memory};
 
+use ioc_calc::LeftOut;
 use std::alloc::{AllocError, AllocFailed};
 use std::fmt;
 
@@ -76,6 +77,10 @@ pub enum BadDbKind {
     LeftOut,
     /// The text has more than 131,072 records or more than 16 MiB.
     TooMany,
+    /// An expression doesn't follow the grammar of expressions.
+    BadCalc,
+    /// An expression uses something that is left out.
+    CalcLeftOut(LeftOut),
 }
 
 #[tactic(auto, unfolding(crate::specs::Words::refusal_words))]
@@ -101,6 +106,32 @@ impl IocError {
     }
 }
 
+// Returns the reason why an expression that uses something left out was rejected.
+#[tactic(auto, unfolding(crate::specs::Words::left_out_words))]
+fn left_out_words(word: LeftOut) -> &'static str
+    ensures { result.now ≡ left_out_words word }
+{
+    match word {
+        LeftOut::Acos => "left out in calc: ACOS",
+        LeftOut::Asin => "left out in calc: ASIN",
+        LeftOut::Atan => "left out in calc: ATAN",
+        LeftOut::Atan2 => "left out in calc: ATAN2",
+        LeftOut::Cos => "left out in calc: COS",
+        LeftOut::Cosh => "left out in calc: COSH",
+        LeftOut::Exp => "left out in calc: EXP",
+        LeftOut::Ln => "left out in calc: LN",
+        LeftOut::Log => "left out in calc: LOG",
+        LeftOut::Loge => "left out in calc: LOGE",
+        LeftOut::Rndm => "left out in calc: RNDM",
+        LeftOut::Sin => "left out in calc: SIN",
+        LeftOut::Sinh => "left out in calc: SINH",
+        LeftOut::Tan => "left out in calc: TAN",
+        LeftOut::Tanh => "left out in calc: TANH",
+        LeftOut::Caret => "left out in calc: ^",
+        LeftOut::Stars => "left out in calc: **",
+    }
+}
+
 #[tactic(auto, unfolding(crate::specs::Words::kind_words))]
 impl BadDbKind {
     /// Returns the reason, such as `text not closed`.
@@ -122,6 +153,8 @@ impl BadDbKind {
             BadDbKind::Macro => "macro",
             BadDbKind::LeftOut => "left out",
             BadDbKind::TooMany => "too many",
+            BadDbKind::BadCalc => "bad calc",
+            BadDbKind::CalcLeftOut(word) => left_out_words(word),
         }
     }
 }

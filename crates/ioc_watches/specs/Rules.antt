@@ -5,7 +5,7 @@ use Rattle.ioc_fields.specs.declared.field_no.FieldNo.{FieldNo}
 use Rattle.ioc_fields.specs.declared.field_no.FieldNo.TheVariants.{Own}
 use Rattle.ioc_fields.specs.declared.field_no.OwnField.TheVariants.{Val, Mdel, Adel, Mlst, Alst}
 use Rattle.ioc_fields.specs.declared.record_type.RecordType.{RecordType}
-use Rattle.ioc_fields.specs.declared.record_type.RecordType.TheVariants.{Longin, Longout, Int64in, Int64out, Ai, Ao}
+use Rattle.ioc_fields.specs.declared.record_type.RecordType.TheVariants.{Longin, Longout, Int64in, Int64out, Ai, Ao, Calc, Calcout, Sel}
 use Rattle.ioc_watches.specs.declared.rule.Rule.{Rule}
 use Rattle.ioc_watches.specs.declared.rule.Rule.TheVariants.{Deadbands, LastPosted, Shown}
 
@@ -17,6 +17,9 @@ rule_of_value Int64in = Deadbands
 rule_of_value Int64out = Deadbands
 rule_of_value Ai = LastPosted
 rule_of_value Ao = LastPosted
+rule_of_value Calc = LastPosted
+rule_of_value Calcout = LastPosted
+rule_of_value Sel = LastPosted
 rule_of_value other = Shown
 
 abbrev pub rule_of : RecordType → FieldNo → Rule

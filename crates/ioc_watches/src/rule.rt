@@ -28,7 +28,11 @@ fn rule_of_value(record_type: RecordType) -> Rule
     match record_type {
         RecordType::Longin | RecordType::Longout | RecordType::Int64in | RecordType::Int64out =>
             Rule::Deadbands,
-        RecordType::Ai | RecordType::Ao => Rule::LastPosted,
+        RecordType::Ai
+        | RecordType::Ao
+        | RecordType::Calc
+        | RecordType::Calcout
+        | RecordType::Sel => Rule::LastPosted,
         _ => Rule::Shown,
     }
 }

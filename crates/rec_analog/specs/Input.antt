@@ -24,7 +24,6 @@ use Rattle.ioc_dbcommon.specs.Source.{new_source, source_link, source_with_link,
 use Rattle.ioc_record.specs.BodyRules.{BodyRules, BodyState, inp_constant_kind}
 use Rattle.rec_analog.specs.Analog.{new_analog, analog_get, analog_stored, analog_posted, defined_by, undefined_if_nan, tested, settled}
 use Rattle.rec_analog.specs.Scale.{new_scale, scale_get, scale_stored, engineering}
-use Rattle.rec_analog.specs.declared.analog.Analog.{Analog}
 use Rattle.rec_analog.specs.declared.input.Ai.{Ai}
 
 -- ---- Fields
@@ -117,14 +116,17 @@ ai = record {
   record_type = λ b. type.Ai;
   link = λ b. source_link b.source.input;
   with_link = λ b field link. record b { source = source_with_link b.source field link };
+  calculation = λ b field. None;
+  with_calculation = λ b field c. b;
   states = λ b. [];
   get = ai_get;
   stored = ai_stored;
   begin = λ b. source_begin b.source.input;
+  inputs = λ b got. 0;
   input_kind = ai_input_kind;
   taken = ai_taken;
   output = λ h got. NoOutput;
-  posted = λ b. record b { analog = analog_posted b.analog };
+  posted = λ b changed. record b { analog = analog_posted b.analog };
   constant_kind = λ h. inp_constant_kind input.Double;
   loaded = ai_loaded;
 }

@@ -18,7 +18,7 @@ use Rattle.ioc_dbcommon.specs.declared.body.Got.TheVariants as got
 use Rattle.ioc_dbcommon.specs.Constant.{constant_in}
 use Rattle.ioc_dbcommon.specs.Links.{no_link, use_of, named_by_field}
 use Rattle.ioc_dbcommon.specs.Raw.{is_raw_soft}
-use Rattle.ioc_dbcommon.specs.Source.{new_source, source_link, source_set_here, source_set_there, source_set_others, source_set_twice, source_begin_leads}
+use Rattle.ioc_dbcommon.specs.Source.{new_source, source_link, source_set_here, source_set_there, source_set_others, source_set_twice, source_begin_leads, source_begins_alone}
 use Rattle.ioc_record.specs.Values.{field_sort, sort_in}
 use Rattle.ioc_record.specs.BodyRules.{BodyState}
 use Rattle.ioc_record.specs.BodyLaws.{IsLawfulBody, IsNewBody}
@@ -101,7 +101,7 @@ pub ai_lawful : IsLawfulBody ai
 ai_lawful = record {
   missing_links = missing-links;
   link_there = link-there;
-  type_stays = record { taken = λ h got. refl; stored = λ h f v. refl; set = λ b f l. refl; loaded = λ h. refl; posted = λ b. refl };
+  type_stays = record { taken = λ h got. refl; stored = λ h f v. refl; set = λ b f l. refl; loaded = λ h. refl; posted = λ b changed. refl; calculated = λ b f c. refl };
   taken_links = λ h got. ap (λ (s : Source). source_link s.input) (taken-source h got);
   stored_links = λ h f v. ap (λ (s : Source). source_link s.input) (stored-source h f v);
   set_here = λ b f l is. source_set_here b.source f l is;
@@ -109,10 +109,12 @@ ai_lawful = record {
   set_others = λ b f g l apart. source_set_others b.source f g l apart;
   set_twice = λ b f l m. ap (λ s. record b { source = s }) (source_set_twice b.source f l m);
   set_values = λ b f l g. set-values b _ g;
-  posted_links = λ b. refl;
+  posted_links = λ b changed. refl;
+  calculated_links = λ b f c. refl;
   loaded_links = λ h. ap (λ (s : Source). source_link s.input) (loaded-source h);
   put_reads_back = reads_back;
   begin_named = λ b t is. record { field = Inp; link = b.source.input; is = refl; leads = source_begin_leads b.source.input t is };
+  choice_named = λ b t is. absurd (source_begins_alone b.source.input t is);
   output_named = λ h got t v is. cc;
   readers_write_none = λ h got v reads is. cc;
 }

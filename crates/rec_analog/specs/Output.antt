@@ -26,7 +26,6 @@ use Rattle.ioc_dbcommon.specs.Drive.{new_drive, drive_link, drive_with_link, dri
 use Rattle.ioc_record.specs.BodyRules.{BodyRules, BodyState, dol_constant_kind}
 use Rattle.rec_analog.specs.Analog.{new_analog, analog_get, analog_stored, analog_posted, defined_by, undefined_if_nan, tested, settled}
 use Rattle.rec_analog.specs.Scale.{new_scale, scale_get, scale_stored, raw_of}
-use Rattle.rec_analog.specs.declared.analog.Analog.{Analog}
 use Rattle.rec_analog.specs.declared.output.Ao.{Ao}
 
 -- ---- Fields
@@ -166,14 +165,17 @@ ao = record {
   record_type = λ b. type.Ao;
   link = λ b. drive_link b.drive.output b.drive.desired;
   with_link = λ b field link. record b { drive = drive_with_link b.drive field link };
+  calculation = λ b field. None;
+  with_calculation = λ b field c. b;
   states = λ b. [];
   get = ao_get;
   stored = ao_stored;
   begin = λ b. drive_begin b.drive.mode b.drive.desired;
+  inputs = λ b got. 0;
   input_kind = λ h. input.Double;
   taken = ao_taken;
   output = ao_output;
-  posted = λ b. record b { analog = analog_posted b.analog };
+  posted = λ b changed. record b { analog = analog_posted b.analog };
   constant_kind = λ h. dol_constant_kind input.Double;
   loaded = ao_loaded;
 }

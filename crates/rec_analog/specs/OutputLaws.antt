@@ -24,7 +24,7 @@ use Rattle.ioc_dbcommon.specs.declared.body.Output.TheVariants.{NoOutput, WriteL
 use Rattle.ioc_dbcommon.specs.Constant.{constant_in}
 use Rattle.ioc_dbcommon.specs.Links.{no_link, use_of, named_by_field}
 use Rattle.ioc_dbcommon.specs.Parts.{oif_in, oif_back}
-use Rattle.ioc_dbcommon.specs.Drive.{new_drive, drive_link, drive_with_link, drive_get, drive_stored, drives, sets, written, drive_stored-output, drive_stored-desired, omsl_reads_back, ivoa_reads_back, begin_leads, written_leads, drive_set_here, drive_set_there, drive_set_others, drive_set_twice, drive_set_values}
+use Rattle.ioc_dbcommon.specs.Drive.{new_drive, drive_link, drive_with_link, drive_get, drive_stored, drives, sets, written, drive_stored-output, drive_stored-desired, omsl_reads_back, ivoa_reads_back, begin_leads, written_leads, drive_set_here, drive_set_there, drive_set_others, drive_set_twice, drive_set_values, begins_alone}
 use Rattle.ioc_record.specs.Values.{field_sort, sort_in}
 use Rattle.ioc_record.specs.BodyRules.{BodyState}
 use Rattle.ioc_record.specs.BodyLaws.{IsLawfulBody, IsNewBody}
@@ -136,7 +136,7 @@ unfolding reads_device
 ao_lawful = record {
   missing_links = missing-links;
   link_there = link-there;
-  type_stays = record { taken = λ h got. refl; stored = λ h f v. refl; set = λ b f l. refl; loaded = λ h. refl; posted = λ b. refl };
+  type_stays = record { taken = λ h got. refl; stored = λ h f v. refl; set = λ b f l. refl; loaded = λ h. refl; posted = λ b changed. refl; calculated = λ b f c. refl };
   taken_links = λ h got. ap links (taken-drive h got);
   stored_links = stored-links;
   set_here = λ b f l is. drive_set_here b.drive f l is;
@@ -144,10 +144,12 @@ ao_lawful = record {
   set_others = λ b f g l apart. drive_set_others b.drive f g l apart;
   set_twice = λ b f l m. ap (λ d. record b { drive = d }) (drive_set_twice b.drive f l m);
   set_values = set-values;
-  posted_links = λ b. refl;
+  posted_links = λ b changed. refl;
+  calculated_links = λ b f c. refl;
   loaded_links = λ h. ap links (loaded-drive h);
   put_reads_back = reads_back;
   begin_named = λ b t is. record { field = Dol; link = b.drive.desired; is = refl; leads = begin_leads b.drive.mode b.drive.desired t is };
+  choice_named = λ b t is. absurd (begins_alone b.drive.mode b.drive.desired t is);
   output_named = λ h got t v is. record { field = Out; link = h.body.drive.output; is = refl; leads = output_leads h got t v is };
   readers_write_none = λ h got v reads is. cc;
 }

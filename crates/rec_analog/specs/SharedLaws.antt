@@ -30,6 +30,27 @@ severity_shown v old is = rw is.1 (ap (λ n. Some (value.Enum n)) (severity_back
 linr_shown : (v : Value) (old : LinrChoice) → (is : (n : ℕ) × (v ≡ value.Enum n) × (n < 3)) → Some (value.Enum (linr_number (unwrap_or (linr_in v) old))) ≡ Some v
 linr_shown v old is = rw is.1 (ap (λ n. Some (value.Enum n)) (linr_back is.0 old is.2))
 
+-- What is put into a field of VAL is shown.
+pub analog_reads_back : (b : Analog) (f : OwnField) (v : Value) → can_put_by (analog_row f) → IsValueBy (analog_row f) v → analog_get (analog_stored b f v) f ≡ Some v
+unfolding analog_row analog_get analog_stored limit_stored field_sort
+analog_reads_back b Val v can is = rw is.1 refl
+analog_reads_back b Prec v can is = rw is.1 refl
+analog_reads_back b Egu v can is = rw is.1 refl
+analog_reads_back b Hopr v can is = rw is.1 refl
+analog_reads_back b Lopr v can is = rw is.1 refl
+analog_reads_back b Hihi v can is = rw is.1 refl
+analog_reads_back b Lolo v can is = rw is.1 refl
+analog_reads_back b High v can is = rw is.1 refl
+analog_reads_back b Low v can is = rw is.1 refl
+analog_reads_back b Hyst v can is = rw is.1 refl
+analog_reads_back b Mdel v can is = rw is.1 refl
+analog_reads_back b Adel v can is = rw is.1 refl
+analog_reads_back b Hhsv v can is = severity_shown v b.limits.hihi_severity is
+analog_reads_back b Llsv v can is = severity_shown v b.limits.lolo_severity is
+analog_reads_back b Hsv v can is = severity_shown v b.limits.high_severity is
+analog_reads_back b Lsv v can is = severity_shown v b.limits.low_severity is
+analog_reads_back b _ v can is = cc
+
 -- What is put into a shared field is shown.
 pub shared_reads_back : (s : Scale) (b : Analog) (f : OwnField) (v : Value) → can_put_by (scale_row f) → IsValueBy (scale_row f) v
     → option_or (scale_get (scale_stored s f v) f) (analog_get (analog_stored b f v) f) ≡ Some v

@@ -6,8 +6,8 @@ ghost use Rattle.rec_analog.specs.Input.{ai, new_ai, smoothed, value_taken, raw_
 use crate::analog::{Analog, define_by, undefine_if_nan};
 use crate::scale::Scale;
 use ioc_dbcommon::{
-    Condition, Fresh, Got, InputKind, LinkBox, LinkUse, Need, Output, Source, constant_in,
-    double_in, long_in,
+    Calculation, Condition, Fresh, Got, InputKind, LinkBox, LinkUse, Need, Output, Source,
+    constant_in, double_in, long_in,
 };
 use ioc_fields::{OwnField, RecordType};
 use ioc_links::Link;
@@ -149,6 +149,12 @@ impl RecordBody for Ai {
         self.source.set_link(field, link);
     }
 
+    fn calculation(&self, _field: OwnField) -> Option<&Calculation> {
+        None
+    }
+
+    fn set_calculation(&mut self, _field: OwnField, _calculation: Calculation) {}
+
     fn states(&self) -> &[Text] {
         &[]
     }
@@ -188,6 +194,10 @@ impl RecordBody for Ai {
         self.source.wanted_link()
     }
 
+    fn inputs(&self, _got: &Got) -> u16 {
+        0
+    }
+
     #[tactic(auto, unfolding(crate::specs::Input::ai_input_kind))]
     fn input_kind(&self, condition: &Condition) -> InputKind {
         if condition.is_raw_soft() {
@@ -205,7 +215,7 @@ impl RecordBody for Ai {
         false
     }
 
-    fn post(&mut self) {
+    fn post(&mut self, _alarm_changed: bool) {
         self.analog.post();
     }
 

@@ -8,8 +8,8 @@ ghost use Rattle.ioc_dbcommon.specs.Wants.{puts_out};
 use crate::analog::{Analog, define_by, undefine_if_nan};
 use crate::scale::Scale;
 use ioc_dbcommon::{
-    Condition, Drive, Fresh, Got, InputKind, LinkBox, LinkUse, Need, Output, constant_in,
-    double_in, oif_in,
+    Calculation, Condition, Drive, Fresh, Got, InputKind, LinkBox, LinkUse, Need, Output,
+    constant_in, double_in, oif_in,
 };
 use ioc_fields::{OwnField, RecordType};
 use ioc_links::Link;
@@ -222,6 +222,12 @@ impl RecordBody for Ao {
         self.drive.set_link(field, link);
     }
 
+    fn calculation(&self, _field: OwnField) -> Option<&Calculation> {
+        None
+    }
+
+    fn set_calculation(&mut self, _field: OwnField, _calculation: Calculation) {}
+
     fn states(&self) -> &[Text] {
         &[]
     }
@@ -272,6 +278,10 @@ impl RecordBody for Ao {
         self.drive.wanted_link()
     }
 
+    fn inputs(&self, _got: &Got) -> u16 {
+        0
+    }
+
     fn input_kind(&self, _condition: &Condition) -> InputKind {
         InputKind::Double
     }
@@ -283,7 +293,7 @@ impl RecordBody for Ao {
         self.write_driven(condition, output)
     }
 
-    fn post(&mut self) {
+    fn post(&mut self, _alarm_changed: bool) {
         self.analog.post();
     }
 

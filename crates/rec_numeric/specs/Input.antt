@@ -1,6 +1,6 @@
 -- The types longin and int64in. Record Reference Manual, "Long Input Record" and "64bit Integer
 -- Input Record".
-use Rattle.std.specs.Prelude.{[]}
+use Rattle.std.specs.Prelude.{[], None}
 use Rattle.ioc_values.specs.declared.value.Value.{Value}
 use Rattle.ioc_alarms.specs.Order.{LimitOrder}
 use Rattle.ioc_fields.specs.declared.field_no.OwnField.{OwnField}
@@ -54,14 +54,17 @@ numeric_input k order = record {
   record_type = λ b. k.input_type;
   link = λ b. source_link b.source.input;
   with_link = λ b field link. record b { source = source_with_link b.source field link };
+  calculation = λ b field. None;
+  with_calculation = λ b field c. b;
   states = λ b. [];
   get = λ b. numeric_get k b.numbers;
   stored = input_stored k;
   begin = λ b. source_begin b.source.input;
+  inputs = λ b got. 0;
   input_kind = λ h. input.Number k.range;
   taken = input_taken k order;
   output = λ h got. NoOutput;
-  posted = λ b. b;
+  posted = λ b changed. b;
   constant_kind = λ h. inp_constant_kind (input.Number k.range);
   loaded = λ h. constant_loaded (input_stored k) (λ b. record b { numbers = with_last_alarmed b.numbers }) k.range h h.body.source.input.link;
 }

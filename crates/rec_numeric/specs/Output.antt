@@ -1,6 +1,6 @@
 -- The types longout and int64out. Record Reference Manual, "Long Output Record" and "64bit Integer
 -- Output Record".
-use Rattle.std.specs.Prelude.{if◌then◌else◌, [], Option, Some, unwrap_or}
+use Rattle.std.specs.Prelude.{if◌then◌else◌, [], Option, Some, unwrap_or, None}
 use Rattle.ioc_values.specs.declared.value.Value.{Value}
 use Rattle.ioc_alarms.specs.Order.{LimitOrder}
 use Rattle.ioc_fields.specs.declared.field_no.OwnField.{OwnField}
@@ -103,14 +103,17 @@ numeric_output k order = record {
   record_type = λ b. k.output_type;
   link = λ b. drive_link b.drive.output b.drive.desired;
   with_link = λ b field link. record b { drive = drive_with_link b.drive field link };
+  calculation = λ b field. None;
+  with_calculation = λ b field c. b;
   states = λ b. [];
   get = output_get k;
   stored = output_stored k;
   begin = λ b. drive_begin b.drive.mode b.drive.desired;
+  inputs = λ b got. 0;
   input_kind = λ h. input.Number k.range;
   taken = output_taken k order;
   output = output_driven k order;
-  posted = λ b. b;
+  posted = λ b changed. b;
   constant_kind = λ h. dol_constant_kind (input.Number k.range);
   loaded = λ h. constant_loaded (output_stored k) (λ b. record b { numbers = with_last_alarmed b.numbers }) k.range h h.body.drive.desired.link;
 }

@@ -6,7 +6,9 @@ ghost use Rattle.rec_numeric.specs.Input.{numeric_input, new_input};
 use crate::number::Number;
 use crate::numeric::Numeric;
 use crate::storing::{Storing, put_constant, store_number};
-use ioc_dbcommon::{Condition, Fresh, Got, InputKind, LinkBox, LinkUse, Need, Output, Source};
+use ioc_dbcommon::{
+    Calculation, Condition, Fresh, Got, InputKind, LinkBox, LinkUse, Need, Output, Source,
+};
 use ioc_fields::{OwnField, RecordType};
 use ioc_record::RecordBody;
 use ioc_values::{Range, Text, Value};
@@ -88,6 +90,12 @@ impl<N: Number> RecordBody for NumericInput<N> {
         self.source.set_link(field, link);
     }
 
+    fn calculation(&self, _field: OwnField) -> Option<&Calculation> {
+        None
+    }
+
+    fn set_calculation(&mut self, _field: OwnField, _calculation: Calculation) {}
+
     fn states(&self) -> &[Text] {
         &[]
     }
@@ -122,6 +130,10 @@ impl<N: Number> RecordBody for NumericInput<N> {
         self.source.wanted_link()
     }
 
+    fn inputs(&self, _got: &Got) -> u16 {
+        0
+    }
+
     fn input_kind(&self, _condition: &Condition) -> InputKind {
         InputKind::Number(N::range())
     }
@@ -136,7 +148,7 @@ impl<N: Number> RecordBody for NumericInput<N> {
         false
     }
 
-    fn post(&mut self) {}
+    fn post(&mut self, _alarm_changed: bool) {}
 
     fn constant_kind(&self, _condition: &Condition, field: OwnField) -> Option<InputKind> {
         match field {

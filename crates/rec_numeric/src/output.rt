@@ -6,7 +6,9 @@ ghost use Rattle.rec_numeric.specs.Output.{numeric_output, new_output, within, l
 use crate::number::Number;
 use crate::numeric::Numeric;
 use crate::storing::{Storing, put_constant, store_number};
-use ioc_dbcommon::{Condition, Drive, Fresh, Got, InputKind, LinkBox, LinkUse, Need, Output};
+use ioc_dbcommon::{
+    Calculation, Condition, Drive, Fresh, Got, InputKind, LinkBox, LinkUse, Need, Output,
+};
 use ioc_fields::{OwnField, RecordType};
 use ioc_record::RecordBody;
 use ioc_record::shown::number_in;
@@ -150,6 +152,12 @@ impl<N: Number> RecordBody for NumericOutput<N> {
         self.drive.set_link(field, link);
     }
 
+    fn calculation(&self, _field: OwnField) -> Option<&Calculation> {
+        None
+    }
+
+    fn set_calculation(&mut self, _field: OwnField, _calculation: Calculation) {}
+
     fn states(&self) -> &[Text] {
         &[]
     }
@@ -198,6 +206,10 @@ impl<N: Number> RecordBody for NumericOutput<N> {
         self.drive.wanted_link()
     }
 
+    fn inputs(&self, _got: &Got) -> u16 {
+        0
+    }
+
     fn input_kind(&self, _condition: &Condition) -> InputKind {
         InputKind::Number(N::range())
     }
@@ -216,7 +228,7 @@ impl<N: Number> RecordBody for NumericOutput<N> {
         }
     }
 
-    fn post(&mut self) {}
+    fn post(&mut self, _alarm_changed: bool) {}
 
     fn constant_kind(&self, _condition: &Condition, field: OwnField) -> Option<InputKind> {
         match field {

@@ -1,6 +1,6 @@
 -- The types bi and mbbi. Record Reference Manual, "Binary Input Record" and "Multi-Bit Binary Input
 -- Record". `k` has the rules of the states.
-use Rattle.std.specs.Prelude.{Bool, if◌then◌else◌}
+use Rattle.std.specs.Prelude.{Bool, if◌then◌else◌, None}
 use Rattle.ioc_values.specs.declared.value.Value.{Value}
 use Rattle.ioc_values.specs.declared.kind.Range.TheVariants as range
 use Rattle.ioc_links.specs.declared.link.Link.{Link}
@@ -67,14 +67,17 @@ state_input k = record {
   record_type = λ b. k.input_type;
   link = λ b. source_link b.source.input;
   with_link = λ b field link. record b { source = source_with_link b.source field link };
+  calculation = λ b field. None;
+  with_calculation = λ b field c. b;
   states = λ b. k.texts b.fields.states;
   get = λ b. fields_get k b.fields;
   stored = input_stored k;
   begin = λ b. source_begin b.source.input;
+  inputs = λ b got. 0;
   input_kind = state_input_kind;
   taken = input_taken k;
   output = λ h got. NoOutput;
-  posted = λ b. b;
+  posted = λ b changed. b;
   constant_kind = λ h. inp_constant_kind (input.Number range.ULong);
   loaded = input_loaded k;
 }

@@ -11,7 +11,7 @@ use Rattle.ioc_fields.specs.Defaults.{zero_of, own_default}
 use Rattle.ioc_dbcommon.specs.declared.link_field.LinkField.{LinkField}
 use Rattle.ioc_dbcommon.specs.Links.{no_link, use_of, named_by_field}
 use Rattle.ioc_record.specs.Values.{sort_in}
-use Rattle.ioc_dbcommon.specs.Source.{new_source, source_link, source_set_here, source_set_there, source_set_others, source_set_twice, source_begin_leads}
+use Rattle.ioc_dbcommon.specs.Source.{new_source, source_link, source_set_here, source_set_there, source_set_others, source_set_twice, source_begin_leads, source_begins_alone}
 use Rattle.ioc_record.specs.BodyRules.{BodyState}
 use Rattle.ioc_record.specs.BodyLaws.{IsLawfulBody, IsNewBody}
 use Rattle.ioc_record.specs.ByRow.{can_put_by, default_by, is_link_by}
@@ -61,7 +61,7 @@ module _ {S : Type 0} (k : StateRules S) (lawful : IsLawfulStates k) where
   input_lawful = record {
     missing_links = missing-links;
     link_there = link-there;
-    type_stays = record { taken = λ h got. refl; stored = λ h f v. refl; set = λ b f l. refl; loaded = λ h. refl; posted = λ b. refl };
+    type_stays = record { taken = λ h got. refl; stored = λ h f v. refl; set = λ b f l. refl; loaded = λ h. refl; posted = λ b changed. refl; calculated = λ b f c. refl };
     taken_links = λ h got. refl;
     stored_links = λ h f v. refl;
     set_here = λ b f l is. source_set_here b.source f l is;
@@ -69,10 +69,12 @@ module _ {S : Type 0} (k : StateRules S) (lawful : IsLawfulStates k) where
     set_others = λ b f g l apart. source_set_others b.source f g l apart;
     set_twice = λ b f l m. ap (λ s. record b { source = s }) (source_set_twice b.source f l m);
     set_values = λ b f l g. refl;
-    posted_links = λ b. refl;
+    posted_links = λ b changed. refl;
+    calculated_links = λ b f c. refl;
     loaded_links = λ h. refl;
     put_reads_back = reads_back;
     begin_named = λ b t is. record { field = Inp; link = b.source.input; is = refl; leads = source_begin_leads b.source.input t is };
+    choice_named = λ b t is. absurd (source_begins_alone b.source.input t is);
     output_named = λ h got t v is. cc;
     readers_write_none = λ h got v reads is. cc;
   }

@@ -1,6 +1,6 @@
 -- The types bo and mbbo. Record Reference Manual, "Binary Output Record" and "Multi-Bit Binary
 -- Output Record". `k` has the rules of the states.
-use Rattle.std.specs.Prelude.{ℕ, if◌then◌else◌, Option, Some, unwrap_or}
+use Rattle.std.specs.Prelude.{ℕ, if◌then◌else◌, Option, Some, unwrap_or, None}
 use Rattle.ioc_values.specs.declared.value.Value.{Value}
 use Rattle.ioc_values.specs.declared.value.Value.TheVariants as value
 use Rattle.ioc_values.specs.declared.kind.Range.TheVariants as range
@@ -95,14 +95,17 @@ state_output k = record {
   record_type = λ b. k.output_type;
   link = λ b. drive_link b.drive.output b.drive.desired;
   with_link = λ b field link. record b { drive = drive_with_link b.drive field link };
+  calculation = λ b field. None;
+  with_calculation = λ b field c. b;
   states = λ b. k.texts b.fields.states;
   get = output_get k;
   stored = output_stored k;
   begin = λ b. drive_begin b.drive.mode b.drive.desired;
+  inputs = λ b got. 0;
   input_kind = λ h. state_kind;
   taken = output_taken k;
   output = output_driven k;
-  posted = λ b. b;
+  posted = λ b changed. b;
   constant_kind = λ h. dol_constant_kind state_kind;
   loaded = output_loaded k;
 }

@@ -7,7 +7,9 @@ use crate::sixteen_states::SixteenStates;
 use crate::state_fields::StateFields;
 use crate::states::States;
 use crate::two_states::TwoStates;
-use ioc_dbcommon::{Condition, Fresh, Got, InputKind, LinkBox, LinkUse, Need, Output, Source};
+use ioc_dbcommon::{
+    Calculation, Condition, Fresh, Got, InputKind, LinkBox, LinkUse, Need, Output, Source,
+};
 use ioc_fields::{OwnField, RecordType};
 use ioc_links::Link;
 use ioc_record::RecordBody;
@@ -67,6 +69,12 @@ impl<S: States> RecordBody for StateInput<S> {
         self.source.set_link(field, link);
     }
 
+    fn calculation(&self, _field: OwnField) -> Option<&Calculation> {
+        None
+    }
+
+    fn set_calculation(&mut self, _field: OwnField, _calculation: Calculation) {}
+
     fn states(&self) -> &[Text] {
         self.fields.states.texts()
     }
@@ -88,6 +96,10 @@ impl<S: States> RecordBody for StateInput<S> {
         self.source.wanted_link()
     }
 
+    fn inputs(&self, _got: &Got) -> u16 {
+        0
+    }
+
     #[tactic(auto, unfolding(crate::specs::Input::state_input_kind))]
     fn input_kind(&self, condition: &Condition) -> InputKind {
         if self.source.input.is_raw(condition) {
@@ -105,7 +117,7 @@ impl<S: States> RecordBody for StateInput<S> {
         false
     }
 
-    fn post(&mut self) {}
+    fn post(&mut self, _alarm_changed: bool) {}
 
     fn constant_kind(&self, _condition: &Condition, field: OwnField) -> Option<InputKind> {
         match field {

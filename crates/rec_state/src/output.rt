@@ -8,7 +8,7 @@ use crate::state_fields::StateFields;
 use crate::states::States;
 use crate::two_states::TwoStates;
 use ioc_dbcommon::{
-    Condition, Drive, Fresh, Got, InputKind, LinkBox, LinkUse, Need, Output, ushort_in,
+    Calculation, Condition, Drive, Fresh, Got, InputKind, LinkBox, LinkUse, Need, Output, ushort_in,
 };
 use ioc_fields::{OwnField, RecordType};
 use ioc_links::Link;
@@ -86,6 +86,12 @@ impl<S: States> RecordBody for StateOutput<S> {
         self.drive.set_link(field, link);
     }
 
+    fn calculation(&self, _field: OwnField) -> Option<&Calculation> {
+        None
+    }
+
+    fn set_calculation(&mut self, _field: OwnField, _calculation: Calculation) {}
+
     fn states(&self) -> &[Text] {
         self.fields.states.texts()
     }
@@ -116,6 +122,10 @@ impl<S: States> RecordBody for StateOutput<S> {
         self.drive.wanted_link()
     }
 
+    fn inputs(&self, _got: &Got) -> u16 {
+        0
+    }
+
     fn input_kind(&self, _condition: &Condition) -> InputKind {
         InputKind::Number(Range::UShort)
     }
@@ -135,7 +145,7 @@ impl<S: States> RecordBody for StateOutput<S> {
         }
     }
 
-    fn post(&mut self) {}
+    fn post(&mut self, _alarm_changed: bool) {}
 
     fn constant_kind(&self, _condition: &Condition, field: OwnField) -> Option<InputKind> {
         match field {

@@ -82,14 +82,17 @@ stringout = record {
   record_type = λ b. type.Stringout;
   link = λ b. drive_link b.drive.output b.drive.desired;
   with_link = λ b field link. record b { drive = drive_with_link b.drive field link };
+  calculation = λ b field. None;
+  with_calculation = λ b field c. b;
   states = λ b. [];
   get = stringout_get;
   stored = stringout_stored;
   begin = λ b. drive_begin b.drive.mode b.drive.desired;
+  inputs = λ b got. 0;
   input_kind = λ h. input.Text;
   taken = stringout_taken;
   output = stringout_output;
-  posted = λ b. b;
+  posted = λ b changed. b;
   constant_kind = λ h. dol_constant_kind input.Text;
   loaded = stringout_loaded;
 }

@@ -1,6 +1,6 @@
 -- The types stringin and event. Record Reference Manual, "String Input Record" and "Event Record".
 -- `k` has what tells them apart.
-use Rattle.std.specs.Prelude.{[]}
+use Rattle.std.specs.Prelude.{[], None}
 use Rattle.ioc_fields.specs.declared.record_type.RecordType.{RecordType}
 use Rattle.ioc_dbcommon.specs.declared.body.Got.{Got}
 use Rattle.ioc_dbcommon.specs.declared.body.InputKind.TheVariants as input
@@ -40,14 +40,17 @@ text_body k = record {
   record_type = λ b. k.record_type;
   link = λ b. source_link b.text.source.input;
   with_link = λ b field link. record b { text = record b.text { source = source_with_link b.text.source field link } };
+  calculation = λ b field. None;
+  with_calculation = λ b field c. b;
   states = λ b. [];
   get = λ b. text_input_get b.text;
   stored = λ h field v. outer h (text_input_stored (inner h) field v);
   begin = λ b. source_begin b.text.source.input;
+  inputs = λ b got. 0;
   input_kind = λ h. input.Text;
   taken = λ h got. outer h (k.taken (inner h) got);
   output = λ h got. k.output (k.taken (inner h) got).body;
-  posted = λ b. b;
+  posted = λ b changed. b;
   constant_kind = λ h. inp_constant_kind input.Text;
   loaded = λ h. outer h (constant_put (inner h) h.body.text.source.input.link);
 }

@@ -15,7 +15,7 @@ use Rattle.ioc_dbcommon.specs.declared.body.Got.{Got}
 use Rattle.ioc_dbcommon.specs.declared.body.Output.TheVariants.{WriteLink, WriteDevice}
 use Rattle.ioc_dbcommon.specs.Links.{no_link, use_of, named_by_field}
 use Rattle.ioc_record.specs.Values.{field_sort, sort_in}
-use Rattle.ioc_dbcommon.specs.Source.{new_source, source_link, source_set_here, source_set_there, source_set_others, source_set_twice, source_begin_leads}
+use Rattle.ioc_dbcommon.specs.Source.{new_source, source_link, source_set_here, source_set_there, source_set_others, source_set_twice, source_begin_leads, source_begins_alone}
 use Rattle.ioc_record.specs.BodyRules.{BodyState}
 use Rattle.ioc_record.specs.BodyLaws.{IsLawfulBody, IsNewBody}
 use Rattle.ioc_record.specs.ByRow.{can_put_by, default_by, is_link_by}
@@ -81,7 +81,7 @@ module _ {K : Type 0} (k : TextRules K) (lawful : IsLawfulText k) where
   text_body_lawful = record {
     missing_links = missing-links;
     link_there = link-there;
-    type_stays = record { taken = λ h got. refl; stored = λ h f v. refl; set = λ b f l. refl; loaded = λ h. refl; posted = λ b. refl };
+    type_stays = record { taken = λ h got. refl; stored = λ h f v. refl; set = λ b f l. refl; loaded = λ h. refl; posted = λ b changed. refl; calculated = λ b f c. refl };
     taken_links = λ h got. ap (λ (s : Source). source_link s.input) (lawful.taken_source (inner h) got);
     stored_links = λ h f v. ap (λ (s : Source). source_link s.input) (stored-source (inner h) f v);
     set_here = λ b f l is. source_set_here b.text.source f l is;
@@ -89,10 +89,12 @@ module _ {K : Type 0} (k : TextRules K) (lawful : IsLawfulText k) where
     set_others = λ b f g l apart. source_set_others b.text.source f g l apart;
     set_twice = λ b f l m. ap (λ s. record b { text = record b.text { source = s } }) (source_set_twice b.text.source f l m);
     set_values = λ b f l g. refl;
-    posted_links = λ b. refl;
+    posted_links = λ b changed. refl;
+    calculated_links = λ b f c. refl;
     loaded_links = λ h. ap (λ (s : Source). source_link s.input) (put-source (inner h) h.body.text.source.input.link);
     put_reads_back = reads_back;
     begin_named = λ b t is. record { field = Inp; link = b.text.source.input; is = refl; leads = source_begin_leads b.text.source.input t is };
+    choice_named = λ b t is. absurd (source_begins_alone b.text.source.input t is);
     output_named = λ h got t v is. absurd (lawful.writes_no_link _ _ _ is);
     readers_write_none = λ h got v reads. lawful.writes_no_device _ v;
   }

@@ -5,7 +5,7 @@ ghost use Rattle.rec_text.specs.Stringout.{stringout, new_stringout, worked};
 
 use crate::text_input::constant_text;
 use ioc_dbcommon::{
-    Condition, Drive, Fresh, Got, InputKind, LinkBox, LinkUse, Need, Output, text_in,
+    Calculation, Condition, Drive, Fresh, Got, InputKind, LinkBox, LinkUse, Need, Output, text_in,
 };
 use ioc_fields::{OwnField, RecordType};
 use ioc_record::RecordBody;
@@ -76,6 +76,12 @@ impl RecordBody for Stringout {
         self.drive.set_link(field, link);
     }
 
+    fn calculation(&self, _field: OwnField) -> Option<&Calculation> {
+        None
+    }
+
+    fn set_calculation(&mut self, _field: OwnField, _calculation: Calculation) {}
+
     fn states(&self) -> &[Text] {
         &[]
     }
@@ -109,6 +115,10 @@ impl RecordBody for Stringout {
         self.drive.wanted_link()
     }
 
+    fn inputs(&self, _got: &Got) -> u16 {
+        0
+    }
+
     fn input_kind(&self, _condition: &Condition) -> InputKind {
         InputKind::Text
     }
@@ -127,7 +137,7 @@ impl RecordBody for Stringout {
         }
     }
 
-    fn post(&mut self) {}
+    fn post(&mut self, _alarm_changed: bool) {}
 
     fn constant_kind(&self, _condition: &Condition, field: OwnField) -> Option<InputKind> {
         match field {

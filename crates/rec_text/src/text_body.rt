@@ -6,7 +6,7 @@ ghost use Rattle.rec_text.specs.TextBody.{TextRules, text_body, new_text_body};
 ghost use Rattle.rec_text.specs.TextBodyLaws.{IsLawfulText};
 
 use crate::text_input::TextInput;
-use ioc_dbcommon::{Condition, Fresh, Got, InputKind, LinkBox, LinkUse, Need, Output};
+use ioc_dbcommon::{Calculation, Condition, Fresh, Got, InputKind, LinkBox, LinkUse, Need, Output};
 use ioc_fields::{OwnField, RecordType};
 use ioc_record::RecordBody;
 use ioc_values::{Text, Value};
@@ -85,6 +85,12 @@ impl<K: TextKind> RecordBody for TextBody<K> {
         self.text.source.set_link(field, link);
     }
 
+    fn calculation(&self, _field: OwnField) -> Option<&Calculation> {
+        None
+    }
+
+    fn set_calculation(&mut self, _field: OwnField, _calculation: Calculation) {}
+
     fn states(&self) -> &[Text] {
         &[]
     }
@@ -105,6 +111,10 @@ impl<K: TextKind> RecordBody for TextBody<K> {
         self.text.source.wanted_link()
     }
 
+    fn inputs(&self, _got: &Got) -> u16 {
+        0
+    }
+
     fn input_kind(&self, _condition: &Condition) -> InputKind {
         InputKind::Text
     }
@@ -114,7 +124,7 @@ impl<K: TextKind> RecordBody for TextBody<K> {
         K::take(&mut self.text, condition, got, output)
     }
 
-    fn post(&mut self) {}
+    fn post(&mut self, _alarm_changed: bool) {}
 
     fn constant_kind(&self, _condition: &Condition, field: OwnField) -> Option<InputKind> {
         match field {

@@ -1,6 +1,6 @@
 -- Records of all types: each follows the rules of its type. Record Reference Manual, one chapter
 -- per type.
-use Rattle.std.specs.Prelude.{ℕ, ℤ, List, Option}
+use Rattle.std.specs.Prelude.{ℕ, ℤ, Bool, List, Option}
 use Rattle.ioc_values.specs.declared.value.Value.{Value}
 use Rattle.ioc_fields.specs.declared.field_no.OwnField.{OwnField}
 use Rattle.ioc_fields.specs.declared.record_type.RecordType.{RecordType}
@@ -40,8 +40,14 @@ use Rattle.rec_analog.specs.declared.input.Ai.{Ai as Ai-fields}
 use Rattle.rec_analog.specs.Input.{ai, new_ai}
 use Rattle.rec_analog.specs.declared.output.Ao.{Ao as Ao-fields}
 use Rattle.rec_analog.specs.Output.{ao, new_ao}
+use Rattle.rec_calc.specs.declared.calc.Calc.{Calc as Calc-fields}
+use Rattle.rec_calc.specs.Calc.{calc, new_calc}
+use Rattle.rec_calc.specs.declared.calcout.Calcout.{Calcout as Calcout-fields}
+use Rattle.rec_calc.specs.Calcout.{calcout, new_calcout}
+use Rattle.rec_sel.specs.declared.sel.Sel.{Sel as Sel-fields}
+use Rattle.rec_sel.specs.Sel.{sel, new_sel}
 use Rattle.rec_types.specs.declared.record.Body.{Body}
-use Rattle.rec_types.specs.declared.record.Body.TheVariants.{Longin, Longout, Int64in, Int64out, Bi, Bo, Mbbi, Mbbo, Stringin, Stringout, Fanout, Event, Ai, Ao}
+use Rattle.rec_types.specs.declared.record.Body.TheVariants.{Longin, Longout, Int64in, Int64out, Bi, Bo, Mbbi, Mbbo, Stringin, Stringout, Fanout, Event, Ai, Ao, Calc, Calcout, Sel}
 
 -- The type-specific fields of a new record of a type.
 abbrev pub new_body : RecordType → Body
@@ -59,6 +65,9 @@ new_body type.Fanout = Fanout new_fanout
 new_body type.Event = Event (new_text_body posted)
 new_body type.Ai = Ai new_ai
 new_body type.Ao = Ao new_ao
+new_body type.Calc = Calc new_calc
+new_body type.Calcout = Calcout new_calcout
+new_body type.Sel = Sel new_sel
 
 -- The type-specific fields of a record with the rules of their type, and how they become a body of
 -- any type.
@@ -84,6 +93,9 @@ typed (Fanout b) = record { Of = Fanout-fields; rules = fanout; it = b; back = F
 typed (Event b) = record { Of = TextBody Posted; rules = event; it = b; back = Event }
 typed (Ai b) = record { Of = Ai-fields; rules = ai; it = b; back = Ai }
 typed (Ao b) = record { Of = Ao-fields; rules = ao; it = b; back = Ao }
+typed (Calc b) = record { Of = Calc-fields; rules = calc; it = b; back = Calc }
+typed (Calcout b) = record { Of = Calcout-fields; rules = calcout; it = b; back = Calcout }
+typed (Sel b) = record { Of = Sel-fields; rules = sel; it = b; back = Sel }
 
 -- The fields with the condition of the record.
 abbrev pub held : (b : Body) → Condition → BodyState (typed b).Of
@@ -105,6 +117,14 @@ abbrev pub with_link : Body → OwnField → LinkField → Body
 with_link (Longin b) f l = Longin (longin.with_link b f l)
 with_link b f l = (typed b).back ((typed b).rules.with_link (typed b).it f l)
 
+abbrev pub calculation : Body → OwnField → Option (List ℕ)
+calculation (Longin b) f = longin.calculation b f
+calculation b f = (typed b).rules.calculation (typed b).it f
+
+abbrev pub with_calculation : Body → OwnField → List ℕ → Body
+with_calculation (Longin b) f c = Longin (longin.with_calculation b f c)
+with_calculation b f c = (typed b).back ((typed b).rules.with_calculation (typed b).it f c)
+
 abbrev pub states : Body → List (List ℕ)
 states (Longin b) = longin.states b
 states b = (typed b).rules.states (typed b).it
@@ -121,6 +141,10 @@ abbrev pub begin : Body → Want
 begin (Longin b) = longin.begin b
 begin b = (typed b).rules.begin (typed b).it
 
+abbrev pub inputs : Body → Got → ℕ
+inputs (Longin b) got = longin.inputs b got
+inputs b got = (typed b).rules.inputs (typed b).it got
+
 abbrev pub input_kind : Body → Condition → InputKind
 input_kind (Longin b) c = longin.input_kind (record { body = b; condition = c })
 input_kind b c = (typed b).rules.input_kind (held b c)
@@ -133,9 +157,9 @@ abbrev pub output : Body → Condition → Got → Output
 output (Longin b) c got = longin.output (record { body = b; condition = c }) got
 output b c got = (typed b).rules.output (held b c) got
 
-abbrev pub after_posts : Body → Body
-after_posts (Longin b) = Longin (longin.posted b)
-after_posts b = (typed b).back ((typed b).rules.posted (typed b).it)
+abbrev pub after_posts : Body → Bool → Body
+after_posts (Longin b) changed = Longin (longin.posted b changed)
+after_posts b changed = (typed b).back ((typed b).rules.posted (typed b).it changed)
 
 abbrev pub constant_kind : Body → Condition → OwnField → Option InputKind
 constant_kind (Longin b) c f = longin.constant_kind (record { body = b; condition = c }) f
@@ -151,10 +175,13 @@ body_rules = record {
   record_type = record_type;
   link = link;
   with_link = with_link;
+  calculation = calculation;
+  with_calculation = with_calculation;
   states = states;
   get = get;
   stored = λ h. stored h.body h.condition;
   begin = begin;
+  inputs = inputs;
   input_kind = λ h. input_kind h.body h.condition;
   taken = λ h. taken h.body h.condition;
   output = λ h. output h.body h.condition;

@@ -1,7 +1,7 @@
 -- The bodies of all types keep the laws, since those of each type do. The last line covers every
 -- type except the first.
 use Rattle.std.proofs.Common.{ap}
-use Rattle.std.specs.Prelude.{◌≡◌, ◌≢◌, ◌⊎◌, true, Some, is_some, refl}
+use Rattle.std.specs.Prelude.{◌≡◌, ◌≢◌, ◌⊎◌, ℕ, Bool, List, true, Some, is_some, refl}
 use Rattle.ioc_values.specs.declared.value.Value.{Value}
 use Rattle.ioc_values.specs.Shapes.{IsValueOf}
 use Rattle.ioc_fields.specs.declared.field_no.FieldNo.TheVariants.{Own}
@@ -12,7 +12,7 @@ use Rattle.ioc_dbcommon.specs.declared.condition.Condition.{Condition}
 use Rattle.ioc_dbcommon.specs.declared.link_field.LinkField.{LinkField}
 use Rattle.ioc_dbcommon.specs.declared.link_field.LinkUse.TheVariants.{Standing}
 use Rattle.ioc_dbcommon.specs.declared.link_field.StandingLink.{StandingLink}
-use Rattle.ioc_dbcommon.specs.declared.body.Want.TheVariants.{ReadLink}
+use Rattle.ioc_dbcommon.specs.declared.body.Want.TheVariants.{ReadLink, ReadInputs}
 use Rattle.ioc_dbcommon.specs.declared.body.Got.{Got}
 use Rattle.ioc_dbcommon.specs.declared.body.Output.TheVariants.{WriteLink, WriteDevice}
 use Rattle.ioc_record.specs.Values.{sort_in}
@@ -28,9 +28,12 @@ use Rattle.rec_flow.specs.FanoutLaws.{fanout_lawful}
 use Rattle.rec_flow.specs.EventLaws.{event_lawful}
 use Rattle.rec_analog.specs.InputLaws.{ai_lawful}
 use Rattle.rec_analog.specs.OutputLaws.{ao_lawful}
+use Rattle.rec_calc.specs.CalcLaws.{calc_lawful}
+use Rattle.rec_calc.specs.CalcoutLaws.{calcout_lawful}
+use Rattle.rec_sel.specs.SelLaws.{sel_lawful}
 use Rattle.rec_types.specs.declared.record.Body.{Body}
-use Rattle.rec_types.specs.declared.record.Body.TheVariants.{Longin, Longout, Int64in, Int64out, Bi, Bo, Mbbi, Mbbo, Stringin, Stringout, Fanout, Event, Ai, Ao}
-use Rattle.rec_types.specs.Record.{typed, held, record_type, link, with_link, states, get, stored, begin, taken, output, after_posts, loaded, body_rules, record_rules}
+use Rattle.rec_types.specs.declared.record.Body.TheVariants.{Longin, Longout, Int64in, Int64out, Bi, Bo, Mbbi, Mbbo, Stringin, Stringout, Fanout, Event, Ai, Ao, Calc, Calcout, Sel}
+use Rattle.rec_types.specs.Record.{typed, held, record_type, link, with_link, with_calculation, states, get, stored, begin, taken, output, after_posts, loaded, body_rules, record_rules}
 
 -- The bodies of each type keep the laws.
 lawful : (b : Body) → IsLawfulBody (typed b).rules
@@ -48,6 +51,9 @@ lawful (Fanout b) = fanout_lawful
 lawful (Event b) = event_lawful
 lawful (Ai b) = ai_lawful
 lawful (Ao b) = ao_lawful
+lawful (Calc b) = calc_lawful
+lawful (Calcout b) = calcout_lawful
+lawful (Sel b) = sel_lawful
 
 link_there-law : (b : Body) (f : OwnField) → is_some (link b f) ≡ is_link (record_type b) (Own f)
 link_there-law (Longin b) f = longin_lawful.link_there b f
@@ -101,13 +107,21 @@ loaded_links-law : (b : Body) (c : Condition) → link (loaded b c).body ≡ lin
 loaded_links-law (Longin b) c = longin_lawful.loaded_links (held (Longin b) c)
 loaded_links-law b c = (lawful b).loaded_links (held b c)
 
-posted_type-law : (b : Body) → record_type (after_posts b) ≡ record_type b
-posted_type-law (Longin b) = longin_lawful.type_stays.posted b
-posted_type-law b = (lawful b).type_stays.posted (typed b).it
+posted_type-law : (b : Body) (changed : Bool) → record_type (after_posts b changed) ≡ record_type b
+posted_type-law (Longin b) changed = longin_lawful.type_stays.posted b changed
+posted_type-law b changed = (lawful b).type_stays.posted (typed b).it changed
 
-posted_links-law : (b : Body) → link (after_posts b) ≡ link b
-posted_links-law (Longin b) = longin_lawful.posted_links b
-posted_links-law b = (lawful b).posted_links (typed b).it
+posted_links-law : (b : Body) (changed : Bool) → link (after_posts b changed) ≡ link b
+posted_links-law (Longin b) changed = longin_lawful.posted_links b changed
+posted_links-law b changed = (lawful b).posted_links (typed b).it changed
+
+calculated_type-law : (b : Body) (f : OwnField) (c : List ℕ) → record_type (with_calculation b f c) ≡ record_type b
+calculated_type-law (Longin b) f c = longin_lawful.type_stays.calculated b f c
+calculated_type-law b f c = (lawful b).type_stays.calculated (typed b).it f c
+
+calculated_links-law : (b : Body) (f : OwnField) (c : List ℕ) → link (with_calculation b f c) ≡ link b
+calculated_links-law (Longin b) f c = longin_lawful.calculated_links b f c
+calculated_links-law b f c = (lawful b).calculated_links (typed b).it f c
 
 put_reads_back-law : (b : Body) (c : Condition) (f : OwnField) (v : Value) → can_put (record_type b) (Own f) ≡ true
     → IsValueOf (sort_in (states b) (kind_of (record_type b) (Own f))) v → get (stored b c f v).body f ≡ Some v
@@ -121,6 +135,10 @@ leads k it b t same to = record { field = to.field; link = to.link; is = rw same
 begin_named-law : (b : Body) (t : StandingLink) → begin b ≡ ReadLink (Standing t) → LeadsTo body_rules b t
 begin_named-law (Longin b) t is = leads longin b (Longin b) t refl (longin_lawful.begin_named b t is)
 begin_named-law b t is = leads (typed b).rules (typed b).it b t refl ((lawful b).begin_named (typed b).it t is)
+
+choice_named-law : (b : Body) (t : StandingLink) → begin b ≡ ReadInputs (Standing t) → LeadsTo body_rules b t
+choice_named-law (Longin b) t is = leads longin b (Longin b) t refl (longin_lawful.choice_named b t is)
+choice_named-law b t is = leads (typed b).rules (typed b).it b t refl ((lawful b).choice_named (typed b).it t is)
 
 output_named-law : (b : Body) (c : Condition) (got : Got) (t : StandingLink) (v : Value) → output b c got ≡ WriteLink (Standing t) v → LeadsTo body_rules b t
 output_named-law (Longin b) c got t v is = leads longin b (Longin b) t refl (longin_lawful.output_named (held (Longin b) c) got t v is)
@@ -137,6 +155,7 @@ type_stays-law = record {
   set = set_type-law;
   loaded = λ h. loaded_type-law h.body h.condition;
   posted = posted_type-law;
+  calculated = calculated_type-law;
 }
 
 pub body_lawful : IsLawfulBody body_rules
@@ -152,9 +171,11 @@ body_lawful = record {
   set_twice = set_twice-law;
   set_values = set_values-law;
   posted_links = posted_links-law;
+  calculated_links = calculated_links-law;
   loaded_links = λ h. loaded_links-law h.body h.condition;
   put_reads_back = λ h. put_reads_back-law h.body h.condition;
   begin_named = begin_named-law;
+  choice_named = choice_named-law;
   output_named = λ h. output_named-law h.body h.condition;
   readers_write_none = λ h. readers_write_none-law h.body h.condition;
 }

@@ -4,7 +4,7 @@ ghost use Rattle.ioc_dbcommon.specs.Wants.{puts_out};
 ghost use Rattle.ioc_values.specs.Conversion.{value_in};
 ghost use Rattle.ioc_record.specs.BodyRules.{number_stored};
 
-use ioc_dbcommon::{BodyBox, Condition, Got, LinkBox, Output};
+use ioc_dbcommon::{BodyBox, Calculation, Condition, Got, LinkBox, Output};
 use ioc_fields::OwnField;
 use ioc_record::RecordBody;
 use ioc_values::{Range, Value};
@@ -13,6 +13,16 @@ pub fn set_link<B: RecordBody>(kept: &mut BodyBox<B>, field: OwnField, link: Lin
     ensures { kept.new ≡ B.rules.with_link kept.old field link }
 {
     kept.get_mut().set_link(field, link);
+}
+
+pub fn set_calculation<B: RecordBody>(
+    kept: &mut BodyBox<B>,
+    field: OwnField,
+    calculation: Calculation,
+)
+    ensures { kept.new ≡ B.rules.with_calculation kept.old field calculation }
+{
+    kept.get_mut().set_calculation(field, calculation);
 }
 
 pub fn store<B: RecordBody>(
@@ -55,10 +65,10 @@ pub fn take<B: RecordBody>(
     kept.get_mut().take(condition, got, output)
 }
 
-pub fn post<B: RecordBody>(kept: &mut BodyBox<B>)
-    ensures { kept.new ≡ B.rules.posted kept.old }
+pub fn post<B: RecordBody>(kept: &mut BodyBox<B>, alarm_changed: bool)
+    ensures { kept.new ≡ B.rules.posted kept.old alarm_changed }
 {
-    kept.get_mut().post();
+    kept.get_mut().post(alarm_changed);
 }
 
 pub fn load<B: RecordBody>(kept: &mut BodyBox<B>, condition: &mut Condition)

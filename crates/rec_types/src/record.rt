@@ -2,13 +2,17 @@
 ghost use Rattle.std.specs.Prelude.{◌≡◌, IfOk};
 
 use crate::on_heap;
-use ioc_dbcommon::{BodyBox, Condition, Fresh, Got, InputKind, LinkBox, LinkUse, Need, Output};
+use ioc_dbcommon::{
+    BodyBox, Calculation, Condition, Fresh, Got, InputKind, LinkBox, LinkUse, Need, Output,
+};
 use ioc_fields::{OwnField, RecordType};
 use ioc_record::RecordBody;
 use ioc_values::{Range, Text, Value};
 use rec_analog::{Ai, Ao};
+use rec_calc::{Calc, Calcout};
 use rec_flow::{EventBody, Fanout};
 use rec_numeric::{Int64in, Int64out, Longin, Longout};
+use rec_sel::Sel;
 use rec_state::{Bi, Bo, Mbbi, Mbbo};
 use rec_text::{Stringin, Stringout};
 use std::alloc::{AllocError, Global};
@@ -31,6 +35,9 @@ pub enum Body {
     Event(EventBody),
     Ai(BodyBox<Ai>),
     Ao(BodyBox<Ao>),
+    Calc(BodyBox<Calc>),
+    Calcout(BodyBox<Calcout>),
+    Sel(BodyBox<Sel>),
 }
 
 /// A record of any type.
@@ -62,6 +69,9 @@ macro_rules! ask {
             Body::Event($body) => $call,
             Body::Ai(kept) => in_box!(kept, $body => $call),
             Body::Ao(kept) => in_box!(kept, $body => $call),
+            Body::Calc(kept) => in_box!(kept, $body => $call),
+            Body::Calcout(kept) => in_box!(kept, $body => $call),
+            Body::Sel(kept) => in_box!(kept, $body => $call),
         }
     };
 }
@@ -85,6 +95,9 @@ macro_rules! work {
             Body::Event($body) => $here,
             Body::Ai($body) => $on_heap,
             Body::Ao($body) => $on_heap,
+            Body::Calc($body) => $on_heap,
+            Body::Calcout($body) => $on_heap,
+            Body::Sel($body) => $on_heap,
         }
     };
 }
@@ -131,6 +144,9 @@ impl Body {
             RecordType::Event => Body::Event(EventBody::fresh()),
             RecordType::Ai => Body::Ai(BodyBox::<Ai>::fresh(alloc)?),
             RecordType::Ao => Body::Ao(BodyBox::<Ao>::fresh(alloc)?),
+            RecordType::Calc => Body::Calc(BodyBox::<Calc>::fresh(alloc)?),
+            RecordType::Calcout => Body::Calcout(BodyBox::<Calcout>::fresh(alloc)?),
+            RecordType::Sel => Body::Sel(BodyBox::<Sel>::fresh(alloc)?),
         })
     }
 }
@@ -153,6 +169,18 @@ impl RecordBody for Body {
 
     fn set_link(&mut self, field: OwnField, link: LinkBox) {
         work!(self, body => body.set_link(field, link), on_heap::set_link(body, field, link))
+    }
+
+    fn calculation(&self, field: OwnField) -> Option<&Calculation> {
+        ask!(self, body => body.calculation(field))
+    }
+
+    fn set_calculation(&mut self, field: OwnField, calculation: Calculation) {
+        work!(
+            self,
+            body => body.set_calculation(field, calculation),
+            on_heap::set_calculation(body, field, calculation)
+        )
     }
 
     fn states(&self) -> &[Text] {
@@ -193,6 +221,10 @@ impl RecordBody for Body {
         ask!(self, body => body.wanted_link())
     }
 
+    fn inputs(&self, got: &Got) -> u16 {
+        ask!(self, body => body.inputs(got))
+    }
+
     fn input_kind(&self, condition: &Condition) -> InputKind {
         ask!(self, body => body.input_kind(condition))
     }
@@ -201,8 +233,8 @@ impl RecordBody for Body {
         work!(self, body => body.take(condition, got, output), on_heap::take(body, condition, got, output))
     }
 
-    fn post(&mut self) {
-        work!(self, body => body.post(), on_heap::post(body))
+    fn post(&mut self, alarm_changed: bool) {
+        work!(self, body => body.post(alarm_changed), on_heap::post(body, alarm_changed))
     }
 
     fn constant_kind(&self, condition: &Condition, field: OwnField) -> Option<InputKind> {
@@ -229,6 +261,9 @@ impl RecordBody for Body {
             Body::Event(body) => Body::Event(body.copy(alloc)?),
             Body::Ai(kept) => Body::Ai(copy_kept(alloc, kept)?),
             Body::Ao(kept) => Body::Ao(copy_kept(alloc, kept)?),
+            Body::Calc(kept) => Body::Calc(copy_kept(alloc, kept)?),
+            Body::Calcout(kept) => Body::Calcout(copy_kept(alloc, kept)?),
+            Body::Sel(kept) => Body::Sel(copy_kept(alloc, kept)?),
         })
     }
 
@@ -249,6 +284,9 @@ impl RecordBody for Body {
             Body::Event(body) => where_same!(other, Event => body.copy_from(other)),
             Body::Ai(kept) => where_same!(other, Ai => on_heap::copy_from(kept, other)),
             Body::Ao(kept) => where_same!(other, Ao => on_heap::copy_from(kept, other)),
+            Body::Calc(kept) => where_same!(other, Calc => on_heap::copy_from(kept, other)),
+            Body::Calcout(kept) => where_same!(other, Calcout => on_heap::copy_from(kept, other)),
+            Body::Sel(kept) => where_same!(other, Sel => on_heap::copy_from(kept, other)),
         }
     }
 }

@@ -3,6 +3,7 @@ use crate::tests::facts::Fact::{
     self, Counts, Leads, LeadsHome, LeadsNowhere, Named, Shows, Unnamed,
 };
 use crate::tests::facts::{Made, Refused, first_unrefused, makes};
+use ioc_calc::LeftOut;
 use ioc_dbfile::Macros;
 use ioc_fields::{CommonField, FieldNo, FieldSlot, OwnField};
 use ioc_main::{RunFault, run};
@@ -149,7 +150,7 @@ fn loaded_texts(rt: HostRuntime) {
 }
 
 // Texts that are refused, by the kind of the first fault.
-static REFUSED: [Refused; 13] = [
+static REFUSED: [Refused; 16] = [
     (
         BadDbKind::BadType,
         &[(1, b"record(waveform,a){}"), (1, b"record(waveform,\na){}")],
@@ -180,7 +181,10 @@ static REFUSED: [Refused; 13] = [
     ),
     (
         BadDbKind::BadField,
-        &[(1, b"record(longin,a){field(ZNAM,1)}")],
+        &[
+            (1, b"record(longin,a){field(ZNAM,1)}"),
+            (1, b"record(calcout,\"c\"){field(ODLY,1)}"),
+        ],
     ),
     (
         BadDbKind::NoMod,
@@ -191,6 +195,7 @@ static REFUSED: [Refused; 13] = [
             (1, b"record(bo,a){field(LALM,1)}"),
             (1, b"record(ai,a){field(INIT,0)}"),
             (1, b"record(ao,a){field(OVAL,1)}"),
+            (1, b"record(sel,\"s\"){field(VAL,1)}"),
         ],
     ),
     (
@@ -263,6 +268,21 @@ static REFUSED: [Refused; 13] = [
         ],
     ),
     (BadDbKind::LeftOut, &[(1, b"menu(x) {}"), (2, b"\nlink(x)")]),
+    (
+        BadDbKind::BadCalc,
+        &[(1, b"record(calc,\"c\"){field(CALC,\"A+\")}")],
+    ),
+    (
+        BadDbKind::CalcLeftOut(LeftOut::Exp),
+        &[(
+            1,
+            b"record(calc,\"c\"){field(CALC,\"A>5 ? exp(A) : A^2.5\")}",
+        )],
+    ),
+    (
+        BadDbKind::CalcLeftOut(LeftOut::Caret),
+        &[(1, b"record(calc,\"c\"){field(CALC,\"10^(A-1)\")}")],
+    ),
     (
         BadDbKind::NoRecord,
         &[

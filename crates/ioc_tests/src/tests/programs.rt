@@ -1,7 +1,7 @@
 //! Databases with a script and the expected output: the tables of the other files, which share one
 //! function.
 use crate::tests::{
-    analog, devices, doubles, lock_sets, notifications, relinks, rows, scans, types,
+    analog, calc, devices, doubles, lock_sets, notifications, relinks, rows, scans, types,
 };
 use ioc_dbfile::Macros;
 use ioc_main::run;
@@ -51,4 +51,9 @@ fn analog_programs(rt: HostRuntime) {
 #[test]
 fn programs_of_special_doubles(rt: HostRuntime) {
     assert_eq!(rt; first_wrong(rt.alloc(), &doubles::PROGRAMS), None);
+}
+
+#[test]
+fn calculations(rt: HostRuntime) {
+    assert_eq!(rt; first_wrong(rt.alloc(), &calc::PROGRAMS), None);
 }

@@ -125,7 +125,7 @@ static OUTPUTS: [Fact; 5] = [
 ];
 
 // The facts that don't depend on the type, and then those of each type.
-static TYPES: [Fact; 156] = [
+static TYPES: [Fact; 184] = [
     Role(LinkRole::Input, LinkKind::WithDevice),
     Role(LinkRole::Output, LinkKind::WithDevice),
     Role(LinkRole::InputWithoutDevice, LinkKind::NoDevice),
@@ -291,6 +291,34 @@ static TYPES: [Fact; 156] = [
     NoField("INIT"),
     NoField("OMOD"),
     NoField("INP"),
+    Type(RecordType::Calc, "calc", false, 14),
+    Row("VAL", DOUBLE, Mark::Plain),
+    Rows(&["A", "B", "L"], DOUBLE, Mark::P),
+    Rows(&["LA", "LB", "LL", "LALM", "MLST", "ALST"], DOUBLE, Mark::N),
+    Rows(&["INPA", "INPB", "INPL"], PLAIN_INPUT, Mark::Set),
+    Row("CALC", FieldKind::Expression, Mark::Set),
+    NoField("M"),
+    NoField("LM"),
+    NoField("INPM"),
+    NoField("INP"),
+    NoField("OCAL"),
+    Type(RecordType::Calcout, "calcout", false, 15),
+    Row("VAL", DOUBLE, Mark::Plain),
+    Rows(&["OVAL", "PVAL"], DOUBLE, Mark::N),
+    Row("OOPT", FieldKind::Menu(Menu::Oopt), Mark::Plain),
+    Row("DOPT", FieldKind::Menu(Menu::Dopt), Mark::Plain),
+    Rows(&["CALC", "OCAL"], FieldKind::Expression, Mark::Set),
+    Row("IVOV", DOUBLE, Mark::P),
+    Row("OUT", OUTPUT, Mark::Set),
+    NoField("ODLY"),
+    NoField("DOL"),
+    Type(RecordType::Sel, "sel", false, 15),
+    Row("VAL", DOUBLE, Mark::N),
+    Row("SELM", FieldKind::Menu(Menu::Selmode), Mark::Plain),
+    Row("SELN", USHORT, Mark::Plain),
+    Row("NVL", PLAIN_INPUT, Mark::Set),
+    NoField("CALC"),
+    NoField("NLST"),
 ];
 
 // Returns the row of a field in the tables of fields.

@@ -73,6 +73,12 @@ begin_asking-requires g c =
     let ready = found-ready _ g.met.S.Record.RecordKind.lawful _ _ c.requires.there c.requires.closed c.requires.is_idle is.0 in
     record { ready = is_ready _ ready c.requires.room; wants = rw is.0 is.1.needs }
 
+pub begin_inputs-requires : goal.begin_inputs-requires
+begin_inputs-requires g c =
+    let is = rw c.in-ReadsInputs.is at c.begin_fast.ensures.opened in
+    let ready = found-ready _ g.met.S.Record.RecordKind.lawful _ _ c.requires.there c.requires.closed c.requires.is_idle is.0 in
+    record { ready = is_ready _ ready c.requires.room; wants = rw is.0 is.1.needs }
+
 pub finish-requires : goal.finish-requires
 finish-requires g c =
     let ready = took-ready _ g.met.S.Record.RecordKind.lawful _ _ c.requires.there c.requires.closed c.requires.is_idle (rw c.in-Took.is at c.begin_fast.ensures.opened).0 in
@@ -102,6 +108,13 @@ returns-in-ReadsDevice g c =
     let is = rw c.in-ReadsDevice.is at c.begin_fast.ensures.opened in
     let turns = turns_ready _ (found-ready _ lawful _ _ c.requires.there c.requires.closed c.requires.is_idle is.0) (omega arith) c.begin_asking.ensures.takes.turns in
     record { turn = λ answers begins. begun-body _ lawful _ _ answers is.1 ∙ rw is.0 at (c.begin_asking.ensures.turn answers begins); given = rw c.begin_fast.ensures.given at c.begin_asking.ensures.given; takes = record { turns = turns; opens = c.begin_asking.ensures.takes.opens; room = c.begin_asking.ensures.takes.room } }
+
+pub returns-in-ReadsInputs : goal.returns-in-ReadsInputs
+returns-in-ReadsInputs g c =
+    let lawful = g.met.S.Record.RecordKind.lawful in
+    let is = rw c.in-ReadsInputs.is at c.begin_fast.ensures.opened in
+    let turns = turns_ready _ (found-ready _ lawful _ _ c.requires.there c.requires.closed c.requires.is_idle is.0) (omega arith) c.begin_inputs.ensures.takes.turns in
+    record { turn = λ answers begins. begun-body _ lawful _ _ answers is.1 ∙ rw is.0 at (c.begin_inputs.ensures.turn answers begins); given = rw c.begin_fast.ensures.given at c.begin_inputs.ensures.given; takes = record { turns = turns; opens = c.begin_inputs.ensures.takes.opens; room = c.begin_inputs.ensures.takes.room } }
 
 pub returns-in-ReadsDisable : goal.returns-in-ReadsDisable
 returns-in-ReadsDisable g c =

@@ -1,6 +1,7 @@
-use Rattle.std.proofs.Common.{take, arith, ◌∙◌, ap}
+use Rattle.std.proofs.Common.{take, arith, ◌∙◌, ap, sym}
 use Rattle.ioc_calc.specs.Machine.{ran}
 use Rattle.ioc_calc.specs.Program.{machine_of}
+use Rattle.ioc_calc.proofs.Programs.{run_means}
 use Rattle.ioc_calc.proofs.Runs.{machine}
 use Rattle.ioc_calc.proofs.Turns.{turn_fits, turn_same, ended}
 use Rattle.ioc_calc.proofs.program.Program.run.Goals as goal
@@ -30,3 +31,8 @@ returns-clause-arguments c = λ s p.
     (c.loop-i.invariant.same
     ∙ ap (λ stack. ran c.args.value (take c.args.self.now.length c.args.self.now.steps)
     (machine c.args.arguments.now c.args.self.now.numbers stack)) c.new.ensures)).1
+
+pub returns-clause-of_text : goal.returns-clause-of_text
+returns-clause-of_text c = λ text compiles.
+    let meaning = run_means text compiles.statements compiles.expression c.args.value c.args.arguments.now in
+    (returns-clause-value c compiles.statements compiles.program ∙ sym meaning.0, returns-clause-arguments c compiles.statements compiles.program ∙ sym meaning.1)

@@ -48,3 +48,12 @@ copy_from-requires-in-Ai-other-clause-same_links c = same_links c.in-Ai.is c.in-
 
 pub copy_from-requires-in-Ao-other-clause-same_links : goal.copy_from-requires-in-Ao-other-clause-same_links
 copy_from-requires-in-Ao-other-clause-same_links c = same_links c.in-Ao.is c.in-Ao-other.is c.requires.same_links
+
+pub copy_from-requires-in-Calc-other-clause-same_links : goal.copy_from-requires-in-Calc-other-clause-same_links
+copy_from-requires-in-Calc-other-clause-same_links c = same_links c.in-Calc.is c.in-Calc-other.is c.requires.same_links
+
+pub copy_from-requires-in-Calcout-other-clause-same_links : goal.copy_from-requires-in-Calcout-other-clause-same_links
+copy_from-requires-in-Calcout-other-clause-same_links c = same_links c.in-Calcout.is c.in-Calcout-other.is c.requires.same_links
+
+pub copy_from-requires-in-Sel-other-clause-same_links : goal.copy_from-requires-in-Sel-other-clause-same_links
+copy_from-requires-in-Sel-other-clause-same_links c = same_links c.in-Sel.is c.in-Sel-other.is c.requires.same_links

@@ -1,0 +1,264 @@
+//! Devices outside the program, and what they are asked.
+ghost use Rattle.ioc_devices.specs.Devices.{outside_gives};
+
+use crate::device::own_devices;
+use crossbeam_queue::ArrayQueue;
+use ioc_commands::add_escaped_text;
+use ioc_dbfile::{Database, DeviceName};
+use ioc_device::{Answer, Ask, Device};
+use ioc_names::RecordNo;
+use ioc_record::RecordKind;
+use ioc_values::{Name, Value, exact_double_text};
+use itoa::Buffer;
+use std::alloc::{AllocError, Global};
+use std::sync::Wait;
+use std::sync::atomic::{AtomicBool, Ordering};
+use std::thread::Parker;
+
+// How many asks of a device can wait to be told, and of all devices at least.
+const ASKS_OF_A_DEVICE: usize = 2;
+
+const LEAST_ASKS: usize = 4_096;
+
+// A record whose device is outside.
+#[derive(Clone, Copy)]
+struct OutsideRecord {
+    number: RecordNo,
+    name: Name,
+    // What follows the `@` of its link.
+    text: DeviceName,
+}
+
+/// What a device outside is asked, with the number of the wait that its answer ends.
+#[derive(Clone, Copy)]
+pub struct Asked {
+    device: usize,
+    wait: u64,
+    ask: Ask,
+}
+
+/// What devices outside are asked and nobody has told them yet.
+///
+/// ```rust
+/// let asks = Asks::new(alloc, &database)?;
+/// let devices = asks.devices(rt, alloc)?;
+/// ```
+#[derive(Drop)]
+pub struct Asks {
+    records: Vec<OutsideRecord>,
+    queue: ArrayQueue<Asked>,
+    // Ends the sleep of the thread that tells of the asks.
+    alarm: Parker,
+    // Whether that thread is to end.
+    is_over: AtomicBool,
+}
+
+/// A device outside the program: it answers later, and what it is asked is put on a queue. If the
+/// queue is full, it answers a fault.
+#[derive(Drop)]
+pub struct OutsideDevice<'a, R: Wait> {
+    rt: &'a R,
+    asks: &'a Asks,
+    number: usize,
+    // The number of its last wait.
+    wait: u64,
+}
+
+impl<R: Wait> OutsideDevice<'_, R> {
+    // Puts what the device is asked on the queue.
+    fn put_down(&mut self, ask: Ask) -> Answer
+        ensures { outside_gives self.old.wait result self.new.wait }
+    {
+        let wait = self.wait.saturating_add(1);
+        let asked = Asked {
+            device: self.number,
+            wait,
+            ask,
+        };
+        if self.asks.queue.push(self.rt, asked).is_err() {
+            return Answer::Fault;
+        }
+        self.wait = wait;
+        self.asks.alarm.unpark();
+        Answer::Later
+    }
+}
+
+impl<R: Wait> Device for OutsideDevice<'_, R> {
+    ghost gives = { λ old _ _ answer new. outside_gives old.wait answer new.wait };
+
+    fn read(&mut self, _moment: u64) -> Answer {
+        self.put_down(Ask::Read)
+    }
+
+    fn write(&mut self, value: Value, _moment: u64) -> Answer {
+        self.put_down(Ask::Write(value))
+    }
+}
+
+/// Appends a value as programs read it: the number of a state or a choice, a double with all its
+/// digits, or a text with escapes.
+///
+/// # Errors
+///
+/// [`AllocError`] if allocation fails; a part may have been appended then.
+pub fn add_value(out: &mut Vec<u8>, value: Value) -> Result<(), AllocError> {
+    match &value {
+        Value::Text(text) => add_escaped_text(out, text.as_slice()),
+        Value::Double(number) => out.extend_from_slice(exact_double_text(*number).as_slice()),
+        _ => {
+            let number = value.number().unwrap_or(0);
+            out.extend_from_slice(Buffer::new().format(number).as_bytes())
+        }
+    }
+}
+
+impl Asks {
+    /// Creates the list of the devices of a database that are outside: one for each text behind the `@`
+    /// of a device link. It belongs to the first record with such a link.
+    ///
+    /// # Errors
+    ///
+    /// [`AllocError`] if allocation fails.
+    pub fn new(alloc: Global, database: &Database) -> Result<Self, AllocError> {
+        let mut records = Vec::new(alloc);
+        for (index, item) in database.records.iter().enumerate() {
+            for text in own_devices(alloc, item)? {
+                records.push(OutsideRecord {
+                    number: RecordNo::new(index),
+                    name: item.common().name,
+                    text,
+                })?;
+            }
+        }
+        Asks::of(alloc, records)
+    }
+
+    /// Creates the list of a database without devices outside.
+    ///
+    /// # Errors
+    ///
+    /// [`AllocError`] if allocation fails.
+    pub fn none(alloc: Global) -> Result<Self, AllocError> {
+        Asks::of(alloc, Vec::new(alloc))
+    }
+
+    // Creates the list of these records.
+    fn of(alloc: Global, records: Vec<OutsideRecord>) -> Result<Self, AllocError> {
+        let most = records
+            .len()
+            .saturating_mul(ASKS_OF_A_DEVICE)
+            .max(LEAST_ASKS);
+        Ok(Asks {
+            records,
+            queue: ArrayQueue::new(alloc, most)?,
+            alarm: Parker::new(),
+            is_over: AtomicBool::new(false),
+        })
+    }
+
+    /// Returns the devices, each with the name by which records have it.
+    ///
+    /// # Errors
+    ///
+    /// [`AllocError`] if allocation fails.
+    pub fn devices<'a, R: Wait>(
+        &'a self,
+        rt: &'a R,
+        alloc: Global,
+    ) -> Result<Vec<(DeviceName, OutsideDevice<'a, R>)>, AllocError> {
+        let mut devices = Vec::with_capacity(alloc, self.records.len())?;
+        for number in 0..self.records.len() {
+            let device = self.device(rt, number);
+            if devices.push((self.records[number].text, device)).is_err() {
+                return Err(AllocError);
+            }
+        }
+        Ok(devices)
+    }
+
+    // Returns the device with this number.
+    fn device<'a, R: Wait>(&'a self, rt: &'a R, number: usize) -> OutsideDevice<'a, R> {
+        OutsideDevice {
+            rt,
+            asks: self,
+            number,
+            wait: 0,
+        }
+    }
+
+    /// Takes what devices were asked and nobody has told them, in order.
+    ///
+    /// # Errors
+    ///
+    /// [`AllocError`] if allocation fails. What was taken before is lost then.
+    pub fn take<R: Wait>(&self, rt: &R, alloc: Global) -> Result<Vec<Asked>, AllocError> {
+        let mut taken = Vec::new(alloc);
+        for _ in 0..self.queue.capacity() {
+            let Some(asked) = self.queue.pop(rt) else {
+                break;
+            };
+            taken.push(asked)?;
+        }
+        Ok(taken)
+    }
+
+    /// Returns the record whose device was asked.
+    pub fn record(&self, asked: &Asked) -> Option<RecordNo> {
+        match self.records.get(asked.device) {
+            Some(outside) => Some(outside.number),
+            None => None,
+        }
+    }
+
+    /// Appends the line that tells a device what it is asked: `? REC N read TEXT`, or
+    /// `? REC N write TEXT` and the value behind a tab.
+    ///
+    /// # Errors
+    ///
+    /// [`AllocError`] if allocation fails; a part may have been appended then.
+    pub fn add_line(
+        &self,
+        alloc: Global,
+        out: &mut Vec<u8>,
+        asked: &Asked,
+    ) -> Result<(), AllocError> {
+        let Some(outside) = self.records.get(asked.device) else {
+            return Ok(());
+        };
+        out.extend_from_slice(b"? ")?;
+        out.extend_from_slice(outside.name.as_slice())?;
+        let wait = format!(in alloc; " {} ", asked.wait)?;
+        out.extend_from_slice(wait.as_bytes())?;
+        match asked.ask {
+            Ask::Read => {
+                out.extend_from_slice(b"read ")?;
+                add_escaped_text(out, outside.text.as_slice())?;
+            }
+            Ask::Write(value) => {
+                out.extend_from_slice(b"write ")?;
+                add_escaped_text(out, outside.text.as_slice())?;
+                out.push(b'\t')?;
+                add_value(out, value)?;
+            }
+        }
+        out.push(b'\n')?;
+        Ok(())
+    }
+
+    /// Returns what a thread sleeps on that tells of the asks. Each new ask wakes it.
+    pub fn alarm(&self) -> &Parker {
+        &self.alarm
+    }
+
+    /// Returns whether that thread is to end.
+    pub fn is_over(&self) -> bool {
+        self.is_over.load(Ordering::SeqCst)
+    }
+
+    /// Has that thread end.
+    pub fn end(&self) {
+        self.is_over.store(true, Ordering::SeqCst);
+        self.alarm.unpark();
+    }
+}

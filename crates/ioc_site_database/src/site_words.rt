@@ -1,0 +1,352 @@
+//! The words of a command line that name a site's files.
+ghost use Rattle.std.specs.Prelude.{◌≡◌, false, map, None, Ok};
+ghost use Rattle.std.specs.String.{string_bytes};
+ghost use Rattle.ioc_site_database.specs.SiteWords.{is_option, is_site_word, names_site};
+
+use ioc_command_line::{Stop, UsageFault};
+use ioc_site_reader::{Definition, parse_definitions};
+use std::alloc::{AllocError, Global};
+use std::mem;
+
+/// What the help of a program says of these words.
+pub const HELP: &str = "\
+A site's files, in place of DB:
+  -d FILE            reads FILE, a database or a substitution file, with what it includes; several
+                     files are one database
+  -m NAME=VALUE,..   before -d FILE: these macros hold in the files behind it
+  -I DIR             looks for included files and templates in DIR too
+  --adapt            drops or replaces what EPICS has and is left out here, and tells it
+";
+
+/// What the next word is the value of.
+#[derive(Clone, Copy, PartialEq, Eq, Debug)]
+enum Wanted {
+    File,
+    Folder,
+    Macros,
+}
+
+/// A file of `-d`, and which of the words of `-m` hold in it: those from `from` to `to`.
+#[derive(Clone, Copy)]
+struct NamedFile<'a> {
+    path: &'a str,
+    from: usize,
+    to: usize,
+}
+
+/// What a command line says of a site's files, and the words that are left.
+#[derive(Drop)]
+pub struct SiteWords<'a> {
+    alloc: Global,
+    files: Vec<NamedFile<'a>>,
+    macros: Vec<&'a str>,
+    folders: Vec<&'a str>,
+    is_adapted: bool,
+    /// Words that are no options, behind the program's name.
+    plain: Vec<&'a str>,
+    left: Vec<&'a str>,
+    wanted: Option<Wanted>,
+    /// The first word of `-m` that holds in the next file.
+    from: usize,
+    is_behind_options: bool,
+}
+
+// Returns whether a word begins with -d or with -I.
+#[tactic(auto, unfolding(crate::specs::SiteWords::is_option))]
+fn is_option(word: &[u8]) -> bool
+    ensures { result ≡ is_option word.now }
+{
+    match word {
+        [first, second, ..] => *first == b'-' && (*second == b'd' || *second == b'I'),
+        _ => false,
+    }
+}
+
+// Returns whether a word is one of a site's files.
+fn is_site_word(word: &[u8]) -> bool
+    ensures { result ≡ is_site_word word.now }
+{
+    is_option(word) || word == b"--adapt".as_slice()
+}
+
+/// Returns whether the words of a command line name a site's files: whether there is `-d`, `-I` or
+/// `--adapt`.
+pub fn names_site(words: &[String]) -> bool
+    ensures { result ≡ names_site (map string_bytes words.now) }
+{
+    let mut rest = words;
+    while let [word, after @ ..] = rest {
+        let bytes = word.as_bytes();
+        if bytes == b"--".as_slice() {
+            return false;
+        }
+        if is_site_word(bytes) {
+            return true;
+        }
+        rest = after;
+    }
+    false
+}
+
+// Returns what an option wants, and the value that stands in the same word.
+fn option_of(word: &str) -> Option<(Wanted, &str)> {
+    if let Some(value) = word.strip_prefix("-d") {
+        return Some((Wanted::File, value));
+    }
+    if let Some(value) = word.strip_prefix("-I") {
+        return Some((Wanted::Folder, value));
+    }
+    let value = word.strip_prefix("-m")?;
+    Some((Wanted::Macros, value))
+}
+
+// Returns why the program stops if its words are wrong.
+fn refused(alloc: Global, why: &str) -> Stop {
+    match format!(in alloc; "error: {why}\n\nFor more information, try '--help'.\n") {
+        Ok(text) => Stop::Refused(text),
+        Err(_) => Stop::from(AllocError),
+    }
+}
+
+// Adds the definitions of a text.
+fn add_definitions(alloc: Global, text: &[u8], all: &mut Vec<Definition>) -> Result<(), Stop> {
+    let mut defined = parse_definitions(alloc, text)?;
+    if defined.fault.is_some() {
+        let word = String::from_utf8_lossy(alloc, text)?;
+        return Err(Stop::Usage(UsageFault::NoDefinition(word)));
+    }
+    all.append(&mut defined.list).map_err(AllocError::from)?;
+    Ok(())
+}
+
+impl<'a> SiteWords<'a> {
+    // Begins with no words.
+    fn new(alloc: Global) -> Self {
+        SiteWords {
+            alloc,
+            files: Vec::new(alloc),
+            macros: Vec::new(alloc),
+            folders: Vec::new(alloc),
+            is_adapted: false,
+            plain: Vec::new(alloc),
+            left: Vec::new(alloc),
+            wanted: None,
+            from: 0,
+            is_behind_options: false,
+        }
+    }
+
+    // Takes the value of an option.
+    fn give(&mut self, wanted: Wanted, value: &'a str) -> Result<(), AllocError> {
+        match wanted {
+            Wanted::File => {
+                self.files.push(NamedFile {
+                    path: value,
+                    from: self.from,
+                    to: self.macros.len(),
+                })?;
+            }
+            Wanted::Folder => self.folders.push(value)?,
+            Wanted::Macros => {
+                if self
+                    .files
+                    .last()
+                    .is_some_and(|file| file.to == self.macros.len())
+                {
+                    self.from = self.macros.len();
+                }
+                self.macros.push(value)?;
+                self.left.push("-m")?;
+                self.left.push(value)?;
+            }
+        }
+        Ok(())
+    }
+
+    // Says that an option lacks its value.
+    fn lacking(&self, wanted: Wanted) -> Stop {
+        match wanted {
+            Wanted::File => refused(self.alloc, "-d wants a file"),
+            Wanted::Folder => refused(self.alloc, "-I wants a folder"),
+            Wanted::Macros => refused(self.alloc, "-m wants NAME=VALUE"),
+        }
+    }
+
+    // Takes a word that is no value.
+    fn take_word(&mut self, word: &'a str) -> Result<(), AllocError> {
+        if word == "--" {
+            self.is_behind_options = true;
+            return Ok(self.left.push(word)?);
+        }
+        if word == "--adapt" {
+            self.is_adapted = true;
+            return Ok(());
+        }
+        let Some((wanted, value)) = option_of(word) else {
+            if !word.starts_with("-") {
+                self.plain.push(word)?;
+            }
+            return Ok(self.left.push(word)?);
+        };
+        let value = value.strip_prefix("=").unwrap_or(value);
+        if value.is_empty() {
+            self.wanted = Some(wanted);
+            return Ok(());
+        }
+        self.give(wanted, value)
+    }
+
+    // Takes the next word.
+    fn take(&mut self, word: &'a str) -> Result<(), Stop> {
+        if self.is_behind_options {
+            self.plain.push(word).map_err(AllocError::from)?;
+            self.left.push(word).map_err(AllocError::from)?;
+            return Ok(());
+        }
+        match mem::replace(&mut self.wanted, None) {
+            None => Ok(self.take_word(word)?),
+            Some(wanted) if word.starts_with("-") => Err(self.lacking(wanted)),
+            Some(wanted) => Ok(self.give(wanted, word)?),
+        }
+    }
+
+    // Ends the words.
+    fn finish(&self) -> Result<(), Stop> {
+        if let Some(wanted) = self.wanted {
+            return Err(self.lacking(wanted));
+        }
+        let has_files = !self.files.is_empty();
+        if has_files
+            && self
+                .files
+                .last()
+                .is_some_and(|file| file.to < self.macros.len())
+        {
+            return Err(refused(self.alloc, "-m stands before the -d for which it holds"));
+        }
+        Ok(())
+    }
+
+    /// Reads the words of a command line: the program's name, and any others. Returns what they say of a
+    /// site's files, if they do.
+    ///
+    /// # Errors
+    ///
+    /// [`Stop::Refused`] if a file or a folder is missing. [`Stop::Memory`] if allocation fails.
+    pub fn from_words(alloc: Global, words: &'a [String]) -> Result<Option<SiteWords<'a>>, Stop>
+        ensures plain { names_site (map string_bytes words.entry.now) ≡ false → result ≡ Ok None }
+    {
+        if !names_site(words) {
+            return Ok(None);
+        }
+        let mut said = SiteWords::new(alloc);
+        for word in words.get(1..).unwrap_or(&[]) {
+            said.take(word.as_str())?;
+        }
+        said.finish()?;
+        Ok(Some(said))
+    }
+
+    /// Returns the words that are left, behind the program's name: the first file of `-d` stands for the
+    /// database text.
+    ///
+    /// # Errors
+    ///
+    /// [`AllocError`] if allocation fails.
+    pub fn left(&self, program: &str) -> Result<Vec<String>, AllocError> {
+        let mut all = Vec::new(self.alloc);
+        all.push(String::from_str(self.alloc, program)?)?;
+        if let Some(file) = self.files.first() {
+            all.push(String::from_str(self.alloc, file.path)?)?;
+        }
+        for word in &self.left {
+            all.push(String::from_str(self.alloc, *word)?)?;
+        }
+        Ok(all)
+    }
+
+    /// Returns the words behind so many that name the files of a program, each behind a byte 0.
+    ///
+    /// # Errors
+    ///
+    /// [`AllocError`] if allocation fails.
+    pub fn words_behind(&self, count: usize) -> Result<Vec<u8>, AllocError> {
+        let mut all = Vec::new(self.alloc);
+        let named = if self.files.is_empty() { 0 } else { 1 };
+        for word in self.plain.get(count.saturating_sub(named)..).unwrap_or(&[]) {
+            all.push(0)?;
+            all.extend_from_slice(word.as_bytes())?;
+        }
+        Ok(all)
+    }
+
+    /// Returns the part of definitions of macros, each behind a byte 0, that stands behind those of `-m`.
+    pub fn behind_options<'d>(&self, definitions: &'d [u8]) -> &'d [u8] {
+        let mut count = 0usize;
+        for word in &self.macros {
+            count = count.saturating_add(word.len()).saturating_add(1);
+        }
+        definitions.get(count..).unwrap_or(&[])
+    }
+
+    /// Returns whether what this project leaves out is dropped or replaced.
+    pub fn is_adapted(&self) -> bool {
+        self.is_adapted
+    }
+
+    /// Returns the folders in which included files are looked for.
+    pub fn folders(&self) -> &[&'a str] {
+        self.folders.as_slice()
+    }
+
+    /// Returns the paths of these folders.
+    ///
+    /// # Errors
+    ///
+    /// [`AllocError`] if allocation fails.
+    pub fn folder_paths(&self) -> Result<Vec<&'a [u8]>, AllocError> {
+        let mut paths = Vec::new(self.alloc);
+        for folder in &self.folders {
+            paths.push(folder.as_bytes())?;
+        }
+        Ok(paths)
+    }
+
+    /// Returns the macros of these words of `-m`, and of definitions, each behind a byte 0.
+    fn macros_of(&self, words: &[&str], behind: &[u8]) -> Result<Vec<Definition>, Stop> {
+        let mut all = Vec::new(self.alloc);
+        for word in words {
+            add_definitions(self.alloc, word.as_bytes(), &mut all)?;
+        }
+        for definition in behind.split(|byte| *byte == 0) {
+            if !definition.is_empty() {
+                add_definitions(self.alloc, definition, &mut all)?;
+            }
+        }
+        Ok(all)
+    }
+
+    /// Returns the files that are read, with the macros that hold in each: those of `-d`, or the database
+    /// text of the program. The definitions stand each behind a byte 0.
+    ///
+    /// # Errors
+    ///
+    /// [`UsageFault::NoDefinition`] if a word defines no macro. [`Stop::Memory`] if allocation fails.
+    pub fn files(
+        &self,
+        database: &'a str,
+        definitions: &[u8],
+    ) -> Result<Vec<(&'a str, Vec<Definition>)>, Stop> {
+        let mut all = Vec::new(self.alloc);
+        for file in &self.files {
+            let words = self.macros.get(file.from..file.to).unwrap_or(&[]);
+            let macros = self.macros_of(words, definitions)?;
+            all.push((file.path, macros)).map_err(AllocError::from)?;
+        }
+        if self.files.is_empty() {
+            let macros = self.macros_of(self.macros.as_slice(), definitions)?;
+            all.push((database, macros)).map_err(AllocError::from)?;
+        }
+        Ok(all)
+    }
+}

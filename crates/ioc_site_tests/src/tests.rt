@@ -1,0 +1,4 @@
+//! The tests, by what they test.
+mod findings;
+mod reading;
+mod writing;

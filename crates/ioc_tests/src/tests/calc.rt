@@ -1,0 +1,173 @@
+//! Databases with calc, calcout and sel, each with a script and the expected output.
+use crate::tests::programs::Program;
+
+pub static PROGRAMS: [Program; 28] = [
+    (
+        "an input reads a link or a constant before the expression",
+        b"record(ai,\"a\"){field(VAL,4)} record(calc,\"c\"){field(INPA,\"1.5\") field(INPB,\"a\") field(CALC,\"A*B+1\") field(PREC,2)}",
+        b"process c\nget c.VAL\nget c.B\nget c.LA\nget c.LB\nput c.A 10\nget c.VAL\nput c.VAL 5\nget c.VAL\nput c.CALC A\nget c.CALC\n",
+        b"ok processed\n= 7.00\n= 4.00\n= 1.50\n= 4.00\nok processed\n= 41.00\nok\n= 5.00\nE3 NoMod\n= A*B+1\n",
+    ),
+    (
+        "assignments within an expression, and the value before it",
+        b"record(calc,\"c\"){field(A,3) field(CALC,\"B:=A+1; A*B; A:=VAL\")}",
+        b"process c\nget c.B\nget c.VAL\nget c.A\nprocess c\nget c.VAL\nget c.A\n",
+        b"ok processed\n= 4\n= 12\n= 0\nok processed\n= 0\n= 12\n",
+    ),
+    (
+        "a division by zero makes the value undefined",
+        b"record(calc,\"c\"){field(CALC,\"A/B\") field(A,1) field(HIGH,5) field(HSV,MINOR)}",
+        b"process c\nget c.VAL\nget c.STAT\nget c.UDF\nput c.A 0\nget c.VAL\nget c.STAT\nget c.SEVR\nget c.UDF\n",
+        b"ok processed\n=     inf\n= HIGH\n= 0\nok processed\n= nan\n= UDF\n= INVALID\n= 1\n",
+    ),
+    (
+        "inputs after a broken one are read, and the expression does not run",
+        b"record(ai,\"b\"){field(VAL,4)} record(calc,\"c\"){field(INPA,\"x\") field(INPC,\"b PP\") field(CALC,\"A+C\")}",
+        b"at 9\nprocess c\nget c.STAT\nget c.SEVR\nget c.C\nget c.VAL\nget b.TIME\nget c.UDF\n",
+        b"ok\nok processed\n= LINK\n= INVALID\n= 4\n= 0\n= 9\n= 1\n",
+    ),
+    (
+        "MDEL and ADEL of a calc, and its letters",
+        b"record(calc,\"c\"){field(CALC,\"A\") field(MDEL,2) field(PREC,1)}",
+        b"put c.A 1\nget c.MLST\nget c.ALST\nget c.LALM\nput c.A 2.5\nget c.MLST\nput c.A 0.5\nget c.MLST\nget c.ALST\nput c.A nan\nget c.MLST\nput c.A 0.5\nget c.MLST\nput c.MDEL nan\nput c.A 100\nget c.MLST\n",
+        b"ok processed\n= 0.0\n= 1.0\n= 1.0\nok processed\n= 2.5\nok processed\n= 2.5\n= 0.5\nok processed\n= nan\nok processed\n= 0.5\nok\nok processed\n= 0.5\n",
+    ),
+    (
+        "an output on a change beyond MDEL",
+        b"record(ai,\"t\"){} record(calcout,\"c\"){field(CALC,\"A\") field(OUT,\"t\") field(OOPT,\"On Change\") field(MDEL,0.5)}",
+        b"put c.A 0.5\nget c.OVAL\nput c.PREC 1\nput c.A 1.5\nget c.OVAL\nget c.PVAL\nget t.VAL\n",
+        b"ok processed\n= 0\nok\nok processed\n= 1.5\n= 1.5\n= 2\n",
+    ),
+    (
+        "an output at a transition",
+        b"record(ai,\"t\"){field(VAL,9)} record(calcout,\"c\"){field(CALC,\"A\") field(OUT,\"t\") field(OOPT,\"Transition To Zero\")}",
+        b"put c.A 1\nget t.VAL\nput c.A -0\nget t.VAL\nput t.VAL 9\nput c.A 0\nget t.VAL\nput c.OOPT Transition To Non-zero\nput c.A 3\nget t.VAL\nput c.A 4\nget t.VAL\n",
+        b"ok processed\n= 9\nok processed\n= 0\nok processed\nok processed\n= 9\nok\nok processed\n= 3\nok processed\n= 3\n",
+    ),
+    (
+        "the output expression sees the new value",
+        b"record(calcout,\"c\"){field(CALC,\"A\") field(DOPT,\"Use OCAL\") field(OCAL,\"VAL+A\")}",
+        b"put c.A 2\nget c.OVAL\nprocess c\nget c.OVAL\nget c.VAL\nget c.OCAL\n",
+        b"ok processed\n= 2\nok processed\n= 4\n= 2\n= VAL+A\n",
+    ),
+    (
+        "an invalid value drives IVOV, and an undefined one nothing",
+        b"record(ai,\"t\"){} record(calcout,\"c\"){field(CALC,\"0/A\") field(OUT,\"t PP MS\") field(IVOA,\"Set output to IVOV\") field(IVOV,7)}",
+        b"process c\nget c.VAL\nget c.OVAL\nget t.VAL\nget t.STAT\nput c.A 1\nget c.OVAL\nget t.VAL\nget t.STAT\n",
+        b"ok processed\n= nan\n= 7\n= 7\n= LINK\nok processed\n= 0\n= 0\n= NO_ALARM\n",
+    ),
+    (
+        "an input chosen by a number that is read",
+        b"record(ai,\"x\"){field(VAL,2.5)} record(sel,\"s\"){field(INPA,\"x\") field(INPB,\"7\") field(NVL,\"1\") field(PREC,1)}",
+        b"process s\nget s.VAL\nget s.A\nput s.SELN 0\nprocess s\nget s.VAL\nput s.SELN 12\nprocess s\nget s.STAT\nget s.SEVR\nget s.VAL\nput x.VAL 9\nprocess s\nget s.A\n",
+        b"ok processed\n= 7.0\n= nan\nok\nok processed\n= 2.5\nok\nok processed\n= SOFT\n= INVALID\n= 2.5\nok processed\nok processed\n= 2.5\n",
+    ),
+    (
+        "the highest input, the lowest, and the median",
+        b"record(sel,\"s\"){field(SELM,\"High Signal\") field(A,1) field(C,5) field(D,5)}",
+        b"process s\nget s.VAL\nget s.SELN\nput s.SELM Low Signal\nprocess s\nget s.VAL\nget s.SELN\nput s.SELM Median Signal\nput s.L 4\nget s.VAL\nget s.SELN\n",
+        b"ok processed\n= 5\n= 2\nok\nok processed\n= 1\n= 0\nok\nok processed\n= 5\n= 4\n",
+    ),
+    (
+        "a selection where no input has a value",
+        b"record(sel,\"s\"){field(SELM,\"High Signal\") field(SELN,3)}",
+        b"process s\nget s.VAL\nget s.SELN\nget s.UDF\nput s.SELM Median Signal\nprocess s\nget s.VAL\nget s.SELN\nget s.STAT\n",
+        b"ok processed\n=    -inf\n= 3\n= 0\nok\nok processed\n= nan\n= 0\n= UDF\n",
+    ),
+    (
+        "the last value of a letter, and a chain",
+        b"record(calc,\"a\"){field(CALC,\"A\") field(HIGH,-1)} record(calc,\"z\"){field(INPA,\"a.LA\") field(CALC,\"1/A\")}",
+        b"put a.A 0\nput a.A -0\nprocess z\nget z.VAL\nput a.HSV MINOR\nprocess z\nget z.VAL\n",
+        b"ok processed\nok processed\nok processed\n=     inf\nok processed\nok processed\n=    -inf\n",
+    ),
+    (
+        "signs and powers",
+        b"record(calc,\"a\"){field(CALC,\"-2^2\")} record(calc,\"b\"){field(CALC,\"2^3^2\")} record(calc,\"c\"){field(CALC,\"1|2&&0\")} record(calc,\"d\"){field(CALC,\"5&3=1\")}",
+        b"process a\nget a.VAL\nprocess b\nget b.VAL\nprocess c\nget c.VAL\nprocess d\nget d.VAL\n",
+        b"ok processed\n= 4\nok processed\n= 64\nok processed\n= 1\nok processed\n= 0\n",
+    ),
+    (
+        "choices within choices",
+        b"record(calc,\"a\"){field(CALC,\"a?b:c?4:5\") field(B,2)} record(calc,\"n\"){field(CALC,\"NAN?1:2\")}",
+        b"process a\nget a.VAL\nput a.C 1\nget a.VAL\nput a.A -0\nget a.VAL\nput a.A 0.1\nget a.VAL\nprocess n\nget n.VAL\n",
+        b"ok processed\n= 5\nok processed\n= 4\nok processed\n= 4\nok processed\n= 2\nok processed\n= 1\n",
+    ),
+    (
+        "integers of 32 bits within an expression",
+        b"record(calc,\"c\"){field(CALC,\"A|0\")} record(calc,\"d\"){field(CALC,\"A>>B\")} record(calc,\"e\"){field(CALC,\"A>>>28\")} record(calc,\"f\"){field(CALC,\"1<<B\")}",
+        b"put c.A 3e9\nget c.VAL\nput c.A -2.9\nget c.VAL\nput c.A 1e19\nget c.VAL\nput d.B 1\nput d.A -5\nget d.VAL\nput e.A -1\nget e.VAL\nput f.B 33\nget f.VAL\nput f.B -1\nget f.VAL\n",
+        b"ok processed\n= -1294967296\nok processed\n= -2\nok processed\n= 0\nok processed\nok processed\n= -3\nok processed\n= 15\nok processed\n= 2\nok processed\n= -2147483648\n",
+    ),
+    (
+        "remainders",
+        b"record(calc,\"c\"){field(CALC,\"A%B\") field(B,3.9)}",
+        b"put c.A 7.9\nget c.VAL\nput c.A -7\nget c.VAL\nput c.A 1e10\nget c.VAL\nput c.B 0.5\nget c.VAL\nput c.B inf\nget c.VAL\n",
+        b"ok processed\n= 1\nok processed\n= -1\nok processed\n= 1\nok processed\n= nan\nok processed\n= 10000000000\n",
+    ),
+    (
+        "functions of several arguments",
+        b"record(calc,\"c\"){field(CALC,\"MAX(A,B,2)\")} record(calc,\"d\"){field(CALC,\"ISNAN(A,B)*10+FINITE(A,B)\")} record(calc,\"e\"){field(CALC,\"ISINF(A)+MAX -3\")}",
+        b"put c.A 1\nget c.VAL\nput c.B nan\nget c.VAL\nput d.A nan\nget d.VAL\nput d.A inf\nget d.VAL\nput d.A 0\nget d.VAL\nput e.A -inf\nget e.VAL\n",
+        b"ok processed\n= 2\nok processed\n= nan\nok processed\n= 10\nok processed\n= 0\nok processed\n= 1\nok processed\n= -4\n",
+    ),
+    (
+        "rounding to whole numbers",
+        b"record(calc,\"c\"){field(CALC,\"NINT(A)\")} record(calc,\"d\"){field(CALC,\"1/CEIL(A)\")} record(calc,\"e\"){field(CALC,\"SQR A\")}",
+        b"put c.A 2.5\nget c.VAL\nput c.A -2.5\nget c.VAL\nput c.A 3e9\nget c.VAL\nput d.A -0.5\nget d.VAL\nput e.A 2.25\nput e.PREC 1\nget e.VAL\nput e.A -1\nget e.STAT\n",
+        b"ok processed\n= 3\nok processed\n= -3\nok processed\n= 3000000000\nok processed\n=    -inf\nok processed\nok\n= 1.5\nok processed\n= UDF\n",
+    ),
+    (
+        "digits of a sum",
+        b"record(calc,\"c\"){field(CALC,\"A+B\") field(A,0.1) field(B,0.2) field(PREC,15)} record(calc,\"d\"){field(CALC,\"0.1+0.2=0.3\")} record(calc,\"e\"){field(CALC,\"0xFFFFFFFF+D2R*R2D\")}",
+        b"process c\nget c.VAL\nprocess d\nget d.VAL\nprocess e\nget e.VAL\n",
+        b"ok processed\n=  3.000000000000000e-01\nok processed\n= 0\nok processed\n= 0\n",
+    ),
+    (
+        "the alarm of an input is inherited",
+        b"record(ai,\"a\"){field(VAL,9) field(HIGH,5) field(HSV,MAJOR)} record(calc,\"c\"){field(INPA,\"a PP MS\") field(INPB,\"a MSS\") field(CALC,\"A+B\")}",
+        b"process c\nget c.VAL\nget c.STAT\nget c.SEVR\n",
+        b"ok processed\n= 18\n= LINK\n= MAJOR\n",
+    ),
+    (
+        "a calc that reads itself and leads to itself",
+        b"record(calc,\"c\"){field(INPA,\"c\") field(CALC,\"A+1\") field(FLNK,\"c\")}",
+        b"process c\nprocess c\nget c.VAL\nget c.LCNT\nget c.A\n",
+        b"ok processed\nok processed\n= 2\n= 1\n= 1\n",
+    ),
+    (
+        "an output when the value is zero, or not",
+        b"record(ai,\"t\"){field(VAL,9)} record(calcout,\"c\"){field(CALC,\"A\") field(OUT,\"t\") field(OOPT,\"When Zero\")}",
+        b"put c.A 1\nget t.VAL\nput c.A 0\nget t.VAL\nput c.OOPT When Non-zero\nput c.A 0\nput c.A 2\nget t.VAL\nput c.A nan\nget t.VAL\nget c.STAT\n",
+        b"ok processed\n= 9\nok processed\n= 0\nok\nok processed\nok processed\n= 2\nok processed\n= nan\n= UDF\n",
+    ),
+    (
+        "an undefined output value",
+        b"record(ai,\"t\"){} record(calcout,\"c\"){field(CALC,\"5\") field(DOPT,\"Use OCAL\") field(OCAL,\"0/A\") field(OUT,\"t\") field(IVOA,\"Don't drive outputs\")}",
+        b"process c\nget c.VAL\nget c.OVAL\nget c.UDF\nget c.STAT\nget t.UDF\nput c.A 2\nget c.UDF\nget c.STAT\nget t.UDF\n",
+        b"ok processed\n= 5\n= nan\n= 1\n= UDF\n= 1\nok processed\n= 0\n= NO_ALARM\n= 0\n",
+    ),
+    (
+        "an output to a device",
+        b"record(calcout,\"c\"){field(CALC,\"1\") field(OUT,\"@d\")}",
+        b"process c\nget c.PACT\nget c.STAT\nfault c 1\nget c.PACT\nget c.STAT\nnext c done 0\nprocess c\nget c.STAT\n",
+        b"ok processed\n= 1\n= UDF\nok\n= 0\n= WRITE\nok\nok processed\n= NO_ALARM\n",
+    ),
+    (
+        "a number whose link leads nowhere",
+        b"record(ai,\"x\"){field(VAL,2)} record(sel,\"s\"){field(NVL,\"y\") field(INPA,\"x\")}",
+        b"process s\nget s.STAT\nget s.A\nget s.UDF\nlink s.NVL\nprocess s\nget s.STAT\nget s.A\n",
+        b"ok processed\n= LINK\n= nan\n= 1\nok\nok processed\n= NO_ALARM\n= 2\n",
+    ),
+    (
+        "put callbacks through a chain of calculations whose input is changed while it waits",
+        b"record(ai,\"in\"){field(INP,\"@d\") field(FLNK,\"o\")} record(ai,\"p\"){field(VAL,3)} record(ai,\"q\"){field(VAL,10)} record(calcout,\"o\"){field(INPA,\"in\") field(INPB,\"p\") field(CALC,\"A+B\") field(OUT,\"@e\") field(FLNK,\"z\")} record(calc,\"z\"){field(INPA,\"o MS\") field(CALC,\"A*2\")}",
+        b"notify in.VAL 2\nget in.PACT\ndone in 1 5\nget o.PACT\nget o.VAL\nlink o.INPB q\nsets\nnotify o.B 7\nget o.B\nprocess o\ndone o 1\nget z.VAL\nget o.B\nget o.VAL\nget o.OVAL\nfault o 2\nget o.STAT\nget z.STAT\nget z.SEVR\nget z.VAL\ntally\n",
+        b"ok notify 1\n= 1\nok\n= 1\n= 8\nok\nsets {in q o z} {p}\nok notify 2\n= 3\nok active\nok\nended 1\n= 16\n= 10\n= 15\n= 15\nok\nended 2\n= WRITE\n= LINK\n= INVALID\n= 30\ntally begun=6 processed=5 disabled=0 active=1 reprocess=0 started=3 completed=3 dropped=0\n",
+    ),
+    (
+        "expressions, each in a record of its own",
+        b"record(calc,\"c0\"){field(CALC,\"-2^2\") field(PREC,2)}\nrecord(calc,\"c1\"){field(CALC,\"2^3^2\") field(PREC,2)}\nrecord(calc,\"c2\"){field(CALC,\"1|2&&0\") field(PREC,2)}\nrecord(calc,\"c3\"){field(CALC,\"5&3=1\") field(PREC,2)}\nrecord(calc,\"c4\"){field(CALC,\"2-3-4\") field(PREC,2)}\nrecord(calc,\"c5\"){field(CALC,\"a?b:c?4:5\") field(PREC,2) field(A,0.1) field(B,2)}\nrecord(calc,\"c6\"){field(CALC,\"A?1:2\") field(PREC,2) field(A,-0)}\nrecord(calc,\"c7\"){field(CALC,\"NAN?1:2\") field(PREC,2)}\nrecord(calc,\"c8\"){field(CALC,\"NOT 1+1\") field(PREC,2)}\nrecord(calc,\"c9\"){field(CALC,\"!A=0\") field(PREC,2)}\nrecord(calc,\"c10\"){field(CALC,\"A|0\") field(PREC,2) field(A,3000000000)}\nrecord(calc,\"c11\"){field(CALC,\"A|0\") field(PREC,2) field(A,-2.9)}\nrecord(calc,\"c12\"){field(CALC,\"A|0\") field(PREC,2) field(A,1e+19)}\nrecord(calc,\"c13\"){field(CALC,\"A>>B\") field(PREC,2) field(A,-5) field(B,1)}\nrecord(calc,\"c14\"){field(CALC,\"A>>>28\") field(PREC,2) field(A,-1)}\nrecord(calc,\"c15\"){field(CALC,\"1<<B\") field(PREC,2) field(B,33)}\nrecord(calc,\"c16\"){field(CALC,\"1<<B\") field(PREC,2) field(B,-1)}\nrecord(calc,\"c17\"){field(CALC,\"A%B\") field(PREC,2) field(A,7.9) field(B,3.9)}\nrecord(calc,\"c18\"){field(CALC,\"A%B\") field(PREC,2) field(A,-7) field(B,3)}\nrecord(calc,\"c19\"){field(CALC,\"A%B\") field(PREC,2) field(A,5) field(B,0.5)}\nrecord(calc,\"c20\"){field(CALC,\"A%B\") field(PREC,2) field(A,10000000000) field(B,3)}\nrecord(calc,\"c21\"){field(CALC,\"MAX(A,B,2)\") field(PREC,2) field(A,1) field(B,nan)}\nrecord(calc,\"c22\"){field(CALC,\"FINITE(A,B)\") field(PREC,2) field(A,1) field(B,inf)}\nrecord(calc,\"c23\"){field(CALC,\"ISINF(A)+MAX -3\") field(PREC,2) field(A,-inf)}\nrecord(calc,\"c24\"){field(CALC,\"NINT(A)\") field(PREC,2) field(A,-2.5)}\nrecord(calc,\"c25\"){field(CALC,\"NINT(A)\") field(PREC,2) field(A,3000000000)}\nrecord(calc,\"c26\"){field(CALC,\"1/CEIL(A)\") field(PREC,2) field(A,-0.5)}\nrecord(calc,\"c27\"){field(CALC,\"1/(A%3)\") field(PREC,2) field(A,-6)}\nrecord(calc,\"c28\"){field(CALC,\"SQR A\") field(PREC,2) field(A,6.25)}\nrecord(calc,\"c29\"){field(CALC,\"SQRT(A)\") field(PREC,2) field(A,-1)}\nrecord(calc,\"c30\"){field(CALC,\"0.1+0.2=0.3\") field(PREC,2)}\nrecord(calc,\"c31\"){field(CALC,\"0xFFFFFFFF+D2R*R2D\") field(PREC,2)}\nrecord(calc,\"c32\"){field(CALC,\"A^-2\") field(PREC,2) field(A,2)}\nrecord(calc,\"c33\"){field(CALC,\"B:=A+1;A*B\") field(PREC,2) field(A,3)}\nrecord(calc,\"c34\"){field(CALC,\"AANDB\") field(PREC,2) field(A,7) field(B,10)}\nrecord(calc,\"c35\"){field(CALC,\"1>2>0\") field(PREC,2)}",
+        b"process c0\nget c0.VAL\nprocess c1\nget c1.VAL\nprocess c2\nget c2.VAL\nprocess c3\nget c3.VAL\nprocess c4\nget c4.VAL\nprocess c5\nget c5.VAL\nprocess c6\nget c6.VAL\nprocess c7\nget c7.VAL\nprocess c8\nget c8.VAL\nprocess c9\nget c9.VAL\nprocess c10\nget c10.VAL\nprocess c11\nget c11.VAL\nprocess c12\nget c12.VAL\nprocess c13\nget c13.VAL\nprocess c14\nget c14.VAL\nprocess c15\nget c15.VAL\nprocess c16\nget c16.VAL\nprocess c17\nget c17.VAL\nprocess c18\nget c18.VAL\nprocess c19\nget c19.VAL\nprocess c20\nget c20.VAL\nprocess c21\nget c21.VAL\nprocess c22\nget c22.VAL\nprocess c23\nget c23.VAL\nprocess c24\nget c24.VAL\nprocess c25\nget c25.VAL\nprocess c26\nget c26.VAL\nprocess c27\nget c27.VAL\nprocess c28\nget c28.VAL\nprocess c29\nget c29.VAL\nprocess c30\nget c30.VAL\nprocess c31\nget c31.VAL\nprocess c32\nget c32.VAL\nprocess c33\nget c33.VAL\nprocess c34\nget c34.VAL\nprocess c35\nget c35.VAL\n",
+        b"ok processed\n= 4.00\nok processed\n= 64.00\nok processed\n= 1.00\nok processed\n= 0.00\nok processed\n= -5.00\nok processed\n= 2.00\nok processed\n= 2.00\nok processed\n= 1.00\nok processed\n= -1.00\nok processed\n= 0.00\nok processed\n= -1294967296.00\nok processed\n= -2.00\nok processed\n= 0.00\nok processed\n= -3.00\nok processed\n= 15.00\nok processed\n= 2.00\nok processed\n= -2147483648.00\nok processed\n= 1.00\nok processed\n= -1.00\nok processed\n= nan\nok processed\n= 1.00\nok processed\n= nan\nok processed\n= 0.00\nok processed\n= -4.00\nok processed\n= -3.00\nok processed\n= 3000000000.00\nok processed\n=      -inf\nok processed\n=       inf\nok processed\n= 2.50\nok processed\n= nan\nok processed\n= 0.00\nok processed\n= 0.00\nok processed\n= 0.25\nok processed\n= 12.00\nok processed\n= 2.00\nok processed\n= 0.00\n",
+    ),
+];
