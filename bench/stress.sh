@@ -8,10 +8,11 @@ top=$(cd "$(dirname "$0")/.." && pwd)
 work=$(mktemp -d)
 trap 'rm -rf "$work"' EXIT
 (cd "$top" && tar cf - HANDLES crates.txt crates/*/src) | tar xf - -C "$work"
-tests=$work/crates/ioc_stress_tests/src
+tests=$top/tests/ioc_stress_tests
 mkdir -p "$work/crates/stress/src"
-cp -r "$tests/tests" "$work/crates/stress/src/seeded"
-sed 's/^mod /pub mod /' "$tests/tests.rt" > "$work/crates/stress/src/seeded.rt"
+mkdir "$work/crates/stress/src/seeded"
+for file in "$tests"/tests/*.rs; do cp "$file" "$work/crates/stress/src/seeded/$(basename "$file" .rs).rt"; done
+sed 's/^mod /pub mod /' "$tests/tests.rs" > "$work/crates/stress/src/seeded.rt"
 sed -i 's/crate::tests::/crate::seeded::/' "$work"/crates/stress/src/seeded/*.rt
 # The test itself is replaced by `main`.
 sed -i -e '/^#\[test\]/,$d' -e '/^use std::test::Fail;$/d' -e 's/^fn run_drawn/pub fn run_drawn/' "$work/crates/stress/src/seeded/running.rt"
@@ -44,7 +45,7 @@ fn main(rt: HostRuntime) -> ExitCode {
     }
 }
 END
-sed -n 's/^ioc_stress_tests [^:]*/stress/p' "$top/crates.txt" >> "$work/crates.txt"
+sed -n 's/^ioc_stress_tests [^:]*/stress/p' "$top/tests/libraries.txt" >> "$work/crates.txt"
 sh "$top/tools/unproved.sh" "$work" stress > "$work/log" 2>&1 || { cat "$work/log" >&2; exit 1; }
 seed=${2-1}
 end=$((SECONDS + $1))

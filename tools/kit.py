@@ -25,6 +25,11 @@ def keep_sums(crate):
     owner.stamp = stamp
 
 
+def folder():
+    """Where the kit's command stands, in its folder bin."""
+    return os.path.dirname(os.path.dirname(os.path.realpath(shutil.which("rt"))))
+
+
 def load():
     sys.dont_write_bytecode = True
     loader = importlib.machinery.SourceFileLoader("rt", os.path.realpath(shutil.which("rt")))

@@ -2,13 +2,15 @@
 # Builds a program without proof, as the kit builds a proved one. The kit builds what is proved alone, but `rt try` compiles unproved
 # programs: a folder that stands for the kit here keeps the module that `rt try` hands to clang, and ends there. unproved.py makes it one
 # without the checks of a trial, and the kit's clang and linker build it.
-# With UNPROVED_INLINE=no in the environment no function is inlined, so that calls can be counted.
-# Usage: unproved.sh FOLDER CRATE, where FOLDER holds crates, crates.txt and HANDLES; the program is FOLDER/program.
+# With UNPROVED_INLINE=no in the environment no function is inlined, so that calls can be counted. With --test the program runs the
+# crate's tests, and stops where a proof would have to say that it doesn't get there, since nothing proves a test.
+# Usage: unproved.sh FOLDER CRATE [--test], where FOLDER holds crates, crates.txt and HANDLES; the program is FOLDER/program.
 set -eu
 tools=$(cd "$(dirname "$0")" && pwd)
 kit=$(dirname "$(rt doc)")
 folder=$(cd "$1" && pwd)
 crate=$2
+tests=${3:-}
 stand="$folder/kit"
 mkdir -p "$stand/bin" "$stand/toolchain/bin"
 for it in "$kit"/*; do
@@ -33,7 +35,7 @@ exec '$kit/toolchain/bin/clang' "\$@"
 END
 chmod +x "$stand/bin/rattle" "$stand/toolchain/bin/clang"
 rm -f "$folder/module.bc"
-(cd "$folder/crates/$crate" && "$stand/bin/rt" try --steps 1 --seconds 1 > "$folder/try.log" 2>&1 < /dev/null) || true
+(cd "$folder/crates/$crate" && "$stand/bin/rt" try $tests --steps 1 --seconds 1 > "$folder/try.log" 2>&1 < /dev/null) || true
 if [ ! -f "$folder/module.bc" ]; then
   cat "$folder/try.log" >&2
   exit 1
@@ -41,10 +43,10 @@ fi
 clang="$kit/toolchain/bin/clang --target=x86_64-unknown-linux-gnu --sysroot=$kit/toolchain --no-default-config -x ir"
 $clang -S -emit-llvm -O0 -Xclang -disable-llvm-passes "$folder/module.bc" -o "$folder/module.ll"
 rm "$folder/module.bc"
-python3 "$tools/unproved.py" "$kit" "$folder/crates" "$folder/module.ll" "$folder/plain.ll"
+python3 "$tools/unproved.py" "$kit" "$folder/crates" "$folder/module.ll" "$folder/plain.ll" $tests
 # The flags with which the kit compiles a proved program. Where nothing is inlined, functions of one text stay apart.
 level="-O3 -Xclang -fmerge-functions -mllvm -mergefunc-use-aliases"
-if [ "${UNPROVED_INLINE:-}" = no ]; then level=-O1; fi
+if [ "${UNPROVED_INLINE:-}" = no ] || [ -n "$tests" ]; then level=-O1; fi
 $clang -c $level -fPIE -march=x86-64 -ffunction-sections -fdata-sections \
   -mllvm -no-trap-after-noreturn -mllvm -trap-unreachable -mllvm -no-x86-call-frame-opt -mllvm -disable-machine-licm \
   -mllvm -disable-postra-machine-licm -mllvm -sink-common-insts=false "$folder/plain.ll" -o "$folder/program.o"

@@ -15,7 +15,7 @@ use std::thread;
 use std::thread::Threads;
 
 // The number of times that a thread looks at a flag before it stops waiting.
-const TURNS: u64 = 1_000_000;
+const TURNS: u64 = 100_000_000;
 
 // Returns whether the flag was raised in time.
 fn seen(flag: &AtomicU64) -> bool {

@@ -7,7 +7,7 @@ use std::sync::atomic::{AtomicU64, Ordering};
 use std::thread;
 
 // The number of times that a flag is looked at before a thread stops waiting.
-const TURNS: u64 = 1_000_000;
+const TURNS: u64 = 100_000_000;
 
 /// A flag that several threads see.
 pub type Flag = Arc<AtomicU64, Global>;

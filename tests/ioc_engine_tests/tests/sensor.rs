@@ -6,7 +6,7 @@ use std::sync::atomic::{AtomicU64, Ordering};
 use std::thread;
 
 // The number of times that a device looks at a flag before it stops waiting.
-const TURNS: u64 = 1_000_000;
+const TURNS: u64 = 100_000_000;
 
 /// A device of the tests.
 #[derive(Drop)]
