@@ -33,6 +33,9 @@ A device link @TEXT has a device that counts its reads: the first gives 1, the n
     --live, and with --devices outside, a line ? tells what it is asked, and a line done or fault \
     answers.
 
+With -d FILE, -m before it, -I DIR and --adapt the database is that of a site's files in place of DB, as with \
+    ioc-replay.
+
 The exit status: 0 the run is done, 1 the database is refused, 2 the command line is wrong, \
     3 a file cannot be read or written, 4 memory ran out",
 };

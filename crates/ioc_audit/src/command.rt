@@ -21,8 +21,8 @@ With -d FILE, -m before it, -I DIR and --adapt the database is that of a site's 
     ioc-replay.
 
 The exit status: 0 all entries agree, 1 the database is refused, it isn't that of the journal, an \
-    entry differs, a line is no entry, or the journal isn't whole and has to be, 2 the command line is wrong, 3 a file cannot be read or what is found cannot be written, \
-    4 memory ran out",
+    entry differs, a line is no entry, or the journal isn't whole and has to be, 2 the command line is wrong, \
+    3 a file cannot be read or what is found cannot be written, 4 memory ran out",
 };
 
 // The names of arguments.

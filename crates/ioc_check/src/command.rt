@@ -54,7 +54,7 @@ pub struct Words<'a> {
     /// The words that define them, in the order in which the other programs take them.
     pub defining: Vec<&'a str>,
     /// The folders in which included files are looked for.
-    pub folders: Vec<&'a [u8]>,
+    pub folders: Vec<&'a str>,
     /// Whether the lock sets are printed.
     pub sets: bool,
     /// Whether a picture is printed.
@@ -160,9 +160,7 @@ impl<'a> Words<'a> {
             self.define(alloc, *word)?;
         }
         for folder in matches.get_strs(FOLDERS).unwrap_or(&[]) {
-            self.folders
-                .push(folder.as_bytes())
-                .map_err(AllocError::from)?;
+            self.folders.push(*folder).map_err(AllocError::from)?;
         }
         for word in matches.get_strs(FILES).unwrap_or(&[]) {
             if word.contains('=') {

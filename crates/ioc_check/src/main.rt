@@ -13,7 +13,7 @@ use crate::loading::add_refusals;
 use crate::writing::{Prepared, database_of, prepare, refuse_overwriting, save};
 use ioc_command_line::{Ending, Reason, Stop, given, show};
 use ioc_site::{Finding, Reading};
-use ioc_site_database::{Counts, Disk, add_findings, told_once};
+use ioc_site_database::{Counts, Disk, add_findings, folder_paths, told_once};
 use ioc_site_reader::{Request, read_files};
 use ioc_site_rules::{add_picture, add_sets, check, put_in_order};
 use std::alloc::{Alloc, AllocError, Global};
@@ -84,10 +84,11 @@ fn findings_of(alloc: Global, words: &Words<'_>, reading: Reading) -> Result<Fou
 // Reads and checks the files that the words name.
 fn examine<R: Files + Alloc<A = Global>>(rt: &R, words: &Words<'_>) -> Result<Printed, Stop> {
     let alloc = rt.alloc();
+    let folders = folder_paths(rt, words.folders.as_slice())?;
     let request = Request {
         paths: words.paths.as_slice(),
         macros: words.definitions.as_slice(),
-        folders: words.folders.as_slice(),
+        folders: folders.as_slice(),
     };
     let reading = read_files(alloc, &mut Disk(rt), request)?;
     refuse_overwriting(rt, words, reading.files.as_slice())?;

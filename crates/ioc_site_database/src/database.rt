@@ -33,8 +33,16 @@ struct Part<'a> {
     macros: Vec<Definition>,
 }
 
-// Refuses folders that aren't there.
-fn refuse_missing<R: Files + Alloc<A = Global>>(rt: &R, folders: &[&str]) -> Result<(), Stop> {
+/// Returns the paths of folders of `-I`.
+///
+/// # Errors
+///
+/// [`Stop::Refused`] with the first folder that isn't there. [`Stop::Memory`] if allocation fails.
+pub fn folder_paths<'a, R: Files + Alloc<A = Global>>(
+    rt: &R,
+    folders: &[&'a str],
+) -> Result<Vec<&'a [u8]>, Stop> {
+    let mut paths = Vec::new(rt.alloc());
     for folder in folders {
         let folder = *folder;
         let is_folder = match fs::metadata(rt, folder) {
@@ -47,8 +55,9 @@ fn refuse_missing<R: Files + Alloc<A = Global>>(rt: &R, folders: &[&str]) -> Res
             )?;
             return Err(Stop::Refused(text));
         }
+        paths.push(folder.as_bytes()).map_err(AllocError::from)?;
     }
-    Ok(())
+    Ok(paths)
 }
 
 // Returns the request of a file.
@@ -229,13 +238,12 @@ pub fn site_text<'a, R: Files + Alloc<A = Global>>(
     ensures { IfOk result (λ t. Loads t.text.items) }
 {
     let alloc = rt.alloc();
-    refuse_missing(rt, words.folders())?;
+    let folders = folder_paths(rt, words.folders())?;
     let mut parts = Vec::new(alloc);
     for (path, macros) in words.files(database, definitions)? {
         let path = [path.as_bytes()];
         parts.push(Part { path, macros }).map_err(AllocError::from)?;
     }
-    let folders = words.folder_paths()?;
     let reading = read_parts(rt, parts.as_slice(), folders.as_slice())?;
     let adaption = if words.is_adapted() {
         adapt(alloc, reading)?

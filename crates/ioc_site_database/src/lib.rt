@@ -15,7 +15,7 @@ mod printing;
 mod site_words;
 
 pub use adapting::{Adapted, adapt};
-pub use database::{SiteText, site_text};
+pub use database::{SiteText, folder_paths, site_text};
 pub use disk::Disk;
 pub use fault::{SiteFault, ended};
 pub use instances::told_once;

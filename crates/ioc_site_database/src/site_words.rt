@@ -299,19 +299,6 @@ impl<'a> SiteWords<'a> {
         self.folders.as_slice()
     }
 
-    /// Returns the paths of these folders.
-    ///
-    /// # Errors
-    ///
-    /// [`AllocError`] if allocation fails.
-    pub fn folder_paths(&self) -> Result<Vec<&'a [u8]>, AllocError> {
-        let mut paths = Vec::new(self.alloc);
-        for folder in &self.folders {
-            paths.push(folder.as_bytes())?;
-        }
-        Ok(paths)
-    }
-
     /// Returns the macros of these words of `-m`, and of definitions, each behind a byte 0.
     fn macros_of(&self, words: &[&str], behind: &[u8]) -> Result<Vec<Definition>, Stop> {
         let mut all = Vec::new(self.alloc);
