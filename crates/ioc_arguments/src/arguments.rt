@@ -2,7 +2,8 @@
 ghost use Rattle.std.specs.Prelude.{◌≡◌, ◌≤◌, ℕ, Some, true, false, map, codes, option_map, IfOk, OnOk};
 ghost use Rattle.std.specs.String.{string_bytes};
 ghost use Rattle.clap.specs.Words.{app_of, first_of, found_of, rows_of, rule_of};
-ghost use Rattle.ioc_arguments.specs.Arguments.{IsNumber, IsOptionalNumber, IsMode, IsSave, IsSeconds, IsAskedBy, IsAskedByWords, devices_named, ioc_words, number_rule, usual_devices, with_lines, word_rule};
+ghost use Rattle.ioc_arguments.specs.Arguments.{IsNumber, IsOptionalNumber, IsMode, IsSave, IsSeconds, IsAskedBy, IsAskedByWords};
+ghost use Rattle.ioc_arguments.specs.Arguments.{devices_named, ioc_words, number_rule, usual_devices, with_lines, word_rule};
 ghost use Rattle.ioc_arguments.specs.declared.arguments.Mode.TheVariants.{Live, Ticks};
 
 use clap::builder::ValueParser;

@@ -127,7 +127,8 @@ fn agreement(
         return Ok(Telling::Agreement(None));
     }
     let text = format!(in alloc;
-        "{name}: journal '{journal}' has no header, as those of older programs: whether it is of this database, and whether its run has ended, isn't known\n"
+        "{name}: journal '{journal}' has no header, as those of older programs: \
+                whether it is of this database, and whether its run has ended, isn't known\n"
     )?;
     Ok(Telling::Agreement(Some(text)))
 }

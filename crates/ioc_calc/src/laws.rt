@@ -21,7 +21,8 @@ pub fn one_meaning()
 /// The value of a text that is an expression, and what it stores, are what its statements mean.
 pub fn value_is_meaning()
     ensures { (text : List ℕ) (s : List Statement) → IsExpression text s → (before : Float) (arguments : List Float)
-        → (value_by text before arguments ≡ value_of s before arguments) × (arguments_by text before arguments ≡ arguments_after s before arguments) }
+        → (value_by text before arguments ≡ value_of s before arguments)
+        × (arguments_by text before arguments ≡ arguments_after s before arguments) }
 {}
 
 /// The token that is taken from a table is that of a word with which the text begins, and no other

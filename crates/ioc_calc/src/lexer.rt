@@ -2,7 +2,8 @@
 
 ghost use Rattle.std.specs.Prelude.{◌≡◌, ◌+◌, ◌^◌, ◌<◌, ◌≤◌, ◌∷◌, ◌++◌, [], IfSome, OnOk, OnErr, length, drop, slice_index, false};
 ghost use Rattle.ioc_double.specs.Decimal.{decimal_length};
-ghost use Rattle.ioc_calc.specs.Tokens.{hex_digit, with_digit, hexadecimal_from, hexadecimal_at, decimal_of, number_in, token_at, ends_operand, is_space, with_front, tokens_from};
+ghost use Rattle.ioc_calc.specs.Tokens.{hex_digit, with_digit, hexadecimal_from, hexadecimal_at, decimal_of, number_in, token_at};
+ghost use Rattle.ioc_calc.specs.Tokens.{ends_operand, is_space, with_front, tokens_from};
 
 use crate::bits::long_of;
 use crate::parser::Refused;

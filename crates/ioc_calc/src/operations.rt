@@ -1,7 +1,9 @@
 //! What the operators and functions give.
 
 ghost use Rattle.std.specs.Prelude.{◌≡◌};
-ghost use Rattle.ioc_calc.specs.Operations.{truth, is_true, shifted_left, shifted_right, shifted_right_unsigned, smaller, larger, nearest_integer, sign_of_infinity, of_one, of_first, of_next, of_two, power, multiplied, multiplied_once, chosen};
+ghost use Rattle.ioc_calc.specs.Operations.{truth, is_true, shifted_left, shifted_right, shifted_right_unsigned, smaller, larger};
+ghost use Rattle.ioc_calc.specs.Operations.{nearest_integer, sign_of_infinity, of_one, of_first, of_next, of_two, power};
+ghost use Rattle.ioc_calc.specs.Operations.{multiplied, multiplied_once, chosen};
 
 use crate::bits::{bits_of, long_of};
 use crate::operators::{Exponent, Infix, ListFunction, Prefix};

@@ -1,7 +1,9 @@
 //! The parser: from the tokens of an expression to its steps and numbers.
 
 ghost use Rattle.std.specs.Prelude.{◌≡◌, ◌<◌, ◌&&◌, ◌||◌, [], length, option_map, IsTrue};
-ghost use Rattle.ioc_calc.specs.Parsing.{Parsed, at, emitted, with_number, closed, parse, value_with, choice_with, second_with, level_with, tail_with, operator_with, power_with, operand_with, function_with, arguments_with, more_arguments_with};
+ghost use Rattle.ioc_calc.specs.Parsing.{Parsed, at, emitted, with_number, closed, parse, value_with, choice_with, second_with};
+ghost use Rattle.ioc_calc.specs.Parsing.{level_with, tail_with, operator_with, power_with, operand_with, function_with};
+ghost use Rattle.ioc_calc.specs.Parsing.{arguments_with, more_arguments_with};
 ghost use Rattle.ioc_calc.specs.Exponents.{whole, written, closed_exponent, bracketed, in_brackets, behind_minus, exponent_of};
 ghost use Rattle.ioc_calc.specs.Levels.{level_of};
 ghost use Rattle.ioc_calc.specs.Statements.{stored_in, stored_behind, statement_with, statements, ended};

@@ -1,5 +1,6 @@
 //! A queue of limited length.
-ghost use Rattle.std.specs.Prelude.{◌≡◌, ◌<◌, ◌↔◌, [], ◌∷◌, ◌++◌, ℕ, length, option_to_list, IsTrue, IsSome, IfOk, Ok, Err, OnOk, OnErr, IfErr};
+ghost use Rattle.std.specs.Prelude.{◌≡◌, ◌<◌, ◌↔◌, [], ◌∷◌, ◌++◌, ℕ, length, option_to_list, IsTrue, IsSome, IfOk, Ok, Err, OnOk};
+ghost use Rattle.std.specs.Prelude.{OnErr, IfErr};
 
 use std::alloc::{AllocError, Global};
 use std::collections::VecDeque;

@@ -3,7 +3,8 @@ ghost use Rattle.std.specs.Prelude.{◌≡◌, IfOk, IfErr, false, map};
 ghost use Rattle.std.specs.String.{string_bytes};
 ghost use Rattle.std.specs.Vec.Iter.{into_iter_items};
 ghost use Rattle.clap.specs.Words.{HasMatchesOf, app_of, kind_of, rule_of};
-ghost use Rattle.ioc_command_line.specs.CommandLine.{Tells, RefusesWords, program_app, file_rule, definitions_rule, macros_rule, WasNotGiven};
+ghost use Rattle.ioc_command_line.specs.CommandLine.{Tells, RefusesWords, program_app, file_rule, definitions_rule, macros_rule};
+ghost use Rattle.ioc_command_line.specs.CommandLine.{WasNotGiven};
 
 use crate::ending::{Stage, Stop, UsageFault};
 use crate::reason::is_out_of_memory;

@@ -1,6 +1,8 @@
 //! The fields that every record has, and the operations on them.
 ghost use Rattle.std.specs.Prelude.{◌≡◌, ◌<◌, ◌-◌, ◌^◌};
-ghost use Rattle.ioc_dbcommon.specs.Steps.{raised, inherited, blocked, unblocked, shown, waiting, answered, disabled, with_put_mark, with_reprocess_mark, is_passive, disable_kind, constant_put, new_common};
+ghost use Rattle.ioc_dbcommon.specs.Steps.{raised, inherited, blocked, unblocked, shown, waiting, answered, disabled};
+ghost use Rattle.ioc_dbcommon.specs.Steps.{with_put_mark, with_reprocess_mark, is_passive, disable_kind, constant_put};
+ghost use Rattle.ioc_dbcommon.specs.Steps.{new_common};
 
 use crate::body::InputKind;
 use crate::condition::Condition;

@@ -1,6 +1,7 @@
 //! The common fields that a type's body reads and changes.
 ghost use Rattle.std.specs.Prelude.{◌≡◌};
-ghost use Rattle.ioc_dbcommon.specs.Condition.{raised, inherited, settled, first_shown, undefined_tested, new_condition, condition_get, condition_stored};
+ghost use Rattle.ioc_dbcommon.specs.Condition.{raised, inherited, settled, first_shown, undefined_tested, new_condition};
+ghost use Rattle.ioc_dbcommon.specs.Condition.{condition_get, condition_stored};
 
 use crate::parts::{severity_in, text_in, uchar_in};
 use ioc_alarms::Alarms;

@@ -3,7 +3,8 @@ ghost use Rattle.std.specs.Prelude.{◌≡◌, IfOk};
 ghost use Rattle.std.specs.Option.{option_copied};
 ghost use Rattle.std.specs.Prelude.{IsTrue};
 ghost use Rattle.ioc_dbcommon.specs.Wants.{need_of, link_wanted, puts_out};
-ghost use Rattle.ioc_dbcommon.specs.Drive.{new_drive, drive_link, drive_with_link, drive_get, drive_stored, drive_begin, drives, sets, written};
+ghost use Rattle.ioc_dbcommon.specs.Drive.{new_drive, drive_link, drive_with_link, drive_get, drive_stored, drive_begin, drives};
+ghost use Rattle.ioc_dbcommon.specs.Drive.{sets, written};
 
 use crate::body::{Need, Output};
 use crate::condition::Condition;

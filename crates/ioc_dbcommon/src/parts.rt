@@ -1,6 +1,8 @@
 //! The parts of a converted value, by the kind of the field that it is for.
 ghost use Rattle.std.specs.Prelude.{◌≡◌};
-ghost use Rattle.ioc_dbcommon.specs.Parts.{long_in, int64_in, ulong_in, short_in, ushort_in, uchar_in, state_in, double_in, text_in, severity_in, omsl_in, ivoa_in, scan_in, pini_in, priority_in, linr_in, oif_in, oopt_in, dopt_in, selmode_in};
+ghost use Rattle.ioc_dbcommon.specs.Parts.{long_in, int64_in, ulong_in, short_in, ushort_in, uchar_in, state_in, double_in};
+ghost use Rattle.ioc_dbcommon.specs.Parts.{text_in, severity_in, omsl_in, ivoa_in, scan_in, pini_in, priority_in, linr_in};
+ghost use Rattle.ioc_dbcommon.specs.Parts.{oif_in, oopt_in, dopt_in, selmode_in};
 
 use ioc_menus::{Dopt, Ivoa, Linr, Oif, Omsl, Oopt, Pini, Priority, Scan, Selmode, Severity};
 use ioc_values::{Double, Text, Value};

@@ -1,6 +1,7 @@
 //! The entries between the braces of a record.
 ghost use Rattle.std.specs.Prelude.{◌≡◌};
-ghost use Rattle.ioc_dbparse.specs.Statements.{Gives, Fails, field_at, set_at, setting_at, info_at, second_at, alias_in, entry_of, entry_at, body_at, braces_at};
+ghost use Rattle.ioc_dbparse.specs.Statements.{Gives, Fails, field_at, set_at, setting_at, info_at, second_at, alias_in};
+ghost use Rattle.ioc_dbparse.specs.Statements.{entry_of, entry_at, body_at, braces_at};
 ghost use Rattle.ioc_dblex.specs.SeenToken.{seen};
 
 use crate::builder::{BuildError, Builder};

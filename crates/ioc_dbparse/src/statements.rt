@@ -1,6 +1,7 @@
 //! The statements that tokens form.
 ghost use Rattle.std.specs.Prelude.{◌≡◌, ◌<◌, length};
-ghost use Rattle.ioc_dbparse.specs.Statements.{Gives, Fails, named_type, type_at, opened, name_at, record_at, found_at, alias_at, statement_of, statement_at, statements_at, filled};
+ghost use Rattle.ioc_dbparse.specs.Statements.{Gives, Fails, named_type, type_at, opened, name_at, record_at, found_at, alias_at};
+ghost use Rattle.ioc_dbparse.specs.Statements.{statement_of, statement_at, statements_at, filled};
 ghost use Rattle.ioc_dbparse.specs.Rules.{Builds};
 ghost use Rattle.ioc_dblex.specs.SeenToken.{seen};
 

@@ -4,7 +4,8 @@ ghost use Rattle.ioc_dblex.specs.Lexing.{Lexeme};
 ghost use Rattle.ioc_values.specs.declared.error.BadDbKind.TheVariants as kinds;
 ghost use Rattle.ioc_dblex.specs.SeenToken.{seen};
 ghost use Rattle.ioc_dblex.specs.SeenSaid.{said_bytes};
-ghost use Rattle.ioc_dbparse.specs.Statements.{Reads, at, sound, next_at, is_sign_of, expect, is_value, value_at, is_bareword, is_word, text_of, name_line, begins_record, is_left_out, refused_word};
+ghost use Rattle.ioc_dbparse.specs.Statements.{Reads, at, sound, next_at, is_sign_of, expect, is_value, value_at, is_bareword};
+ghost use Rattle.ioc_dbparse.specs.Statements.{is_word, text_of, name_line, begins_record, is_left_out, refused_word};
 
 use ioc_dblex::{Token, TokenKind, TokenText, Tokens, read_escapes};
 use ioc_values::{BadDbKind, DbFault, LoadError};

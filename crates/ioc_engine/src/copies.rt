@@ -36,7 +36,8 @@ impl<B: EngineName<D>, D: Device, C: Drop> Engine<B, D, C> {
         rt: &R,
         desk: &mut Desk<B, D>,
     ) -> Result<RecordCopies<Record>, IocError>
-        ensures copies { IfOk result (λ copies. IsBaseOf (map_of record_rules B.base desk.new.account.seen) copies.base.records.items copies.base.waiting.items) }
+        ensures copies { IfOk result (λ copies. IsBaseOf (map_of record_rules B.base desk.new.account.seen) copies.base.records.items
+            copies.base.waiting.items) }
         ensures place { IfOk result (λ copies. copies.place ≡ length desk.new.account.seen) }
         ensures legal { IfOk result (λ _. IsAccount record_rules B.base desk.new.account.seen) }
         ensures desk { HasSeenMore desk.old.account desk.new.account }

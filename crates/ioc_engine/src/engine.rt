@@ -136,7 +136,8 @@ impl<B: EngineName<D>, D: Device, C: Clock + Drop> Engine<B, D, C> {
         clock: &T,
     ) -> Result<(Reply, Receipt<B>), IocError>
         requires ordinary { is_ordinary event.now ≡ true }
-        ensures done { IfOk result (λ x. (moment : ℕ) × T.gives clock.now moment × WasServed D record_rules B.base D.gives (target_of event.now)
+        ensures done { IfOk result (λ x. (moment : ℕ) × T.gives clock.now moment
+            × WasServed D record_rules B.base D.gives (target_of event.now)
             desk.old.account moment event.now x.0 desk.new.account (world_of desk.new.buffers.store)) }
         ensures receipt { IfOk result (λ x. x.1 ≡ desk.new.account.seen) }
         ensures ended { OnOk result (HaveEnded record_rules B.base (world_of desk.new.buffers.store).ended desk.new.account.seen

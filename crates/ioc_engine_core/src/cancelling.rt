@@ -41,7 +41,8 @@ impl<K: RecordKind + Drop, B: SetsName<K, D>, D: Device> EngineCore<K, B, D> {
         number: NotifyId,
         moment: u64,
     ) -> Result<Option<Receipt<K, B>>, IocError>
-        ensures stale { IfOk result (λ told. IfSome told (λ _. WasNotLive D K.rules B.base number desk.old.account moment (Refused Stale) desk.new.account)) }
+        ensures stale { IfOk result (λ told. IfSome told (λ _. WasNotLive D K.rules B.base number desk.old.account moment
+            (Refused Stale) desk.new.account)) }
         ensures receipt { IfOk result (λ told. IfSome told (λ receipt. receipt ≡ desk.new.account.seen)) }
         ensures live { IfOk result (λ told. IfNone told (desk.new.account ≡ desk.old.account)) }
         ensures buffers { desk.new.buffers ≡ desk.old.buffers }
@@ -71,7 +72,8 @@ impl<K: RecordKind + Drop, B: SetsName<K, D>, D: Device> EngineCore<K, B, D> {
         number: NotifyId,
         moment: u64,
     ) -> Result<(Option<Receipt<K, B>>, Option<BusySet<'_, K, B, D>>), IocError>
-        ensures gave_up { IfOk result (λ x. IfSome x.0 (λ _. WasGivenUp D K.rules B.base number desk.old.account moment Plain desk.new.account)) }
+        ensures gave_up { IfOk result (λ x. IfSome x.0 (λ _. WasGivenUp D K.rules B.base number desk.old.account moment Plain
+            desk.new.account)) }
         ensures receipt { IfOk result (λ x. IfSome x.0 (λ receipt. receipt ≡ desk.new.account.seen)) }
         ensures ended { IfOk result (λ x. IfSome x.0 (λ _. desk.new.buffers.ended_everywhere.items ≡ [])) }
         ensures missing { IfOk result (λ x. IfNone x.0 (desk.new.account ≡ desk.old.account)) }
@@ -120,7 +122,8 @@ impl<K: RecordKind + Drop, B: SetsName<K, D>, D: Device> EngineCore<K, B, D> {
         number: NotifyId,
         clock: &C,
     ) -> Result<(Reply, Receipt<K, B>), IocError>
-        ensures cancelled { IfOk result (λ x. (moment : ℕ) × C.gives clock.now moment × WasCancelled D K.rules B.base number desk.old.account
+        ensures cancelled { IfOk result (λ x. (moment : ℕ) × C.gives clock.now moment
+            × WasCancelled D K.rules B.base number desk.old.account
             moment x.0 desk.new.account) }
         ensures receipt { IfOk result (λ x. x.1 ≡ desk.new.account.seen) }
         ensures ended { OnOk result (desk.new.buffers.ended_everywhere.items ≡ []) }
@@ -145,7 +148,8 @@ impl<K: RecordKind + Drop, B: SetsName<K, D>, D: Device> EngineCore<K, B, D> {
         number: NotifyId,
         clock: &C,
     ) -> Result<(Reply, Receipt<K, B>), IocError>
-        ensures cancelled { IfOk result (λ x. (moment : ℕ) × C.gives clock.now moment × WasCancelled D K.rules B.base number desk.old.account
+        ensures cancelled { IfOk result (λ x. (moment : ℕ) × C.gives clock.now moment
+            × WasCancelled D K.rules B.base number desk.old.account
             moment x.0 desk.new.account) }
         ensures receipt { IfOk result (λ x. x.1 ≡ desk.new.account.seen) }
         ensures ended { OnOk result (desk.new.buffers.ended_everywhere.items ≡ []) }

@@ -86,7 +86,8 @@ impl<K: RecordKind + Drop, B: SetsName<K, D>, D: Device> EngineCore<K, B, D> {
         from: u64,
     ) -> Result<(Option<Excerpt>, Option<BusySet<'_, K, B, D>>), IocError>
         ensures desk { HasSeenMore desk.old.account desk.new.account }
-        ensures given { IfOk result (λ x. IfSome x.0 (λ excerpt. IsGiven from (calls desk.new.account.seen) excerpt.first excerpt.entries.items)) }
+        ensures given { IfOk result (λ x. IfSome x.0 (λ excerpt. IsGiven from
+            (calls desk.new.account.seen) excerpt.first excerpt.entries.items)) }
         ensures refused { IfErr result IsNoPlace }
     {
         let mut taken = self.sets.take_all(rt, desk.alloc)?;

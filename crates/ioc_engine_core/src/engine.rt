@@ -195,7 +195,8 @@ impl<K: RecordKind + Drop, B: SetsName<K, D>, D: Device> EngineCore<K, B, D> {
         ensures learnt { desk.new.account.seen ≡ longer desk.old.account.seen receipt.old }
         ensures own { Begins desk.old.account.seen desk.new.account.seen }
         ensures told { Begins receipt.old desk.new.account.seen }
-        ensures calls { calls_by desk.new.account.number (calls desk.new.account.seen) ≡ calls_by desk.old.account.number (calls desk.old.account.seen) }
+        ensures calls { calls_by desk.new.account.number (calls desk.new.account.seen)
+            ≡ calls_by desk.old.account.number (calls desk.old.account.seen) }
         ensures legal { IsAccount K.rules B.base desk.new.account.seen }
         ensures receipt { receipt.new ≡ receipt.old }
     {
@@ -244,7 +245,8 @@ impl<K: RecordKind + Drop, B: SetsName<K, D>, D: Device> EngineCore<K, B, D> {
         ticket: &mut Option<Ticket<RequestTickets<K, B>>>,
     ) -> Result<(Reply, Receipt<K, B>), IocError>
         requires ordinary { is_ordinary event.now ≡ true }
-        ensures served { IfOk result (λ x. (moment : ℕ) × C.gives clock.now moment × WasServed D K.rules B.base D.gives (target_of event.now) desk.old.account
+        ensures served { IfOk result (λ x. (moment : ℕ) × C.gives clock.now moment
+            × WasServed D K.rules B.base D.gives (target_of event.now) desk.old.account
             moment event.now x.0 desk.new.account (world_of desk.new.buffers.store)) }
         ensures receipt { IfOk result (λ x. x.1 ≡ desk.new.account.seen) }
         ensures ended { OnOk result (HaveEnded K.rules B.base (world_of desk.new.buffers.store).ended desk.new.account.seen
@@ -275,7 +277,8 @@ impl<K: RecordKind + Drop, B: SetsName<K, D>, D: Device> EngineCore<K, B, D> {
         ticket: &mut Option<Ticket<RequestTickets<K, B>>>,
     ) -> Result<(Reply, Receipt<K, B>), IocError>
         requires ordinary { is_ordinary event.now ≡ true }
-        ensures served { IfOk result (λ x. (moment : ℕ) × C.gives clock.now moment × WasServed D K.rules B.base D.gives (target_of event.now) desk.old.account
+        ensures served { IfOk result (λ x. (moment : ℕ) × C.gives clock.now moment
+            × WasServed D K.rules B.base D.gives (target_of event.now) desk.old.account
             moment event.now x.0 desk.new.account (world_of desk.new.buffers.store)) }
         ensures receipt { IfOk result (λ x. x.1 ≡ desk.new.account.seen) }
         ensures ended { OnOk result (HaveEnded K.rules B.base (world_of desk.new.buffers.store).ended desk.new.account.seen
@@ -331,7 +334,8 @@ impl<K: RecordKind + Drop, B: SetsName<K, D>, D: Device> EngineCore<K, B, D> {
         field: FieldNo,
         clock: &C,
     ) -> Result<(FieldText, Receipt<K, B>), IocError>
-        ensures told { IfOk result (λ x. (moment : ℕ) × C.gives clock.now moment × WasTold D K.rules B.base number desk.old.account moment field
+        ensures told { IfOk result (λ x. (moment : ℕ) × C.gives clock.now moment
+            × WasTold D K.rules B.base number desk.old.account moment field
             x.0 desk.new.account) }
         ensures receipt { IfOk result (λ x. x.1 ≡ desk.new.account.seen) }
         ensures refused { IfErr result (GetIsRefused D K.rules B.base self.now number field) }
@@ -356,7 +360,8 @@ impl<K: RecordKind + Drop, B: SetsName<K, D>, D: Device> EngineCore<K, B, D> {
         field: FieldNo,
         clock: &C,
     ) -> Result<(FieldText, Receipt<K, B>), IocError>
-        ensures told { IfOk result (λ x. (moment : ℕ) × C.gives clock.now moment × WasTold D K.rules B.base number desk.old.account moment field
+        ensures told { IfOk result (λ x. (moment : ℕ) × C.gives clock.now moment
+            × WasTold D K.rules B.base number desk.old.account moment field
             x.0 desk.new.account) }
         ensures receipt { IfOk result (λ x. x.1 ≡ desk.new.account.seen) }
         ensures refused { IfErr result (GetIsRefused D K.rules B.base self.now number field) }

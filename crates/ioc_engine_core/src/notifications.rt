@@ -42,7 +42,8 @@ impl<K: RecordKind + Drop, B: SetsName<K, D>, D: Device> EngineCore<K, B, D> {
         put: FieldPut,
         clock: &C,
     ) -> Result<(Reply, Receipt<K, B>), IocError>
-        ensures begun { IfOk result (λ x. (moment : ℕ) × C.gives clock.now moment × WasBegun D K.rules B.base D.gives put.number desk.old.account
+        ensures begun { IfOk result (λ x. (moment : ℕ) × C.gives clock.now moment
+            × WasBegun D K.rules B.base D.gives put.number desk.old.account
             moment put.field put.given x.0 desk.new.account (world_of desk.new.buffers.store)) }
         ensures ended { OnOk result (HaveEnded K.rules B.base (world_of desk.new.buffers.store).ended desk.new.account.seen
             desk.new.buffers.ended_everywhere.items) }
@@ -69,7 +70,8 @@ impl<K: RecordKind + Drop, B: SetsName<K, D>, D: Device> EngineCore<K, B, D> {
         put: &FieldPut,
         clock: &C,
     ) -> Result<(Reply, Receipt<K, B>), IocError>
-        ensures begun { IfOk result (λ x. (moment : ℕ) × C.gives clock.now moment × WasBegun D K.rules B.base D.gives put.now.number desk.old.account
+        ensures begun { IfOk result (λ x. (moment : ℕ) × C.gives clock.now moment
+            × WasBegun D K.rules B.base D.gives put.now.number desk.old.account
             moment put.now.field put.now.given x.0 desk.new.account (world_of desk.new.buffers.store)) }
         ensures ended { OnOk result (HaveEnded K.rules B.base (world_of desk.new.buffers.store).ended desk.new.account.seen
             desk.new.buffers.ended_everywhere.items) }

@@ -86,7 +86,8 @@ impl<K: RecordKind + Drop, B: SetsName<K, D>, D: Device> EngineCore<K, B, D> {
         rt: &R,
         desk: &mut Desk<K, B, D>,
     ) -> Result<Vec<Vec<RecordNo>>, IocError>
-        ensures seen { IfOk result (λ all. All (λ v. IsPartSeen D K.rules B.base desk.old.account.seen desk.new.account.seen v.items) all.items) }
+        ensures seen { IfOk result (λ all. All (λ v. IsPartSeen D K.rules B.base desk.old.account.seen desk.new.account.seen v.items)
+            all.items) }
         ensures desk { HasSeenMore desk.old.account desk.new.account }
         ensures each { IfOk result (λ all. (q : ℕ) → q < self.now → Any (λ v. Contains v.items q) all.items) }
         ensures refused { IfErr result (λ error. (error ≡ Stopped) ⊎ (error ≡ NoMemory)) }

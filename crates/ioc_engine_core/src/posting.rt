@@ -73,7 +73,8 @@ impl<K: RecordKind + Drop, B: SetsName<K, D>, D: Device> EngineCore<K, B, D> {
     ) -> Result<Receipt<K, B>, IocError>
         requires posting { is_posting posting ≡ true }
         requires count { requests_of posting ≡ length desk.old.walked.items }
-        ensures called { OnOk result (HasCalled K.rules B.base desk.old.account (record { moment = moment; call = posting; answers = [] }) desk.new.account) }
+        ensures called { OnOk result (HasCalled K.rules B.base desk.old.account
+            (record { moment = moment; call = posting; answers = [] }) desk.new.account) }
         ensures receipt { IfOk result (λ receipt. receipt ≡ desk.new.account.seen) }
         ensures refused { IfErr result IsNoPlace }
         ensures err { OnErr result (desk.new.account ≡ desk.old.account) }
@@ -108,7 +109,8 @@ impl<K: RecordKind + Drop, B: SetsName<K, D>, D: Device> EngineCore<K, B, D> {
         clock: &C,
     ) -> Result<(u64, Receipt<K, B>), IocError>
         ensures posted { IfOk result (λ x. (moment : ℕ) × C.gives clock.now moment
-            × HasCalled K.rules B.base desk.old.account (record { moment = moment; call = call.Post name x.0; answers = [] }) desk.new.account) }
+            × HasCalled K.rules B.base desk.old.account
+            (record { moment = moment; call = call.Post name x.0; answers = [] }) desk.new.account) }
         ensures receipt { IfOk result (λ x. x.1 ≡ desk.new.account.seen) }
         ensures refused { IfErr result (λ error. (error ≡ Stopped) ⊎ IsNoPlace error) }
         ensures err { OnErr result (desk.new.account ≡ desk.old.account) }
@@ -139,7 +141,8 @@ impl<K: RecordKind + Drop, B: SetsName<K, D>, D: Device> EngineCore<K, B, D> {
         clock: &C,
     ) -> Result<(u64, Receipt<K, B>), IocError>
         ensures posted { IfOk result (λ x. (moment : ℕ) × C.gives clock.now moment
-            × HasCalled K.rules B.base desk.old.account (record { moment = moment; call = call.Interrupt (take 119 word.now) x.0; answers = [] }) desk.new.account) }
+            × HasCalled K.rules B.base desk.old.account
+            (record { moment = moment; call = call.Interrupt (take 119 word.now) x.0; answers = [] }) desk.new.account) }
         ensures receipt { IfOk result (λ x. x.1 ≡ desk.new.account.seen) }
         ensures refused { IfErr result (λ error. (error ≡ Stopped) ⊎ IsNoPlace error) }
         ensures err { OnErr result (desk.new.account ≡ desk.old.account) }

@@ -30,7 +30,8 @@ impl<K: RecordKind + Drop, B: SetsName<K, D>, D: Device> EngineCore<K, B, D> {
         rt: &R,
         desk: &mut Desk<K, B, D>,
     ) -> Result<RecordCopies<K>, IocError>
-        ensures copies { IfOk result (λ copies. IsBaseOf (map_of K.rules B.base desk.new.account.seen) copies.base.records.items copies.base.waiting.items) }
+        ensures copies { IfOk result (λ copies. IsBaseOf (map_of K.rules B.base desk.new.account.seen) copies.base.records.items
+            copies.base.waiting.items) }
         ensures place { IfOk result (λ copies. copies.place ≡ length desk.new.account.seen) }
         ensures legal { IfOk result (λ _. IsAccount K.rules B.base desk.new.account.seen) }
         ensures desk { HasSeenMore desk.old.account desk.new.account }
@@ -60,7 +61,8 @@ impl<K: RecordKind + Drop, B: SetsName<K, D>, D: Device> EngineCore<K, B, D> {
         rt: &R,
         desk: &mut Desk<K, B, D>,
     ) -> Result<(Option<RecordCopies<K>>, Option<BusySet<'_, K, B, D>>), AllocError>
-        ensures copies { IfOk result (λ x. IfSome x.0 (λ copies. IsBaseOf (map_of K.rules B.base desk.new.account.seen) copies.base.records.items copies.base.waiting.items)) }
+        ensures copies { IfOk result (λ x. IfSome x.0 (λ copies. IsBaseOf
+            (map_of K.rules B.base desk.new.account.seen) copies.base.records.items copies.base.waiting.items)) }
         ensures place { IfOk result (λ x. IfSome x.0 (λ copies. copies.place ≡ length desk.new.account.seen)) }
         ensures legal { IfOk result (λ x. IfSome x.0 (λ _. IsAccount K.rules B.base desk.new.account.seen)) }
         ensures desk { HasSeenMore desk.old.account desk.new.account }

@@ -1,6 +1,8 @@
 //! The rows of the type-specific fields, by the groups of types that share them.
 ghost use Rattle.std.specs.Prelude.{◌≡◌};
-ghost use Rattle.ioc_fields.specs.Table.{numeric_row, input_row, output_row_with, numeric_output_row, state_row, two_state_row, multi_state_row, text_row, fanout_row, analog_row, scale_row, ai_row, ao_row, input_slot_row, inputs_row, calc_row, calcout_row, sel_row, own_row};
+ghost use Rattle.ioc_fields.specs.Table.{numeric_row, input_row, output_row_with, numeric_output_row, state_row, two_state_row};
+ghost use Rattle.ioc_fields.specs.Table.{multi_state_row, text_row, fanout_row, analog_row, scale_row, ai_row, ao_row};
+ghost use Rattle.ioc_fields.specs.Table.{input_slot_row, inputs_row, calc_row, calcout_row, sel_row, own_row};
 
 use crate::field_kind::{FieldKind, LinkRole};
 use crate::field_no::{FieldSlot, OwnField};

@@ -1,7 +1,10 @@
 //! Laws of held records. The contract of each function is a law; its body only calls the functions
 //! whose laws it rests on.
 ghost use Rattle.ioc_journal.specs.EventLaws.{EventLaws};
-ghost use Rattle.ioc_journal.specs.Laws.{Lasts, LiveLasts, OneMore, HoldersMove, HoldersAreFew, HeldAreFewer, EndsOver, EndsLast, NobodyHas, PlaceForOneMore, OneMayBegin, CancelIsHeld, BeginningIsHeld, Asks, HeldAlike, Falls, Gathers, Opens, HoldsAll, Parts, Joins, LinkParts, LinkJoins, LinkMoves, RescansApart, BeginsSound, StaysSound, Replays};
+ghost use Rattle.ioc_journal.specs.Laws.{Lasts, LiveLasts, OneMore, HoldersMove, HoldersAreFew, HeldAreFewer, EndsOver, EndsLast};
+ghost use Rattle.ioc_journal.specs.Laws.{NobodyHas, PlaceForOneMore, OneMayBegin, CancelIsHeld, BeginningIsHeld, Asks, HeldAlike};
+ghost use Rattle.ioc_journal.specs.Laws.{Falls, Gathers, Opens, HoldsAll, Parts, Joins, LinkParts, LinkJoins, LinkMoves};
+ghost use Rattle.ioc_journal.specs.Laws.{RescansApart, BeginsSound, StaysSound, Replays};
 
 use ioc_events::call_rules::{
     calls_are_local, calls_count_holders, calls_end_what_nobody_has, calls_keep_records,

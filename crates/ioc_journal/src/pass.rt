@@ -3,7 +3,8 @@ ghost use Rattle.std.specs.Prelude.{◌≡◌, ℕ, List, [], ◌∷◌, ◌++�
 ghost use Rattle.crossbeam_utils.specs.Register.{Forks, Turns};
 ghost use Rattle.crossbeam_utils.specs.Seq.{cell_view};
 ghost use Rattle.ioc_journal.specs.Key.{Key, Has};
-ghost use Rattle.ioc_journal.specs.Line.{keeper, holder, nobody, copied, claiming, claimed, owning, shown, took, longer, learnt, added, given, noted, Continues, Begins, IsOneList};
+ghost use Rattle.ioc_journal.specs.Line.{keeper, holder, nobody, copied, claiming, claimed, owning, shown, took, longer, learnt};
+ghost use Rattle.ioc_journal.specs.Line.{added, given, noted, Continues, Begins, IsOneList};
 
 use crate::cell::{
     Again, Appends, Cell, Claims, KeyPass, Keys, Learns, NoteName, Parts, Rest, Shows, TakesIn,

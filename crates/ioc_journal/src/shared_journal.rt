@@ -4,9 +4,11 @@ ghost use Rattle.crossbeam_utils.specs.Seq.{cell_view};
 ghost use Rattle.ioc_journal.specs.declared.entry.Note.{Note};
 ghost use Rattle.ioc_journal.specs.Key.{Key, Has};
 ghost use Rattle.ioc_journal.specs.Line.{holder};
-ghost use Rattle.ioc_journal.specs.Account.{IsHolder, AreNoDesks, AreRecords, MayFollow, BothMayFollow, MayBegin, HasCalled, Added, AddedByBoth, AreKnown, AreMerged, calls, calls_by};
+ghost use Rattle.ioc_journal.specs.Account.{IsHolder, AreNoDesks, AreRecords, MayFollow, BothMayFollow, MayBegin, HasCalled};
+ghost use Rattle.ioc_journal.specs.Account.{Added, AddedByBoth, AreKnown, AreMerged, calls, calls_by};
 ghost use Rattle.ioc_journal.specs.Places.{IsNoPlace};
-ghost use Rattle.ioc_journal.specs.Counting.{MayAppend, BothMayAppend, MaySend, BothMaySend, MayCount, BothMayCount, IsBacked, IsGivenBack, IsFew};
+ghost use Rattle.ioc_journal.specs.Counting.{MayAppend, BothMayAppend, MaySend, BothMaySend, MayCount, BothMayCount, IsBacked};
+ghost use Rattle.ioc_journal.specs.Counting.{IsGivenBack, IsFew};
 ghost use Rattle.ioc_ledger.specs.Shared.{MayDivide, AreDivided};
 ghost use Rattle.ioc_values.specs.declared.error.IocError.TheVariants.{JournalFull};
 

@@ -78,7 +78,8 @@ impl Auditor {
         desks: DeskCounts,
     ) -> Result<Self, AllocError>
         requires { IsSettled record_rules (first_world records.items) }
-        ensures world { IfOk result (λ a. world_of a.map ≡ world_with records.items event.follow_ups.notifications.live.live event.follow_ups.notifications.waiting.waiting) }
+        ensures world { IfOk result (λ a. world_of a.map ≡ world_with records.items event.follow_ups.notifications.live.live
+            event.follow_ups.notifications.waiting.waiting) }
         ensures place { IfOk result (λ a. a.place ≡ place) }
         ensures desks { IfOk result (λ a. a.desks ≡ desks) }
     {

@@ -155,7 +155,8 @@ impl<K: RecordKind> Store for PlayedMap<K> {
     type Device = Playing;
 
     ghost use Rattle.ioc_journal_audit.specs.PlayedMap.{world_of, given_of, with_record, with_follow_ups};
-    ghost use Rattle.ioc_journal_audit.specs.PlayedMapLaws.{with_record-world, with_record-given, calls-given, moment-given, with_follow_ups-world, with_follow_ups-given};
+    ghost use Rattle.ioc_journal_audit.specs.PlayedMapLaws.{with_record-world, with_record-given, calls-given, moment-given};
+    ghost use Rattle.ioc_journal_audit.specs.PlayedMapLaws.{with_follow_ups-world, with_follow_ups-given};
 
     ghost world = { world_of };
 

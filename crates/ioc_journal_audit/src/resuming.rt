@@ -178,7 +178,8 @@ impl Auditor {
     ///
     /// [`AllocError`] if allocation fails.
     pub fn resume(alloc: Global, base: Base, place: u64) -> Result<Option<Self>, AllocError>
-        ensures { IfOk result (λ o. IfSome o (HasAudited (start_of place base.desks.items) (base_world base.records.items base.waiting.items) [])) }
+        ensures { IfOk result (λ o. IfSome o (HasAudited (start_of place base.desks.items)
+            (base_world base.records.items base.waiting.items) [])) }
     {
         let Base {
             records,

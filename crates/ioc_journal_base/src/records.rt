@@ -1,7 +1,9 @@
 //! The lines of a record's state, and the record that they lead to.
 ghost use Rattle.std.specs.Prelude.{◌≡◌, ◌++◌, ◌∷◌, [], IfOk, OnOk};
 ghost use Rattle.rec_types.specs.Record.{Record};
-ghost use Rattle.ioc_journal_base.specs.Items.{part_words, is_same, is_same_part, with_expression, fresh_of, field_items, record_items, part_for, given_part, chosen_part, hidden_given, with_chosen, rebuilt};
+ghost use Rattle.ioc_journal_base.specs.Items.{part_words, is_same, is_same_part, with_expression, fresh_of, field_items};
+ghost use Rattle.ioc_journal_base.specs.Items.{record_items, part_for, given_part, chosen_part, hidden_given, with_chosen};
+ghost use Rattle.ioc_journal_base.specs.Items.{rebuilt};
 
 use crate::parts::{hidden_of, part_of, set_hidden, set_part};
 use ioc_fields::field_list::fields;

@@ -4,7 +4,8 @@ ghost use Rattle.std.specs.Prelude.{◌≡◌, ◌++◌, ◌∷◌, decimal, OnO
 ghost use Rattle.ioc_fields.specs.Names.{name_of};
 ghost use Rattle.ioc_journal_file.specs.Bases.{option_text, part_text, state_text, item_line, IsItem};
 ghost use Rattle.ioc_journal_file.specs.Form.{value_text};
-ghost use Rattle.ioc_journal_file.specs.BaseReading.{some_at, option_at, value_part_at, link_part_at, part_at, state_at, field_item_at, state_item_at, waiting_item_at, desk_item_at, item_at};
+ghost use Rattle.ioc_journal_file.specs.BaseReading.{some_at, option_at, value_part_at, link_part_at, part_at, state_at};
+ghost use Rattle.ioc_journal_file.specs.BaseReading.{field_item_at, state_item_at, waiting_item_at, desk_item_at, item_at};
 ghost use Rattle.ioc_journal_file.specs.Reading.{Gives};
 
 use crate::links::{add_field, add_link_field, field_at, link_field_at};

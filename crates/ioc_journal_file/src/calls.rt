@@ -5,7 +5,8 @@ ghost use Rattle.ioc_journal_file.specs.Texts.{quoted};
 ghost use Rattle.ioc_journal_file.specs.Lists.{call_word};
 ghost use Rattle.ioc_journal_file.specs.Form.{input_text, finished_text, link_field_text, event_text, call_text};
 ghost use Rattle.ioc_journal_file.specs.Reading.{Gives};
-ghost use Rattle.ioc_journal_file.specs.Calls.{replied_at, process_at, put_at, complete_at, notify_at, cancel_at, get_at, is_live_at, relink_at, post_at, interrupt_at, call_by, call_at};
+ghost use Rattle.ioc_journal_file.specs.Calls.{replied_at, process_at, put_at, complete_at, notify_at, cancel_at, get_at};
+ghost use Rattle.ioc_journal_file.specs.Calls.{is_live_at, relink_at, post_at, interrupt_at, call_by, call_at};
 
 use crate::kinds::CallKind;
 use crate::links::{add_field, add_link_field, field_at, link_field_at};
@@ -70,7 +71,8 @@ fn add_notify(
     value: &Input,
 ) -> Result<(), AllocError>
     ensures { OnOk result (out.new.items
-        ≡ out.old.items ++ call_word CallKind.Notify ++ 9 ∷ decimal «record» ++ 9 ∷ decimal notification ++ 9 ∷ name_of field ++ 9 ∷ input_text value.now) }
+        ≡ out.old.items ++ call_word CallKind.Notify ++ 9 ∷ decimal «record» ++ 9 ∷ decimal notification ++ 9 ∷ name_of field
+        ++ 9 ∷ input_text value.now) }
 {
     add_kind(out, CallKind::Notify, record.index() as u64)?;
     out.push(b'\t')?;

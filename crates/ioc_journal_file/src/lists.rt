@@ -1,6 +1,7 @@
 //! Values of which there are few, and their words.
 ghost use Rattle.std.specs.Prelude.{◌≡◌};
-ghost use Rattle.ioc_journal_file.specs.Lists.{field_of, error_of, outcome_word, outcome_of, mode_word, mode_of, kind_word, kind_of, call_word, call_of};
+ghost use Rattle.ioc_journal_file.specs.Lists.{field_of, error_of, outcome_word, outcome_of, mode_word, mode_of, kind_word};
+ghost use Rattle.ioc_journal_file.specs.Lists.{kind_of, call_word, call_of};
 
 use crate::kinds::{CallKind, ValueKind};
 use crate::words::is_word;

@@ -4,7 +4,8 @@ ghost use Rattle.std.specs.Fmt.{signed_decimal};
 ghost use Rattle.ioc_journal_file.specs.Lists.{kind_word};
 ghost use Rattle.ioc_journal_file.specs.Form.{value_text, input_text, finished_text, answer_text};
 ghost use Rattle.ioc_journal_file.specs.Reading.{Gives};
-ghost use Rattle.ioc_journal_file.specs.Parts.{number_in, double_at, value_by, value_at, value_input_at, input_at, done_at, finished_at, value_answer_at, answer_at};
+ghost use Rattle.ioc_journal_file.specs.Parts.{number_in, double_at, value_by, value_at, value_input_at, input_at, done_at};
+ghost use Rattle.ioc_journal_file.specs.Parts.{finished_at, value_answer_at, answer_at};
 
 use crate::bits::{add_double, double_of_bits};
 use crate::kinds::ValueKind;

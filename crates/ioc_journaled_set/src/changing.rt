@@ -1,5 +1,6 @@
 //! A link change of a record of one of three sets, passed by reference.
-ghost use Rattle.std.specs.Prelude.{◌≡◌, ◌⊎◌, ◌<◌, ◌≤◌, ◌-◌, ◌^◌, ◌∷◌, ◌++◌, ℕ, false, [], length, IsSome, IfOk, IfErr, OnOk, OnErr, Contains};
+ghost use Rattle.std.specs.Prelude.{◌≡◌, ◌⊎◌, ◌<◌, ◌≤◌, ◌-◌, ◌^◌, ◌∷◌, ◌++◌, ℕ, false, [], length, IsSome, IfOk, IfErr, OnOk};
+ghost use Rattle.std.specs.Prelude.{OnErr, Contains};
 ghost use Rattle.std.specs.FinMap.{get};
 ghost use Rattle.ioc_values.specs.declared.error.IocError.TheVariants.{NoField};
 ghost use Rattle.ioc_dbcommon.specs.Links.{use_of, named_by, record_named};

@@ -40,7 +40,8 @@ pub fn copies_on<K: RecordKind + Drop, B: SetsName<K, D>, D: Device, R: Wait>(
     requires known { (n : ℕ) → Has B.base n → n < count }
     ensures same { map (λ h. h.set) sets.new ≡ map (λ h. h.set) sets.old }
     ensures desk { HasSeenMore desk.old desk.new }
-    ensures copies { IfOk result (λ o. IfSome o (λ c. IsBaseOf (map_of K.rules B.base desk.new.seen) c.base.records.items c.base.waiting.items)) }
+    ensures copies { IfOk result (λ o. IfSome o (λ c. IsBaseOf (map_of K.rules B.base desk.new.seen) c.base.records.items
+        c.base.waiting.items)) }
     ensures place { IfOk result (λ o. IfSome o (λ c. c.place ≡ length desk.new.seen)) }
     ensures legal { IfOk result (λ o. IfSome o (λ _. IsAccount K.rules B.base desk.new.seen)) }
 {

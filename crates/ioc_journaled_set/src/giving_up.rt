@@ -11,7 +11,8 @@ ghost use Rattle.crossbeam_utils.specs.Seq.{cell_view};
 ghost use Rattle.ioc_set.specs.SetState.{SetState};
 ghost use Rattle.ioc_journaled_set.specs.Holding.{HeldView, held_view, seen_by};
 ghost use Rattle.ioc_journaled_set.specs.Sets.{AreItsSets};
-ghost use Rattle.ioc_journaled_set.specs.GivingUp.{AreSame, EachIsLent, EachIsCounted, HaveNotAll, sets_of, AreSameSets, HeldGaveUp, GaveUpOn};
+ghost use Rattle.ioc_journaled_set.specs.GivingUp.{AreSame, EachIsLent, EachIsCounted, HaveNotAll, sets_of, AreSameSets};
+ghost use Rattle.ioc_journaled_set.specs.GivingUp.{HeldGaveUp, GaveUpOn};
 ghost use Rattle.ioc_journaled_set.specs.SameDevice.{IsDeviceOf};
 ghost use Rattle.ioc_journal.specs.Account.{puts_key, Pass};
 

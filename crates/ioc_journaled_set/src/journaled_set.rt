@@ -14,7 +14,8 @@ ghost use Rattle.ioc_journal.specs.Places.{IsNoPlace};
 ghost use Rattle.ioc_set.specs.SetStore.{world_of};
 ghost use Rattle.ioc_journal.specs.Account.{number_begun, HasSeenMore, IsAccount};
 ghost use Rattle.ioc_journaled_set.specs.Puts.{BeginsUnder, HaveEnded};
-ghost use Rattle.ioc_journaled_set.specs.Holding.{is_on_record, IsCounted, IsLent, IsOwner, KeepsDevices, held_view, numbers_of, Serves, Tells, IsNoCall};
+ghost use Rattle.ioc_journaled_set.specs.Holding.{is_on_record, IsCounted, IsLent, IsOwner, KeepsDevices, held_view, numbers_of};
+ghost use Rattle.ioc_journaled_set.specs.Holding.{Serves, Tells, IsNoCall};
 ghost use Rattle.ioc_journaled_set.specs.SameDevice.{IsDeviceOf};
 
 use crate::call_laws::calls_have_laws;

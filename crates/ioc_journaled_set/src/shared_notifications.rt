@@ -1,5 +1,6 @@
 //! The puts with notification of all lock sets, in one table.
-ghost use Rattle.std.specs.Prelude.{◌≡◌, ◌⊎◌, ◌↔◌, ◌+◌, ◌≤◌, ◌<◌, ◌^◌, ◌∷◌, ◌++◌, ℕ, [], true, false, length, not, IfOk, IfErr, OnErr, IfNone, List, Some, Contains, IsTrue};
+ghost use Rattle.std.specs.Prelude.{◌≡◌, ◌⊎◌, ◌↔◌, ◌+◌, ◌≤◌, ◌<◌, ◌^◌, ◌∷◌, ◌++◌, ℕ, [], true, false, length, not, IfOk, IfErr};
+ghost use Rattle.std.specs.Prelude.{OnErr, IfNone, List, Some, Contains, IsTrue};
 ghost use Rattle.std.specs.List.{filter};
 ghost use Rattle.std.specs.Option.{IfSome};
 ghost use Rattle.std.specs.Sync.Mutex.{mutex_guard_value};
@@ -10,9 +11,11 @@ ghost use Rattle.ioc_journal.specs.declared.entry.Note.{Note};
 ghost use Rattle.ioc_journal.specs.Counting.{BothMaySend, BothMayCount, IsBacked, IsGivenBack, once_in};
 ghost use Rattle.ioc_journaled_set.specs.Sent.{AreTicketsFor};
 ghost use Rattle.ioc_journal.specs.Line.{holder};
-ghost use Rattle.ioc_journal.specs.Account.{IsHolder, AreRecords, BothMayFollow, HasCalled, AddedByBoth, number_begun, number_given, puts_key};
+ghost use Rattle.ioc_journal.specs.Account.{IsHolder, AreRecords, BothMayFollow, HasCalled, AddedByBoth, number_begun};
+ghost use Rattle.ioc_journal.specs.Account.{number_given, puts_key};
 ghost use Rattle.ioc_set.specs.SetStore.{world_of};
-ghost use Rattle.ioc_journaled_set.specs.Puts.{puts_view, MayTake, NoneMayTake, CanBegin, NoneMayBegin, NoneIsAbove, AreTaken, AreCounted, AreMoved};
+ghost use Rattle.ioc_journaled_set.specs.Puts.{puts_view, MayTake, NoneMayTake, CanBegin, NoneMayBegin, NoneIsAbove, AreTaken};
+ghost use Rattle.ioc_journaled_set.specs.Puts.{AreCounted, AreMoved};
 ghost use Rattle.ioc_journaled_set.specs.PutPlaces.{without};
 
 use crate::journal_access::JournalAccess;

@@ -1,5 +1,6 @@
 //! Watched records of journaled sets. Each is marked, or is what it was after the calls up to which it was told last.
-ghost use Rattle.std.specs.Prelude.{◌≡◌, ◌≤◌, ◌+◌, ◌++◌, ◌∷◌, ℕ, [], length, true, None, map, if◌then◌else◌, Contains, IfOk, IfErr, OnOk, OnErr};
+ghost use Rattle.std.specs.Prelude.{◌≡◌, ◌≤◌, ◌+◌, ◌++◌, ◌∷◌, ℕ, [], length, true, None, map, if◌then◌else◌, Contains, IfOk};
+ghost use Rattle.std.specs.Prelude.{IfErr, OnOk, OnErr};
 ghost use Rattle.std.specs.List.{list_any};
 ghost use Rattle.std.specs.Vec.{vec_capacity};
 ghost use Rattle.ioc_events.specs.Step.{names};
@@ -77,7 +78,8 @@ impl<K: RecordKind + Drop, B: SetsName<K, D>, D: Device> JournaledSet<K, B, D> {
     pub fn watch(&mut self, alloc: Global, cell: &Cell, number: RecordNo) -> Result<(), AllocError>
         requires table { cell.now.table.shared.table_id ≡ B.table }
         requires there { Contains (numbers_of self.old) number }
-        ensures ok { OnOk result (self.new ≡ watching self.old.set self.old.seen (self.old.watched ++ newly_watched number self.old.seen ∷ [])) }
+        ensures ok { OnOk result (self.new ≡ watching self.old.set self.old.seen (self.old.watched
+            ++ newly_watched number self.old.seen ∷ [])) }
         ensures err { OnErr result (self.new ≡ self.old) }
     {
         let Some(mut pass) = self.pass.take() else {

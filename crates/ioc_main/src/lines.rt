@@ -80,7 +80,8 @@ fn say<S: Session, W: Write>(
 ) -> Result<(), LineFault>
     requires room { length said.old.replies + 256 ≤ 4096 }
     requires none { said.old.more.items ≡ [] }
-    ensures ok { S.is_determined session.old → OnOk result (AnswersLine (W.contents out.old) (still said.old.replies (S.transcript session.old)) line.now
+    ensures ok { S.is_determined session.old → OnOk result (AnswersLine (W.contents out.old) (still said.old.replies
+        (S.transcript session.old)) line.now
         (W.contents out.new) (still said.new.replies (S.transcript session.new))) }
     ensures room { OnOk result (length said.new.replies + 256 ≤ 4096) }
     ensures none { OnOk result (said.new.more.items ≡ []) }
@@ -140,7 +141,8 @@ fn answer_lines<S: Session, W: Write>(
 ) -> Result<(), LineFault>
     requires room { length said.old.replies + 256 ≤ 4096 }
     requires none { said.old.more.items ≡ [] }
-    ensures ok { S.is_determined session.old → OnOk result (AnswersPiece (W.contents out.old) (still said.old.replies (S.transcript session.old)) line.old piece.now
+    ensures ok { S.is_determined session.old → OnOk result (AnswersPiece (W.contents out.old) (still said.old.replies
+        (S.transcript session.old)) line.old piece.now
         (W.contents out.new) (still said.new.replies (S.transcript session.new)) line.new) }
     ensures room { OnOk result (length said.new.replies + 256 ≤ 4096) }
     ensures none { OnOk result (said.new.more.items ≡ []) }
@@ -175,7 +177,8 @@ fn feed<S: Session, W: Write>(
 ) -> Result<(), LineFault>
     requires room { length said.old.replies + 256 ≤ 4096 }
     requires none { said.old.more.items ≡ [] }
-    ensures ok { S.is_determined session.old → OnOk result (AnswersPiece (W.contents out.old) (still said.old.replies (S.transcript session.old)) line.old piece.now
+    ensures ok { S.is_determined session.old → OnOk result (AnswersPiece (W.contents out.old) (still said.old.replies
+        (S.transcript session.old)) line.old piece.now
         (W.contents out.new) (still said.new.replies (S.transcript session.new)) line.new) }
     ensures written { OnOk result (said.new.replies ≡ []) }
     ensures none { OnOk result (said.new.more.items ≡ []) }
@@ -197,7 +200,8 @@ fn answer_rest<S: Session, W: Write>(
 ) -> Result<(), LineFault>
     requires room { length said.old.replies + 256 ≤ 4096 }
     requires none { said.old.more.items ≡ [] }
-    ensures ok { S.is_determined session.old → OnOk result (Writes (W.contents out.old) (to_come (still said.old.replies (S.transcript session.old)) line.old [])
+    ensures ok { S.is_determined session.old → OnOk result (Writes (W.contents out.old) (to_come (still said.old.replies
+        (S.transcript session.old)) line.old [])
         (W.contents out.new) said.new.replies) }
     ensures room { OnOk result (length said.new.replies + 256 ≤ 4096) }
     ensures none { OnOk result (said.new.more.items ≡ []) }
@@ -261,7 +265,8 @@ pub fn run_script<S: Session, R: Read + Drop, W: Write>(
     mut script: R,
     out: &mut W,
 ) -> Result<(), ScriptFault>
-    ensures ok { S.is_determined session.old → OnOk result (IfSome (R.remaining script) (λ text. Appends (W.contents out.old) (W.contents out.new)
+    ensures ok { S.is_determined session.old → OnOk result (IfSome (R.remaining script)
+        (λ text. Appends (W.contents out.old) (W.contents out.new)
         (S.transcript session.old (lines_of text)))) }
     ensures determined { S.is_determined session.old → S.is_determined session.new }
     ensures err { S.is_determined session.old → IfErr result (λ fault. IfSome (R.remaining script)

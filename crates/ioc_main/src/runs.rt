@@ -21,7 +21,8 @@ fn run_whole<S: Session + Drop, R: Read + Drop, W: Write>(
     script: R,
     out: &mut W,
 ) -> Result<(), ScriptFault>
-    ensures ok { S.is_determined session → OnOk result (IfSome (R.remaining script) (λ text. Appends (W.contents out.old) (W.contents out.new)
+    ensures ok { S.is_determined session → OnOk result (IfSome (R.remaining script)
+        (λ text. Appends (W.contents out.old) (W.contents out.new)
         (S.transcript session (lines_of text)))) }
     ensures err { S.is_determined session → IfErr result (λ fault. IfSome (R.remaining script)
         (λ text. StopsScript fault (W.contents out.old) (S.transcript session (lines_of text)) (W.contents out.new))) }

@@ -1,7 +1,10 @@
 //! The numbers of the choices, which are counted from 0 in the order of each menu. Record
 //! Reference Manual, "Menu Types".
 ghost use Rattle.std.specs.Prelude.{◌≡◌, slice_get};
-ghost use Rattle.ioc_menus.specs.Numbers.{severity_number, severities, status_number, statuses, scan_number, scans, priority_number, priorities, pini_number, pinis, omsl_number, omsls, ivoa_number, ivoas, selm_number, selms, linr_number, linrs, oif_number, oifs, oopt_number, oopts, dopt_number, dopts, selmode_number, selmodes, IsNumbered};
+ghost use Rattle.ioc_menus.specs.Numbers.{severity_number, severities, status_number, statuses, scan_number, scans};
+ghost use Rattle.ioc_menus.specs.Numbers.{priority_number, priorities, pini_number, pinis, omsl_number, omsls, ivoa_number};
+ghost use Rattle.ioc_menus.specs.Numbers.{ivoas, selm_number, selms, linr_number, linrs, oif_number, oifs, oopt_number, oopts};
+ghost use Rattle.ioc_menus.specs.Numbers.{dopt_number, dopts, selmode_number, selmodes, IsNumbered};
 
 use crate::dopt::Dopt;
 use crate::ivoa::Ivoa;

@@ -6,7 +6,8 @@ ghost use Rattle.ioc_process.specs.Ready.{IsReady, IsReadyFor, LeadsTo, TakesTur
 ghost use Rattle.ioc_process.specs.Runs.{IsStanding};
 ghost use Rattle.ioc_dbcommon.specs.declared.body.Output.TheVariants.{WriteLink};
 ghost use Rattle.ioc_dbcommon.specs.declared.link_field.LinkUse.TheVariants.{Standing};
-ghost use Rattle.ioc_process.specs.Processing.{processed, request, completed, faulted, finished, after_output, put_out, write_link, wrote, after_writing, followed_each};
+ghost use Rattle.ioc_process.specs.Processing.{processed, request, completed, faulted, finished, after_output, put_out};
+ghost use Rattle.ioc_process.specs.Processing.{write_link, wrote, after_writing, followed_each};
 ghost use Rattle.ioc_process.specs.Frames.{then_finished, remaining, after_turn, turn_of};
 
 use crate::fast_path::finish_fast;

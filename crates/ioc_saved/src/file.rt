@@ -4,7 +4,8 @@ ghost use Rattle.ioc_saved.specs.declared.value.SavedValue.{SavedValue};
 ghost use Rattle.ioc_saved.specs.declared.fault.SavedFault.TheVariants.{NoEnd};
 ghost use Rattle.ioc_saved.specs.Words.{lines_of};
 ghost use Rattle.ioc_saved.specs.Lines.{is_saveable, saved_in};
-ghost use Rattle.ioc_saved.specs.Files.{head, value_line, end_line, file_of, is_whole, is_end, values_of, values_in, Reads, EndsWell, AllSaveable};
+ghost use Rattle.ioc_saved.specs.Files.{head, value_line, end_line, file_of, is_whole, is_end, values_of, values_in, Reads};
+ghost use Rattle.ioc_saved.specs.Files.{EndsWell, AllSaveable};
 
 use crate::fault::SavedFault;
 use crate::line::{SavedLine, add_row, line_in};

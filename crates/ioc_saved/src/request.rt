@@ -1,7 +1,8 @@
 //! The lines of request files.
 ghost use Rattle.std.specs.Prelude.{◌≡◌, List, ℕ};
 ghost use Rattle.ioc_saved.specs.Lines.{Gives};
-ghost use Rattle.ioc_saved.specs.Requests.{is_blank, unblanked, word_of, rest_of, is_nothing, is_file, field_of, channel_of, channel_in, Asks};
+ghost use Rattle.ioc_saved.specs.Requests.{is_blank, unblanked, word_of, rest_of, is_nothing, is_file, field_of, channel_of};
+ghost use Rattle.ioc_saved.specs.Requests.{channel_in, Asks};
 
 use crate::line::name_in;
 use crate::words::{lacks, split};

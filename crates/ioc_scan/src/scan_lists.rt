@@ -1,5 +1,6 @@
 //! The scan lists of a database.
-ghost use Rattle.std.specs.Prelude.{◌≡◌, ◌↔◌, ◌<◌, ◌≤◌, ◌-◌, ◌^◌, ◌++◌, [], cond, Some, None, IsOk, IfOk, IfSome, OnOk, OnErr, IsTrue, length, vec_len};
+ghost use Rattle.std.specs.Prelude.{◌≡◌, ◌↔◌, ◌<◌, ◌≤◌, ◌-◌, ◌^◌, ◌++◌, [], cond, Some, None, IsOk, IfOk, IfSome, OnOk, OnErr};
+ghost use Rattle.std.specs.Prelude.{IsTrue, length, vec_len};
 ghost use Rattle.std.specs.BTreeMap.{BTreeMap, IsOrdered, get};
 ghost use Rattle.std.specs.Ordering.{eq_by_cmp};
 ghost use Rattle.ioc_scan.specs.contracts.position.PositionOrd.TheImpl as order_of;

@@ -23,7 +23,8 @@ pub fn test_script<S: Session + Drop, R: Read + Drop, W: Write>(
     script: R,
     out: &mut W,
 ) -> Result<Expectations, ScriptFault>
-    ensures ok { S.is_determined session → OnOk result (IfSome (R.remaining script) (λ text. Appends (W.contents out.old) (W.contents out.new)
+    ensures ok { S.is_determined session → OnOk result (IfSome (R.remaining script)
+        (λ text. Appends (W.contents out.old) (W.contents out.new)
         (S.transcript session (unexpecting (lines_of text))))) }
     ensures err { S.is_determined session → IfErr result (λ fault. IfSome (R.remaining script)
         (λ text. StopsScript fault (W.contents out.old) (S.transcript session (unexpecting (lines_of text)))

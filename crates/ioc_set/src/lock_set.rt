@@ -1,5 +1,6 @@
 //! Lock sets.
-ghost use Rattle.std.specs.Prelude.{false, ◌⊎◌, ◌≡◌, ◌<◌, ◌≤◌, ◌^◌, ◌↔◌, ℕ, List, [], ◌∷◌, length, None, Some, IsSome, is_some, IsTrue, Contains, IfOk, slice_get};
+ghost use Rattle.std.specs.Prelude.{false, ◌⊎◌, ◌≡◌, ◌<◌, ◌≤◌, ◌^◌, ◌↔◌, ℕ, List, [], ◌∷◌, length, None, Some, IsSome, is_some};
+ghost use Rattle.std.specs.Prelude.{IsTrue, Contains, IfOk, slice_get};
 ghost use Rattle.std.specs.FinMap as map;
 ghost use Rattle.ioc_notify.specs.declared.live_numbers.Live.{Live};
 ghost use Rattle.ioc_notify.specs.declared.waiting_lists.Waiting.{Waiting};

@@ -57,7 +57,8 @@ impl<K: RecordKind + Drop, D: Device> Store for SetStore<K, D> {
     type Device = Attached<K, D>;
 
     ghost use Rattle.ioc_set.specs.SetStore.{world_of, given_of, with_record, with_follow_ups};
-    ghost use Rattle.ioc_set.specs.SetStoreLaws.{with_record-world, with_record-given, calls-given, moment-given, with_follow_ups-world, with_follow_ups-given};
+    ghost use Rattle.ioc_set.specs.SetStoreLaws.{with_record-world, with_record-given, calls-given, moment-given};
+    ghost use Rattle.ioc_set.specs.SetStoreLaws.{with_follow_ups-world, with_follow_ups-given};
 
     ghost world = { world_of };
 

@@ -1,5 +1,6 @@
 //! The links of a set's records, and the parts that they join.
-ghost use Rattle.std.specs.Prelude.{◌≡◌, ◌<◌, ◌++◌, length, map, true, is_some, All, Contains, IsTrue, ◌↔◌, OnOk, IfOk, slice_set, slice_index_or};
+ghost use Rattle.std.specs.Prelude.{◌≡◌, ◌<◌, ◌++◌, length, map, true, is_some, All, Contains, IsTrue, ◌↔◌, OnOk, IfOk};
+ghost use Rattle.std.specs.Prelude.{slice_set, slice_index_or};
 ghost use Rattle.std.specs.Option.{option_copied};
 ghost use Rattle.ioc_dbcommon.specs.Links.{named_by_field};
 ghost use Rattle.ioc_record.specs.RecordRules.{targets};

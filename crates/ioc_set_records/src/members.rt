@@ -1,5 +1,6 @@
 //! The records of a lock set, and their devices.
-ghost use Rattle.std.specs.Prelude.{◌≡◌, ◌<◌, ◌+◌, ◌^◌, ℕ, ◌↔◌, ◌⊎◌, IsTrue, IsSome, false, IfOk, OnOk, OnErr, Contains, [], ◌∷◌, None, slice_get, Some};
+ghost use Rattle.std.specs.Prelude.{◌≡◌, ◌<◌, ◌+◌, ◌^◌, ℕ, ◌↔◌, ◌⊎◌, IsTrue, IsSome, false, IfOk, OnOk, OnErr, Contains, [], ◌∷◌};
+ghost use Rattle.std.specs.Prelude.{None, slice_get, Some};
 ghost use Rattle.std.specs.Borrow.{Lends, sem};
 ghost use Rattle.std.specs.FinMap as map;
 ghost use Rattle.ioc_set_records.specs.contracts.members.Members.{the_row};

@@ -28,9 +28,11 @@ pub fn event_leaves_settled()
 /// if its completion is pending, if that was so before. The number of records is unchanged.
 pub fn link_change_keeps()
     ensures settled { (w : World Record) (n : ℕ) (field : FieldNo) (link : LinkField) →
-        link_refusal record_rules w n field link ≡ None → IsSettled record_rules w → IsSettled record_rules (relinked record_rules w n field link) }
+        link_refusal record_rules w n field link ≡ None → IsSettled record_rules w
+        → IsSettled record_rules (relinked record_rules w n field link) }
     ensures count { (w : World Record) (n : ℕ) (field : FieldNo) (link : LinkField) →
-        link_refusal record_rules w n field link ≡ None → IsClosed record_rules w → len (relinked record_rules w n field link).records ≡ len w.records }
+        link_refusal record_rules w n field link ≡ None → IsClosed record_rules w
+        → len (relinked record_rules w n field link).records ≡ len w.records }
 {
     calls_keep_records::<Record>();
     calls_leave_settled::<Record>();

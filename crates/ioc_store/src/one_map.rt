@@ -116,7 +116,8 @@ impl<K: RecordKind, D: Device> Store for OneMap<K, D> {
     type Device = D;
 
     ghost use Rattle.ioc_store.specs.OneMap.{world_of, given_of, with_record, with_follow_ups};
-    ghost use Rattle.ioc_store.specs.OneMapLaws.{with_record-world, with_record-given, calls-given, moment-given, with_follow_ups-world, with_follow_ups-given};
+    ghost use Rattle.ioc_store.specs.OneMapLaws.{with_record-world, with_record-given, calls-given, moment-given};
+    ghost use Rattle.ioc_store.specs.OneMapLaws.{with_follow_ups-world, with_follow_ups-given};
 
     ghost world = { world_of };
 

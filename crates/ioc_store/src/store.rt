@@ -2,7 +2,8 @@
 ghost use Rattle.std.specs.Prelude.{◌≡◌, ◌<◌, ◌+◌, ℕ, List, [], ◌∷◌, ◌++◌, length, drop};
 ghost use Rattle.std.specs.Borrow.{Lends, sem};
 ghost use Rattle.std.specs.FinMap.{contains_key};
-ghost use Rattle.ioc_store.specs.World.{World, Has, at, put, called, sent, lost, taken_on, let_go, has_place, admitted, queued, unqueued, cancelled};
+ghost use Rattle.ioc_store.specs.World.{World, Has, at, put, called, sent, lost, taken_on, let_go, has_place, admitted, queued};
+ghost use Rattle.ioc_store.specs.World.{unqueued, cancelled};
 ghost use Rattle.ioc_notify.specs.Living.{is_live};
 ghost use Rattle.ioc_store.specs.Given.{Given, DeviceGives, later_among};
 ghost use Rattle.ioc_store.specs.FollowUps.{IsEventOf, followed_by};

@@ -235,7 +235,8 @@ impl WatchList {
     pub fn mark_changed<K: RecordKind, D>(&mut self, set: &LockSet<K, D>, marks: &mut MarkedRecords)
         requires here { All (λ w. IsTrue (contains_key set.now.records w.number)) self.old }
         ensures stay { StayWatched self.old self.new }
-        ensures fresh { (base : World K) → AreFresh K.rules base set.now.base.records self.old → AreFresh K.rules base set.now.records self.new }
+        ensures fresh { (base : World K) → AreFresh K.rules base set.now.base.records self.old
+            → AreFresh K.rules base set.now.records self.new }
     {
         mark_each(&mut self.records, set, marks);
     }

@@ -99,7 +99,8 @@ impl Watch {
         record: &RecordShown,
         now: &Observed,
     ) -> Result<(), AllocError>
-        ensures line { OnOk result (AddsDue self.old.rule self.old.told self.old.word.items record.now now.now out.old.items out.new.items) }
+        ensures line { OnOk result (AddsDue self.old.rule self.old.told self.old.word.items record.now now.now out.old.items
+            out.new.items) }
         ensures told { IfSome self.new.told (Tells now.now) }
         ensures numbers { IfSome self.new.told (TellsNumbers self.old.told now.now) }
         ensures some { IsSome self.new.told }
@@ -128,7 +129,8 @@ impl Watch {
     ) -> Result<(), AllocError>
         ensures line { OnOk result ((now : Observed) × IsObserved self.old.is_number field.now others.now record.now now
             × AddsDue self.old.rule self.old.told self.old.word.items record.now now out.old.items out.new.items) }
-        ensures told { (now : Observed) × IsObserved self.old.is_number field.now others.now record.now now × IfSome self.new.told (Tells now)
+        ensures told { (now : Observed) × IsObserved self.old.is_number field.now others.now record.now now
+            × IfSome self.new.told (Tells now)
             × IfSome self.new.told (TellsNumbers self.old.told now) }
         ensures some { IsSome self.new.told }
     {

@@ -1,6 +1,7 @@
 //! The value of an analog record with its limits, its deadbands, and how it is shown.
 ghost use Rattle.std.specs.Prelude.{◌≡◌};
-ghost use Rattle.rec_analog.specs.Analog.{new_limits, limit_stored, new_analog, analog_get, analog_stored, limited_at, tested, settled, monitored, archived, analog_posted, defined_by, undefined_if_nan};
+ghost use Rattle.rec_analog.specs.Analog.{new_limits, limit_stored, new_analog, analog_get, analog_stored, limited_at, tested};
+ghost use Rattle.rec_analog.specs.Analog.{settled, monitored, archived, analog_posted, defined_by, undefined_if_nan};
 
 use crate::deadband::exceeds;
 use ioc_alarms::AlarmLimits;

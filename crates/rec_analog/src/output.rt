@@ -1,7 +1,8 @@
 //! The type ao.
 ghost use Rattle.std.specs.Prelude.{◌≡◌};
 ghost use Rattle.ioc_record.specs.BodyLaws.{IsNewBody};
-ghost use Rattle.rec_analog.specs.Output.{ao, new_ao, asked, limited, slewed, driven_to, came, ao_taken, driven_value, driven_out, constant_put};
+ghost use Rattle.rec_analog.specs.Output.{ao, new_ao, asked, limited, slewed, driven_to, came, ao_taken, driven_value};
+ghost use Rattle.rec_analog.specs.Output.{driven_out, constant_put};
 ghost use Rattle.std.specs.Prelude.{IsTrue};
 ghost use Rattle.ioc_dbcommon.specs.Wants.{puts_out};
 

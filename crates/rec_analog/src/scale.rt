@@ -1,7 +1,8 @@
 //! The conversion between the raw value and the value in engineering units.
 ghost use Rattle.std.specs.Prelude.{◌≡◌};
 ghost use Rattle.ioc_double.specs.Size.{whole_double};
-ghost use Rattle.rec_analog.specs.Scale.{new_scale, scale_get, scale_stored, adjusted, engineering, unscaled, unadjusted, half_away, long_of, raw_of};
+ghost use Rattle.rec_analog.specs.Scale.{new_scale, scale_get, scale_stored, adjusted, engineering, unscaled, unadjusted};
+ghost use Rattle.rec_analog.specs.Scale.{half_away, long_of, raw_of};
 
 use ioc_dbcommon::{double_in, linr_in, long_in, ulong_in};
 use ioc_fields::OwnField;

@@ -2,7 +2,9 @@
 ghost use Rattle.std.specs.Prelude.{◌≡◌, IsTrue, IfOk};
 ghost use Rattle.ioc_dbcommon.specs.Wants.{puts_out};
 ghost use Rattle.ioc_record.specs.BodyLaws.{IsNewBody};
-ghost use Rattle.rec_calc.specs.Calcout.{calcout, new_calcout, has_changed, is_zero, is_due, output_run, output_made, invalid_set, worked, calcout_taken, calcout_output, calcout_get, calcout_stored, driven_out};
+ghost use Rattle.rec_calc.specs.Calcout.{calcout, new_calcout, has_changed, is_zero, is_due, output_run, output_made};
+ghost use Rattle.rec_calc.specs.Calcout.{invalid_set, worked, calcout_taken, calcout_output, calcout_get, calcout_stored};
+ghost use Rattle.rec_calc.specs.Calcout.{driven_out};
 
 use crate::calc::Calc;
 use ioc_dbcommon::{

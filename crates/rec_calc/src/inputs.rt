@@ -3,7 +3,8 @@ ghost use Rattle.std.specs.Prelude.{◌≡◌, ◌<◌, length, replicate, IfOk,
 ghost use Rattle.std.specs.Option.{option_copied};
 ghost use Rattle.ioc_double.specs.Size.{whole_double};
 ghost use Rattle.ioc_dbcommon.specs.Links.{no_link};
-ghost use Rattle.rec_calc.specs.Inputs.{new_inputs, input_number, placed, inputs_link, inputs_with_link, inputs_get, inputs_stored, with_sent, constants_put, constant_or, settled, sent, last_sent, posted};
+ghost use Rattle.rec_calc.specs.Inputs.{new_inputs, input_number, placed, inputs_link, inputs_with_link, inputs_get};
+ghost use Rattle.rec_calc.specs.Inputs.{inputs_stored, with_sent, constants_put, constant_or, settled, sent, last_sent, posted};
 
 use ioc_dbcommon::{LinkBox, constant_in, double_in};
 use ioc_fields::{FieldSlot, OwnField};

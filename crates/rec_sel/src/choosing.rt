@@ -1,7 +1,8 @@
 //! Which of twelve values is selected.
 ghost use Rattle.std.specs.Prelude.{◌≡◌, ◌<◌, ◌≤◌, true, false, IfSome};
 ghost use Rattle.std.specs.Float.Ieee.{inf, nan};
-ghost use Rattle.rec_sel.specs.Choosing.{has_above, has_below, is_highest, is_lowest, first_highest, first_lowest, is_before, count_before, numbers_among, is_after, median_number};
+ghost use Rattle.rec_sel.specs.Choosing.{has_above, has_below, is_highest, is_lowest, first_highest, first_lowest, is_before};
+ghost use Rattle.rec_sel.specs.Choosing.{count_before, numbers_among, is_after, median_number};
 
 use ioc_values::Double;
 

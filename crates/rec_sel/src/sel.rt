@@ -1,7 +1,8 @@
 //! The type sel.
 ghost use Rattle.std.specs.Prelude.{◌≡◌, IfOk};
 ghost use Rattle.ioc_record.specs.BodyLaws.{IsNewBody};
-ghost use Rattle.rec_sel.specs.Sel.{sel, new_sel, specified, highest, lowest, median, value_taken, came, sel_taken, sel_inputs, constant_put};
+ghost use Rattle.rec_sel.specs.Sel.{sel, new_sel, specified, highest, lowest, median, value_taken, came, sel_taken, sel_inputs};
+ghost use Rattle.rec_sel.specs.Sel.{constant_put};
 
 use crate::choosing::{
     first_highest, first_lowest, infinity, median_number, negative_infinity, no_number,

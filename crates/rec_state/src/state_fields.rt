@@ -1,7 +1,9 @@
 //! The fields that bi, bo, mbbi and mbbo share, and their alarms.
 ghost use Rattle.std.specs.Prelude.{◌≡◌};
 ghost use Rattle.ioc_record.specs.BodyRules.{BodyState};
-ghost use Rattle.rec_state.specs.StateFields.{new_fields, fields_get, fields_stored, put, raw_taken_if, value_taken_if, converted, changed, tested, input_tested, input_worked, output_worked, constant_put, mask_loaded};
+ghost use Rattle.rec_state.specs.StateFields.{new_fields, fields_get, fields_stored, put, raw_taken_if, value_taken_if};
+ghost use Rattle.rec_state.specs.StateFields.{converted, changed, tested, input_tested, input_worked, output_worked};
+ghost use Rattle.rec_state.specs.StateFields.{constant_put, mask_loaded};
 
 use crate::states::States;
 use ioc_dbcommon::{
