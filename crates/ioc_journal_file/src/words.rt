@@ -1,8 +1,6 @@
 //! The words of a line, each of which a tab or the end of the line ends.
-ghost use Rattle.std.specs.Prelude.{◌≡◌, ◌↔◌, ◌∷◌, ◌++◌, IsTrue, OnOk};
+ghost use Rattle.std.specs.Prelude.{◌≡◌, ◌↔◌, IsTrue};
 ghost use Rattle.ioc_journal_file.specs.Words.{word_of, after_word, is_word};
-
-use std::alloc::AllocError;
 
 /// Splits the bytes at the end of their first word.
 pub(crate) fn split(bytes: &[u8]) -> (&[u8], &[u8])
@@ -33,12 +31,4 @@ pub(crate) fn is_same(made: &[u8], line: &[u8]) -> bool
     ensures { IsTrue result ↔ (line.now ≡ made.now) }
 {
     made == line
-}
-
-/// Appends a tab and a word, or several words.
-pub(crate) fn add_word(out: &mut Vec<u8>, word: &[u8]) -> Result<(), AllocError>
-    ensures { OnOk result (out.new.items ≡ out.old.items ++ 9 ∷ word.now) }
-{
-    out.push(b'\t')?;
-    out.extend_from_slice(word)
 }

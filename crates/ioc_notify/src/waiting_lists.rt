@@ -1,7 +1,7 @@
 //! Puts with notification that wait for their record.
 ghost use Rattle.std.specs.Prelude.{◌≡◌, ◌↔◌, ◌+◌, ◌<◌, ◌≤◌, ◌==◌, length, IsTrue, IfOk, OnOk, OnErr, slice_get};
 ghost use Rattle.std.specs.List.{list_any};
-ghost use Rattle.ioc_notify.specs.Waits.{with_room, added, at_record, without, IsLowestFrom, lower};
+ghost use Rattle.ioc_notify.specs.Waits.{with_room, added, at_record, without};
 
 use crate::notify_id::NotifyId;
 use ioc_fields::FieldNo;
@@ -121,18 +121,6 @@ impl WaitingLists {
         waited
     }
 
-    /// Returns the lowest record number, starting at this one, for which a put with notification
-    /// waits.
-    pub fn next_target(&self, from: RecordNo) -> Option<RecordNo>
-        ensures { IsLowestFrom from self.now.waiting result }
-    {
-        let mut lowest = None;
-        for waiting in &self.items {
-            lowest = lower(lowest, from, waiting.target);
-        }
-        lowest
-    }
-
     /// Copies the lists, with room for those that wait.
     ///
     /// # Errors
@@ -143,19 +131,5 @@ impl WaitingLists {
     {
         let items = Vec::from_slice(alloc, self.items.as_slice())?;
         Ok(WaitingLists { items })
-    }
-}
-
-// Returns the lower of the target and the lowest record number so far. Targets below `from` are
-// ignored.
-fn lower(lowest: Option<RecordNo>, from: RecordNo, target: RecordNo) -> Option<RecordNo>
-    ensures { result ≡ lower lowest from target }
-{
-    if target.index() < from.index() {
-        return lowest;
-    }
-    match lowest {
-        Some(found) if found.index() <= target.index() => lowest,
-        _ => Some(target),
     }
 }

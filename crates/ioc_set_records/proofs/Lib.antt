@@ -16,7 +16,6 @@ mod LoadedMapLaws
 mod MapLaws
 mod Merged
 mod Moves
-mod OnePart
 mod Ordered
 mod SetParts
 mod Relinking

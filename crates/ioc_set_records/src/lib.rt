@@ -11,7 +11,6 @@
 #![tactic(auto)]
 
 pub mod changing;
-pub mod connected;
 pub mod dividing;
 pub mod joining;
 mod link_changes;

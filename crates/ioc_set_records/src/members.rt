@@ -8,11 +8,10 @@ ghost use Rattle.ioc_dbcommon.specs.Links.{use_of, named_by};
 ghost use Rattle.ioc_set_records.specs.Answers.{Gives, GivesAt};
 ghost use Rattle.ioc_set_records.specs.Changed.{all_changed, IsListed};
 ghost use Rattle.ioc_set_records.specs.Contents.{nothing, record_at, with_device, DevicesAreOwned, BaseHasTheSame, RecordsAreLikeTheirBase};
-ghost use Rattle.ioc_set_records.specs.Joined.{links_of, IsPart, HasLink, HasFreeLink};
+ghost use Rattle.ioc_set_records.specs.Joined.{HasLink};
 ghost use Rattle.ioc_set_records.specs.Slots.{AreAscending, contents_of};
 
 use crate::changing::{Change, change_slots};
-use crate::connected::are_one_part;
 use crate::marks::{fold_slots, list_all, mark};
 use crate::slots::{Slot, are_apart, place_of};
 use ioc_dbcommon::LinkBox;
@@ -108,15 +107,6 @@ impl<K, D> Members<K, D> {
         self.slots.is_empty()
     }
 
-    /// Returns whether each record equals its base. It may return `false` although that holds, if a
-    /// record was borrowed mutably since the last [`Members::fold`].
-    pub fn is_folded(&self) -> bool
-        ensures folded { IsTrue result → self.now.base ≡ self.now.records }
-        ensures empty { self.now ≡ nothing → IsTrue result }
-    {
-        self.changed.is_empty()
-    }
-
     /// Returns whether there is a record with this number.
     #[inline(always)]
     pub fn has(&self, number: RecordNo) -> bool
@@ -132,23 +122,6 @@ impl<K, D> Members<K, D> {
     {
         let slot = self.slots.get(place)?;
         Some(slot.number)
-    }
-
-    /// Returns the lowest number of a record, or `None` if there is no record.
-    pub fn lowest(&self) -> Option<RecordNo>
-        ensures { result ≡ slice_get (map.keys self.now.records) 0 }
-    {
-        self.number_at(0)
-    }
-
-    /// Returns whether all records are below this number.
-    pub fn is_below(&self, number: RecordNo) -> bool
-        ensures { IsTrue result ↔ ((q : ℕ) → IsSome (map.get self.now.records q) → q < number) }
-    {
-        match self.slots.last() {
-            Some(slot) => slot.number.index() < number.index(),
-            None => true,
-        }
     }
 
     /// Returns whether no record is in both.
@@ -237,33 +210,6 @@ impl<K: RecordKind, D> Members<K, D> {
             return false;
         }
         self.record(number).link(field).is_some()
-    }
-
-    /// Returns whether there is a record with this number, the field is one of its link fields, and
-    /// its link leads nowhere.
-    pub fn has_free_link(&self, number: RecordNo, field: FieldNo) -> bool
-        ensures { IsTrue result ↔ HasFreeLink K.rules self.now.records number field }
-    {
-        if !self.has(number) {
-            return false;
-        }
-        match self.record(number).link(field) {
-            Some(link) => link.record_named().is_none(),
-            None => false,
-        }
-    }
-
-    /// Returns whether the records are one connected part or none, and no link leaves them. The
-    /// cost is nearly proportional to the number of records and links.
-    ///
-    /// # Errors
-    ///
-    /// [`AllocError`] if allocation fails.
-    pub fn is_part(&self, alloc: Global) -> Result<bool, AllocError>
-        ensures { IfOk result (λ is. IsTrue is ↔ IsPart (links_of K.rules self.now.records)) }
-    {
-        let one_part = are_one_part(alloc, &self.slots)?;
-        Ok(one_part)
     }
 
     /// Returns a record of this set.

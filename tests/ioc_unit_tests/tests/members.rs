@@ -101,8 +101,6 @@ enum Step {
     Are(List, List),
     /// The first set is the chain with all links empty.
     AreCut,
-    IsFolded(bool),
-    IsPart(bool),
     /// The tests refuse what can't be done with the chain.
     Refused,
 }
@@ -115,7 +113,7 @@ struct Sets<K, D> {
     third: Members<K, D>,
 }
 
-static STEPS: [Step; 44] = [
+static STEPS: [Step; 39] = [
     // The third link of the chain is emptied, then leads to the single record, then back to where
     // it led.
     Step::First(List::Chain),
@@ -152,20 +150,15 @@ static STEPS: [Step; 44] = [
     // A further record without links, and one whose link leaves the set.
     Step::Add(10, None),
     Step::Are(List::ChainAndAlone, List::Chain),
-    Step::IsPart(false),
     Step::First(List::Nothing),
     Step::Are(List::Nothing, List::Chain),
     Step::Add(4, Some(5)),
     Step::Are(List::Loose, List::Chain),
-    Step::IsPart(false),
     Step::First(List::Chain),
     // Each record is changed.
     Step::Are(List::Chain, List::Chain),
-    Step::IsFolded(true),
     Step::Cut,
     Step::AreCut,
-    Step::IsFolded(false),
-    Step::IsPart(false),
 ];
 
 // Carries out a step that creates records.
@@ -228,8 +221,6 @@ fn tells<K: RecordKind, D: Device>(
             holds(first, records(*list)) && holds(second, records(*other)),
         ),
         Step::AreCut => Ok(are_cut(first)),
-        Step::IsFolded(wanted) => Ok(first.is_folded() == *wanted),
-        Step::IsPart(wanted) => Ok(first.is_part(alloc)? == *wanted),
         Step::Refused => Ok(is_refused(first, second) && leads_out(alloc, first)?),
         _ => Ok(false),
     }

