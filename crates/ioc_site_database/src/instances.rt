@@ -23,7 +23,17 @@ struct OfRecord<'a> {
     behind: &'a [u8],
 }
 
-// Returns the parts of a text that has the word `record` and a name behind it.
+// Returns the parts of a text that has this name at a place.
+fn parts_at<'a>(text: &'a [u8], at: usize, name: &'a [u8]) -> Option<OfRecord<'a>> {
+    let end = at.saturating_add(name.len());
+    Some(OfRecord {
+        before: text.get(..at)?,
+        name,
+        behind: text.get(end..)?,
+    })
+}
+
+// Returns the parts of a text that has the word `record` and a name behind it, or `record(NAME)`.
 fn parts_of(text: &[u8]) -> Option<OfRecord<'_>> {
     let mut at = 0usize;
     let mut is_next = false;
@@ -33,12 +43,22 @@ fn parts_of(text: &[u8]) -> Option<OfRecord<'_>> {
                 [name @ .., b':' | b','] => name,
                 _ => word,
             };
-            let end = at.saturating_add(name.len());
-            return Some(OfRecord {
-                before: text.get(..at)?,
-                name,
-                behind: text.get(end..)?,
-            });
+            return parts_at(text, at, name);
+        }
+        if let [
+            b'r',
+            b'e',
+            b'c',
+            b'o',
+            b'r',
+            b'd',
+            b'(',
+            name @ ..,
+            b')',
+            b':',
+        ] = word
+        {
+            return parts_at(text, at.saturating_add(b"record(".len()), name);
         }
         let end = at.saturating_add(word.len());
         is_next = word == b"record".as_slice();
