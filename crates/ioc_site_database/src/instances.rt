@@ -6,6 +6,9 @@ use std::fmt::Write;
 /// The most names of records that one finding tells.
 const MOST_NAMES: usize = 8;
 
+// What stands before the name of a record that is dropped.
+const OPENING: &[u8] = b"record(";
+
 /// A finding, and the records that have the same mistake at its place.
 #[derive(Drop)]
 struct Told {
@@ -45,20 +48,9 @@ fn parts_of(text: &[u8]) -> Option<OfRecord<'_>> {
             };
             return parts_at(text, at, name);
         }
-        if let [
-            b'r',
-            b'e',
-            b'c',
-            b'o',
-            b'r',
-            b'd',
-            b'(',
-            name @ ..,
-            b')',
-            b':',
-        ] = word
-        {
-            return parts_at(text, at.saturating_add(b"record(".len()), name);
+        if word.starts_with(OPENING) && word.ends_with(b"):") {
+            let name = word.get(OPENING.len()..word.len().saturating_sub(2))?;
+            return parts_at(text, at.saturating_add(OPENING.len()), name);
         }
         let end = at.saturating_add(word.len());
         is_next = word == b"record".as_slice();
