@@ -1,7 +1,7 @@
-"""The kit's command `rt` as a module, in which the sum of a crate's text is computed once in a run.
+"""The kit's command `rt` as a module, in which what a crate is made of is computed once in a run.
 
-`rt` compares sums to see whether a library is up to date. That of a crate takes in those of the crates that it uses, each time anew,
-so the time grows with the number of paths through crates.txt: minutes for the highest crates.
+`rt` lists the libraries below a crate, and takes the sum of its text to see whether a library is up to date, by asking the crates that it uses,
+each time anew, so the time grows with the number of paths through crates.txt: minutes for the highest crates.
 """
 import importlib.machinery
 import importlib.util
@@ -10,19 +10,19 @@ import shutil
 import sys
 
 
-def keep_sums(crate):
-    """Has crates of this class keep their sums."""
-    owner = next((it for it in crate.__mro__ if "stamp" in vars(it)), None)
+def keep(crate, name, copied=lambda it: it):
+    """Has crates of this class compute what the method of this name gives once for each crate."""
+    owner = next((it for it in crate.__mro__ if name in vars(it)), None)
     if owner is None:
         return
-    compute, kept = owner.stamp, {}
+    compute, kept = vars(owner)[name], {}
 
-    def stamp(self):
+    def keeping(self):
         if self.folder not in kept:
             kept[self.folder] = compute(self)
-        return kept[self.folder]
+        return copied(kept[self.folder])
 
-    owner.stamp = stamp
+    setattr(owner, name, keeping)
 
 
 def folder():
@@ -35,5 +35,6 @@ def load():
     loader = importlib.machinery.SourceFileLoader("rt", os.path.realpath(shutil.which("rt")))
     made = importlib.util.module_from_spec(importlib.util.spec_from_loader("rt", loader))
     loader.exec_module(made)
-    keep_sums(made.Crate)
+    keep(made.Crate, "stamp")
+    keep(made.Crate, "below", list)
     return made
