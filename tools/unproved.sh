@@ -46,7 +46,8 @@ rm "$folder/module.bc"
 python3 "$tools/unproved.py" "$kit" "$folder/crates" "$folder/module.ll" "$folder/plain.ll" $tests
 # The flags with which the kit compiles a proved program. Where nothing is inlined, functions of one text stay apart.
 level="-O3 -Xclang -fmerge-functions -mllvm -mergefunc-use-aliases"
-if [ "${UNPROVED_INLINE:-}" = no ] || [ -n "$tests" ]; then level=-O1; fi
+if [ "${UNPROVED_INLINE:-}" = no ]; then level=-O1; fi
+if [ -n "$tests" ]; then level=-O0; fi
 $clang -c $level -fPIE -march=x86-64 -ffunction-sections -fdata-sections \
   -mllvm -no-trap-after-noreturn -mllvm -trap-unreachable -mllvm -no-x86-call-frame-opt -mllvm -disable-machine-licm \
   -mllvm -disable-postra-machine-licm -mllvm -sink-common-insts=false "$folder/plain.ll" -o "$folder/program.o"
