@@ -4,7 +4,7 @@ use ioc_site_fields::gather;
 use ioc_site_links::{
     check_calculations, check_cycles, check_devices, check_numbers, check_unprocessed, follow_links,
 };
-use ioc_site_records::{Report, Site};
+use ioc_site_records::Report;
 use std::alloc::{AllocError, Global};
 
 // Warns of files that have no record, though nothing is wrong with their text.
@@ -21,28 +21,6 @@ fn check_emptiness(reading: &Reading, report: &mut Report) -> Result<(), AllocEr
     report.warning(place, text)
 }
 
-// Checks what records do together.
-fn check_links(site: &Site<'_>, report: &mut Report) -> Result<(), AllocError> {
-    let followed = follow_links(site, report)?;
-    check_calculations(site, followed.leads.as_slice(), report)?;
-    check_cycles(site, followed.leads.as_slice(), report)?;
-    check_unprocessed(site, &followed, report)
-}
-
-// Checks the records, and then what they do together.
-fn check_site(site: &Site<'_>, report: &mut Report) -> Result<(), AllocError> {
-    check_devices(site, report)?;
-    check_numbers(site, report)?;
-    check_links(site, report)
-}
-
-// Checks all that was read.
-fn check_reading(reading: &Reading, report: &mut Report) -> Result<(), AllocError> {
-    let site = gather(reading, report)?;
-    check_emptiness(reading, report)?;
-    check_site(&site, report)
-}
-
 /// Returns what the statements get wrong by the rules of this project, and what in them is worth a
 /// look. What is wrong with the text itself is in [`Reading::findings`].
 ///
@@ -51,7 +29,14 @@ fn check_reading(reading: &Reading, report: &mut Report) -> Result<(), AllocErro
 /// [`AllocError`] if allocation fails.
 pub fn check(alloc: Global, reading: &Reading) -> Result<Vec<Finding>, AllocError> {
     let mut report = Report::new(alloc, reading)?;
-    check_reading(reading, &mut report)?;
+    let site = gather(reading, &mut report)?;
+    check_emptiness(reading, &mut report)?;
+    check_devices(&site, &mut report)?;
+    check_numbers(&site, &mut report)?;
+    let followed = follow_links(&site, &mut report)?;
+    check_calculations(&site, followed.leads.as_slice(), &mut report)?;
+    check_cycles(&site, followed.leads.as_slice(), &mut report)?;
+    check_unprocessed(&site, &followed, &mut report)?;
     Ok(report.into_findings())
 }
 
