@@ -28,6 +28,13 @@ def built(folder: Path) -> Path:
     for part in ("crates.txt", "HANDLES"):
         shutil.copy(TOP / part, folder)
     shutil.copytree(TOP / "crates", folder / "crates", ignore=lambda at, names: [it for it in names if it == "out"])
+    to = folder / "crates/engine_bench/src"
+    to.mkdir(parents=True)
+    for file in (TOP / "tests/engine_bench").glob("*.rs"):
+        shutil.copy(file, to / f"{file.stem}.rt")
+    lines = [it for it in (TOP / "tests/libraries.txt").read_text().splitlines() if it.startswith("engine_bench:")]
+    with open(folder / "crates.txt", "a") as text:
+        print(*lines, sep="\n", file=text)
     script = [TOP / "tools/unproved.sh", folder, "engine_bench"]
     subprocess.run(["sh", *script], check=True, env={**os.environ, "UNPROVED_INLINE": "no"}, stdout=subprocess.DEVNULL)
     return folder / "program"
