@@ -24,6 +24,7 @@ use Rattle.ioc_store.specs.OneMapLaws.{get-numbered, contains-numbered}
 use Rattle.ioc_store.specs.World.{at, IsClosed}
 use Rattle.ioc_dbfile.specs.Finished.{target_field, target_in, target_at, standing_of, lead_of, leads_to, with_standing, linked, linked_all, finished, by_place, Owner}
 use Rattle.ioc_dbfile.specs.Owners.{owner_of, device_lead}
+use Rattle.ioc_dbfile.specs.OwnDevices.{DeviceNames, own_owner, device_names, own_linked, with_own_devices}
 
 -- Holds if each number is below a limit.
 abbrev Below : ℕ → List ℕ → Type 0
@@ -164,6 +165,12 @@ module _ {R : Type 0} (k : RecordRules R) (lawful : IsLawful k) (names : NameTab
       all_below (k.link (k.loaded ready)) (k.link_fields (k.loaded ready))
       (λ g. rw (lawful.loaded_links ready) (all_ready (k.link_fields r) r (first_ready r) g))
 
+  -- So they do once they are resolved without the end of a load.
+  linked_below : (r : R) → Below (length types) (targets k (linked_all k names types owner n (k.link_fields r) r))
+  linked_below r =
+      let ready = linked_all k names types owner n (k.link_fields r) r in
+      all_below (k.link ready) (k.link_fields ready) (all_ready (k.link_fields r) r (first_ready r))
+
 -- The whole database.
 
 length-by_place : {A : Type 0} (f : ℕ → A → A) (n : ℕ) (xs : List A) → length (by_place f n xs) ≡ length xs
@@ -189,6 +196,26 @@ finished_closed names owner rs items same = record {
       let types = map record_rules.record_type rs in
       let here : Contains (targets record_rules (unwrap_or (slice_get (by_place (finished record_rules names types owner) 0 rs) n) record_rules.missing)) target = rw (get-numbered, same) at named in
       let below : target < length types = below_at (length types) _ here.0 target (at_below names types owner 0 rs n) here.1 here.2 in
+      let count : length items ≡ length types = ap length same ∙ length-by_place _ 0 rs ∙ sym (length-map record_rules.record_type rs) in
+      rw (contains-numbered items target) (lt-ltb target (length items) (omega arith));
+}
+
+own_below : (names : NameTable) (types : List RecordType) (own : DeviceNames) (n : ℕ) (rs : List Record) (i : ℕ)
+    → Below (length types) (targets record_rules (unwrap_or (slice_get (by_place (own_linked record_rules names types own) n rs) i) record_rules.missing))
+unfolding own_linked
+own_below names types own n [] i = rw record_lawful.missing_targets tt
+own_below names types own n (r ∷ rs) zero = linked_below record_rules record_lawful names types (own_owner own n) n r
+own_below names types own n (r ∷ rs) (suc i) = own_below names types own (n + 1) rs i
+
+-- All records that have devices of their own.
+pub own_closed : (names : NameTable) (rs items : List Record) → items ≡ with_own_devices record_rules names rs → IsClosed record_rules (first_world items)
+unfolding at first_world
+own_closed names rs items same = record {
+  closed = λ n target named.
+      let types = map record_rules.record_type rs in
+      let own = device_names record_rules rs in
+      let here : Contains (targets record_rules (unwrap_or (slice_get (by_place (own_linked record_rules names types own) 0 rs) n) record_rules.missing)) target = rw (get-numbered, same) at named in
+      let below : target < length types = below_at (length types) _ here.0 target (own_below names types own 0 rs n) here.1 here.2 in
       let count : length items ≡ length types = ap length same ∙ length-by_place _ 0 rs ∙ sym (length-map record_rules.record_type rs) in
       rw (contains-numbered items target) (lt-ltb target (length items) (omega arith));
 }

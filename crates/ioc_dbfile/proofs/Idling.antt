@@ -34,6 +34,7 @@ use Rattle.ioc_process.specs.Rules.{IsQuiet}
 use Rattle.ioc_dbfile.specs.Finished.{with_standing, linked, linked_all, finished, by_place, Owner}
 use Rattle.ioc_dbfile.specs.Loader.{Loading, set_at, set_to, with_set, value_outcome, expression_outcome, holds_expression}
 use Rattle.ioc_dbfile.specs.Idle.{IsIdle, AllIdle}
+use Rattle.ioc_dbfile.specs.OwnDevices.{DeviceNames, own_owner, device_names, own_linked, with_own_devices}
 use Rattle.ioc_dbparse.specs.declared.builder.BuildError.{BuildError}
 use Rattle.ioc_dbparse.specs.declared.builder.BuildError.TheVariants.{Memory, Refused}
 use Rattle.ioc_dbparse.specs.Rules.{Builds}
@@ -57,6 +58,10 @@ module _ {R : Type 0} (k : RecordRules R) where
   all-at [] idle i d lt = absurd (omega arith)
   all-at (q ∷ qs) idle zero d lt = idle.0
   all-at (q ∷ qs) idle (suc i) d lt = let within : i < length qs = omega arith in all-at qs idle.1 i d within
+
+  all-by : (rs : List R) → All (IsIdle k) rs → AllIdle k rs
+  all-by [] all = tt
+  all-by (q ∷ qs) all = (all zero q (omega arith), all-by qs (λ i d lt. let within : suc i < suc (length qs) = omega (arith, lt) in all (suc i) d within))
 
   idle-there : (rs : List R) (n : ℕ) → AllIdle k rs → IsTrue (is_some (slice_get rs n)) → IsIdle k (unwrap_or (slice_get rs n) k.missing)
   idle-there [] n idle has = cc
@@ -179,20 +184,41 @@ pub new-idle : (type : RecordType) (name : List ℕ) → IsIdle record_rules (ne
 unfolding new_common
 new-idle type name = record { active = refl; pending = refl; free = refl }
 
--- The records are quiet at the end of a load.
-pub finished_quiet : (names : NameTable) (owner : Owner) (rs items : List Record) → items ≡ by_place (finished record_rules names (map record_rules.record_type rs) owner) 0 rs
-    → AllIdle record_rules rs → IsQuiet record_rules (first_world items)
+-- Idle records are quiet.
+idle-quiet : (items : List Record) → AllIdle record_rules items → IsQuiet record_rules (first_world items)
 unfolding at first_world
-finished_quiet names owner rs items same idle = record {
+idle-quiet items made = record {
   quiet = λ n has.
-      let made : AllIdle record_rules items = subst (AllIdle record_rules) (sym same) (all-finished record_rules record_lawful names (map record_rules.record_type rs) owner 0 rs idle) in
       let here = idle-there record_rules items n made (rw get-numbered at has) in
       let there : at record_rules (first_world items) n ≡ unwrap_or (slice_get items n) record_rules.missing = rw get-numbered refl in
       rw (common_at, there, here.active, here.pending) (λ h. h, λ h. h);
 }
+
+-- The records are quiet at the end of a load.
+pub finished_quiet : (names : NameTable) (owner : Owner) (rs items : List Record) → items ≡ by_place (finished record_rules names (map record_rules.record_type rs) owner) 0 rs
+    → AllIdle record_rules rs → IsQuiet record_rules (first_world items)
+finished_quiet names owner rs items same idle =
+    idle-quiet items (subst (AllIdle record_rules) (sym same) (all-finished record_rules record_lawful names (map record_rules.record_type rs) owner 0 rs idle))
 
 -- The records are idle at the end of a load.
 pub finished_idle : (names : NameTable) (owner : Owner) (rs items : List Record) → items ≡ by_place (finished record_rules names (map record_rules.record_type rs) owner) 0 rs
     → AllIdle record_rules rs → All (IsIdle record_rules) items
 finished_idle names owner rs items same idle =
     all-at record_rules items (subst (AllIdle record_rules) (sym same) (all-finished record_rules record_lawful names (map record_rules.record_type rs) owner 0 rs idle))
+
+-- Records stay idle when they get devices of their own.
+own-idle : (names : NameTable) (types : List RecordType) (own : DeviceNames) (n : ℕ) (rs : List Record) → AllIdle record_rules rs → AllIdle record_rules (by_place (own_linked record_rules names types own) n rs)
+unfolding own_linked
+own-idle names types own n [] idle = tt
+own-idle names types own n (r ∷ rs) idle =
+    (all_linked-idle record_rules record_lawful names types (own_owner own n) n (record_rules.link_fields r) r idle.0, own-idle names types own (n + 1) rs idle.1)
+
+own-made : (names : NameTable) (rs items : List Record) → items ≡ with_own_devices record_rules names rs → All (IsIdle record_rules) rs → AllIdle record_rules items
+own-made names rs items same idle =
+    subst (AllIdle record_rules) (sym same) (own-idle names (map record_rules.record_type rs) (device_names record_rules rs) 0 rs (all-by record_rules rs idle))
+
+pub own_quiet : (names : NameTable) (rs items : List Record) → items ≡ with_own_devices record_rules names rs → All (IsIdle record_rules) rs → IsQuiet record_rules (first_world items)
+own_quiet names rs items same idle = idle-quiet items (own-made names rs items same idle)
+
+pub own_idle : (names : NameTable) (rs items : List Record) → items ≡ with_own_devices record_rules names rs → All (IsIdle record_rules) rs → All (IsIdle record_rules) items
+own_idle names rs items same idle = all-at record_rules items (own-made names rs items same idle)

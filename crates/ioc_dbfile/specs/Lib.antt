@@ -3,5 +3,6 @@ pub mod Idle
 pub mod Owners
 pub mod OwnerTable
 pub mod Finished
+pub mod OwnDevices
 pub mod FirstWorld
 pub mod SeenDatabase

@@ -6,14 +6,15 @@ ghost use Rattle.ioc_process.specs.Rules.{IsQuiet};
 ghost use Rattle.std.specs.Prelude.{All};
 ghost use Rattle.ioc_dbfile.specs.Idle.{AllIdle, IsIdle};
 
-use crate::finish::finish_all;
+use crate::finish::{finish_all, link_all_own};
 use ioc_names::Names;
 use rec_types::Record;
 use std::alloc::{AllocError, Global};
 
 /// A loaded database: the names of its records, and the records by their numbers. A device that
 /// links name belongs to the first of the records with such a link: only the link of that record
-/// leads to it (see [`owns_device`](crate::owns_device)).
+/// leads to it (see [`owns_device`](crate::owns_device)). Or each record with such a link has a device
+/// of its own ([`Database::with_own_devices`]).
 #[derive(Drop)]
 pub struct Database {
     pub names: Names,
@@ -27,6 +28,7 @@ impl Database {
     ghost use Rattle.std.specs.Prelude.{◌≡◌, IfOk};
     ghost use Rattle.ioc_dbfile.specs.Finished.{all_finished};
     ghost use Rattle.ioc_dbfile.specs.SeenDatabase.{database_of};
+    ghost use Rattle.ioc_dbfile.specs.OwnDevices.{with_own_devices, HasOwnDevice};
 
     /// Creates the database of the names and records of a text: links are resolved and constants
     /// are put.
@@ -36,6 +38,22 @@ impl Database {
     {
         let mut records = records;
         finish_all(alloc, &names, records.as_mut_slice())?;
+        Ok(Database { names, records })
+    }
+    /// Gives each record with a link `@` and a name a device of its own, also where several records
+    /// name the same device: their links lead there.
+    ///
+    /// # Errors
+    ///
+    /// [`AllocError`] if allocation fails. The database is dropped then.
+    pub fn with_own_devices(self, alloc: Global) -> Result<Self, AllocError>
+        ensures names { IfOk result (λ d. d.names ≡ self.names) }
+        ensures records { IfOk result (λ d. d.records.items ≡ with_own_devices record_rules self.names self.records.items) }
+        ensures own { IfOk result (λ d. All (HasOwnDevice record_rules) d.records.items) }
+    {
+        let Database { names, records } = self;
+        let mut records = records;
+        link_all_own(alloc, &names, records.as_mut_slice())?;
         Ok(Database { names, records })
     }
 }

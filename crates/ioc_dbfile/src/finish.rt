@@ -4,9 +4,10 @@ ghost use Rattle.rec_types.specs.Record.{record_rules};
 ghost use Rattle.ioc_fields.specs.Table.{is_value_kind};
 ghost use Rattle.ioc_dbfile.specs.Finished.{target_in, standing_of, leads_to, linked, linked_all, finished, by_place};
 ghost use Rattle.ioc_dbfile.specs.Owners.{owner_of};
-ghost use Rattle.ioc_dbfile.specs.OwnerTable.{owner_in};
+ghost use Rattle.ioc_dbfile.specs.OwnDevices.{owner_for, with_own_devices};
 
-use crate::owners::{Owners, owners_of};
+use crate::own_devices::{DeviceOwners, own_devices_of};
+use crate::owners::owners_of;
 use ioc_dbcommon::{FieldAddress, Lead, LinkBox, LinkField};
 use ioc_fields::{FieldKind, FieldNo, RecordType, field, kind_of};
 use ioc_links::{Link, Target};
@@ -19,7 +20,7 @@ use std::alloc::{AllocError, Global};
 #[derive(Drop)]
 struct Whole {
     types: Vec<RecordType>,
-    owners: Owners,
+    owners: DeviceOwners,
 }
 
 // Returns whether a field of this kind has a value.
@@ -53,15 +54,15 @@ fn standing_of(names: &Names, types: &[RecordType], target: &Target) -> Option<F
 }
 
 /// Returns where a link of the record with this number leads, in a database with these names, types
-/// of records and owners of devices: to a field of a record, to the record's own device, or nowhere.
+/// of records and this rule of devices: to a field of a record, to the record's own device, or nowhere.
 pub fn leads_to(
     names: &Names,
     types: &[RecordType],
-    owners: &Owners,
+    owners: &DeviceOwners,
     number: RecordNo,
     link: &Link,
 ) -> Lead
-    ensures { result ≡ leads_to names.now types.now (owner_in owners.now) number link.now }
+    ensures { result ≡ leads_to names.now types.now (owner_for owners.now number) number link.now }
 {
     match link {
         Link::Database(target, _) => match standing_of(names, types, target) {
@@ -84,7 +85,7 @@ fn link_one(
     item: &mut Record,
 ) -> Result<(), AllocError>
     ensures { OnOk result (item.new
-        ≡ linked record_rules names.now whole.now.types.items (owner_in whole.now.owners) number field item.old) }
+        ≡ linked record_rules names.now whole.now.types.items (owner_for whole.now.owners number) number field item.old) }
 {
     let Some(found) = item.link(field) else {
         return Ok(());
@@ -106,7 +107,7 @@ fn link_all(
     item: &mut Record,
 ) -> Result<(), AllocError>
     ensures { OnOk result (item.new
-        ≡ linked_all record_rules names.now whole.now.types.items (owner_in whole.now.owners) number fields.now item.old) }
+        ≡ linked_all record_rules names.now whole.now.types.items (owner_for whole.now.owners number) number fields.now item.old) }
 {
     let mut rest = fields;
     while let [field, others @ ..] = rest {
@@ -125,7 +126,8 @@ fn finish_record(
     number: RecordNo,
     item: &mut Record,
 ) -> Result<(), AllocError>
-    ensures { OnOk result (item.new ≡ finished record_rules names.now whole.now.types.items (owner_in whole.now.owners) number item.old) }
+    ensures { OnOk result (item.new
+        ≡ finished record_rules names.now whole.now.types.items (owner_for whole.now.owners number) number item.old) }
 {
     let fields = item.link_fields();
     link_all(alloc, names, whole, number, fields, item)?;
@@ -157,11 +159,48 @@ pub fn finish_all(alloc: Global, names: &Names, records: &mut [Record]) -> Resul
         records.old) }
 {
     let types = types_of(alloc, records)?;
-    let owners = owners_of(alloc, records)?;
-    let whole = Whole { types, owners };
+    let first = owners_of(alloc, records)?;
+    let whole = Whole {
+        types,
+        owners: DeviceOwners::First(first),
+    };
     let mut number = 0;
     for item in records.iter_mut() {
         finish_record(alloc, names, &whole, RecordNo::new(number), item)?;
+        number += 1;
+    }
+    Ok(())
+}
+
+// Resolves the links of a record once more, so that those which name its device lead there.
+fn link_own(
+    alloc: Global,
+    names: &Names,
+    whole: &Whole,
+    number: RecordNo,
+    item: &mut Record,
+) -> Result<(), AllocError>
+    ensures { OnOk result (item.new
+        ≡ linked_all record_rules names.now whole.now.types.items (owner_for whole.now.owners number) number
+        (record_rules.link_fields item.old) item.old) }
+{
+    let fields = item.link_fields();
+    link_all(alloc, names, whole, number, fields, item)
+}
+
+/// Resolves the links of all records once more, so that each has a device of its own.
+pub fn link_all_own(alloc: Global, names: &Names, records: &mut [Record]) -> Result<(), AllocError>
+    ensures { OnOk result (records.new ≡ with_own_devices record_rules names.now records.old) }
+{
+    let types = types_of(alloc, records)?;
+    let own = own_devices_of(alloc, records)?;
+    let whole = Whole {
+        types,
+        owners: DeviceOwners::Own(own),
+    };
+    let mut number = 0;
+    for item in records.iter_mut() {
+        link_own(alloc, names, &whole, RecordNo::new(number), item)?;
         number += 1;
     }
     Ok(())

@@ -3,7 +3,7 @@ ghost use Rattle.std.specs.Prelude.{◌≡◌, ◌⊎◌, ℕ, Some, None, slice
 ghost use Rattle.ioc_values.specs.declared.error.IocError.TheVariants.{NoMemory, Stopped};
 ghost use Rattle.ioc_links.specs.declared.link.Link.{Link};
 ghost use Rattle.rec_types.specs.Record.{record_rules};
-ghost use Rattle.ioc_dbfile.specs.OwnerTable.{owner_in};
+ghost use Rattle.ioc_dbfile.specs.OwnDevices.{owner_for};
 ghost use Rattle.ioc_set.specs.SetStore.{world_of};
 ghost use Rattle.ioc_engine_core.specs.Linked.{WasLinked, LinkWasRefused};
 ghost use Rattle.ioc_engine.specs.Relinking.{link_kind_in, IsTextOf, IsBadText, field_of_link};
@@ -86,7 +86,7 @@ impl<B: EngineName<D>, D: Device, C: Clock + Drop> Engine<B, D, C> {
 
     /// Changes a link of a record to the link of this text, as in a database text. It leads to the
     /// record and field that it names, or to the device that it names if the record owned that
-    /// device at the load, or else nowhere. The record's lock set may part in two, or its part
+    /// device at the load, by the rule of the seed, or else nowhere. The record's lock set may part in two, or its part
     /// joins the set of the record that the link leads to; [`Desk::moved`] returns how many records
     /// were moved.
     ///
@@ -108,7 +108,8 @@ impl<B: EngineName<D>, D: Device, C: Clock + Drop> Engine<B, D, C> {
     ) -> Result<(Result<(), IocError>, Receipt<B>), IocError>
         ensures changed { IfOk result (λ x. (link : Link) × IsTextOf self.now.lookup.types.items channel text.now link
             × (moment : ℕ) × C.gives self.now.clock moment × WasLinked D record_rules B.base channel.number channel.field
-            (field_of_link self.now.lookup.names self.now.lookup.types.items (owner_in self.now.lookup.owners) channel.number link)
+            (field_of_link self.now.lookup.names self.now.lookup.types.items (owner_for self.now.lookup.owners channel.number)
+            channel.number link)
             desk.old.account moment x.0 desk.new.moved desk.new.account (world_of desk.new.buffers.store)) }
         ensures receipt { IfOk result (λ x. x.1 ≡ desk.new.account.seen) }
         ensures ended { desk.new.buffers.ended_everywhere.items ≡ [] }
@@ -116,7 +117,8 @@ impl<B: EngineName<D>, D: Device, C: Clock + Drop> Engine<B, D, C> {
         ensures refused { IfErr result (λ error. (error ≡ Stopped) ⊎ (IsBadText self.now.lookup.types.items channel text.now error
             ⊎ ((error ≡ NoMemory) ⊎ ((link : Link) × IsTextOf self.now.lookup.types.items channel text.now link
             × LinkWasRefused D record_rules B.base self.now.core channel.number channel.field
-            (field_of_link self.now.lookup.names self.now.lookup.types.items (owner_in self.now.lookup.owners) channel.number link)
+            (field_of_link self.now.lookup.names self.now.lookup.types.items (owner_for self.now.lookup.owners channel.number)
+            channel.number link)
             error)))) }
         ensures refused_by_type { IfErr result (IsLinkError B.base channel) }
         ensures is_link { OnOk result (IsLinkField B.base channel) }

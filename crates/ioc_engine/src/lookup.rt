@@ -1,16 +1,15 @@
 //! What names lead to.
-ghost use Rattle.std.specs.Prelude.{◌≡◌, ℕ, List, map, slice_get, IfOk, ok_or};
+ghost use Rattle.std.specs.Prelude.{◌≡◌, map, slice_get, IfOk, ok_or};
 ghost use Rattle.rec_types.specs.Record.{record_rules};
 ghost use Rattle.ioc_names.specs.NameTable.{number_of};
 ghost use Rattle.ioc_dbfile.specs.Finished.{leads_to};
-ghost use Rattle.ioc_dbfile.specs.Owners.{owner_of};
-ghost use Rattle.ioc_dbfile.specs.OwnerTable.{owner_in};
+ghost use Rattle.ioc_dbfile.specs.OwnDevices.{owner_for};
 ghost use Rattle.ioc_values.specs.declared.error.IocError.TheVariants.{NoRecord};
 ghost use Rattle.ioc_engine.specs.Channels.{channel_of};
 
 use crate::channel::Channel;
 use ioc_dbcommon::Lead;
-use ioc_dbfile::{Owners, leads_to, owners_of, types_of};
+use ioc_dbfile::{DeviceOwners, leads_to, types_of};
 use ioc_dblex::split_at_byte;
 use ioc_fields::{RecordType, field};
 use ioc_links::Link;
@@ -19,28 +18,32 @@ use ioc_values::IocError;
 use rec_types::Record;
 use std::alloc::{AllocError, Global};
 
-/// The names of a loaded database, the types of its records, and the owners of its devices. None of
-/// these changes while an engine runs, so a name is looked up without a lock.
+/// The names of a loaded database, the types of its records, and the rule by which devices belong to
+/// them. None of these changes while an engine runs, so a name is looked up without a lock.
 #[derive(Drop)]
 pub struct Lookup {
     pub names: Names,
     pub types: Vec<RecordType>,
-    pub owners: Owners,
+    pub owners: DeviceOwners,
 }
 
 impl Lookup {
-    /// Creates the table of these names and records.
+    /// Creates the table of these names and records, with this rule of devices.
     ///
     /// # Errors
     ///
     /// [`AllocError`] if allocation fails.
-    pub fn new(alloc: Global, names: Names, records: &[Record]) -> Result<Self, AllocError>
+    pub fn new(
+        alloc: Global,
+        names: Names,
+        records: &[Record],
+        owners: DeviceOwners,
+    ) -> Result<Self, AllocError>
         ensures names { IfOk result (λ l. l.names ≡ names) }
         ensures types { IfOk result (λ l. l.types.items ≡ map record_rules.record_type records.now) }
-        ensures owners { IfOk result (λ l. (text : List ℕ) → owner_in l.owners text ≡ owner_of record_rules records.now text) }
+        ensures owners { IfOk result (λ l. l.owners ≡ owners) }
     {
         let types = types_of(alloc, records)?;
-        let owners = owners_of(alloc, records)?;
         Ok(Lookup {
             names,
             types,
@@ -96,7 +99,7 @@ impl Lookup {
 
     /// Returns where a link of the record with this number leads.
     pub fn lead(&self, number: RecordNo, link: &Link) -> Lead
-        ensures { result ≡ leads_to self.now.names self.now.types.items (owner_in self.now.owners) number link.now }
+        ensures { result ≡ leads_to self.now.names self.now.types.items (owner_for self.now.owners number) number link.now }
     {
         leads_to(
             &self.names,

@@ -53,6 +53,7 @@ impl<B: EngineName<D>, D: Device, C: Clock + Drop> Engine<B, D, C> {
             lists,
             starters,
             spare: _,
+            spare_own: _,
         } = seed;
         let core = match start::<Record, B, D>(
             alloc, cell, master, places, tickets, counts, records, lists, limits,

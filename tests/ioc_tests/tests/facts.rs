@@ -112,6 +112,17 @@ pub fn makes(alloc: Global, definitions: &[Definition<'_>], text: &[u8], wanted:
     }
 }
 
+/// Returns whether the database of a text has these facts once each record has a device of its own.
+pub fn makes_own(alloc: Global, text: &[u8], facts: &[Fact]) -> bool {
+    let Ok(database) = loaded(alloc, &[], text) else {
+        return false;
+    };
+    match database.with_own_devices(alloc) {
+        Ok(database) => all_hold(&database, facts),
+        Err(_) => false,
+    }
+}
+
 /// A kind of fault, and texts whose first fault is of this kind, each with its line.
 pub type Refused = (BadDbKind, &'static [(u64, &'static [u8])]);
 

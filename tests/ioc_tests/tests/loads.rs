@@ -2,7 +2,7 @@
 use crate::tests::facts::Fact::{
     self, Counts, Leads, LeadsHome, LeadsNowhere, Named, Shows, Unnamed,
 };
-use crate::tests::facts::{Made, Refused, first_unrefused, makes};
+use crate::tests::facts::{Made, Refused, first_unrefused, makes, makes_own};
 use ioc_calc::LeftOut;
 use ioc_dbfile::Macros;
 use ioc_fields::{CommonField, FieldNo, FieldSlot, OwnField};
@@ -147,6 +147,26 @@ fn loaded_texts(rt: HostRuntime) {
             "{text:?}"
         );
     }
+}
+
+// Of two records with one device name each has a device of its own then, and every other link leads where it did.
+#[test]
+fn devices_of_their_own(rt: HostRuntime) {
+    let text =
+        b"record(bo,a){field(OUT,\"@card\")field(FLNK,c)}record(bi,b){field(INP,\"@card\")}record(longin,c){field(INP,\"b.VAL\")field(FLNK,nowhere)}";
+    let facts = [
+        LeadsHome(0, FieldNo::Own(OwnField::Out)),
+        Leads(0, FLNK, 2, VAL),
+        LeadsHome(1, INP),
+        Leads(2, INP, 1, VAL),
+        LeadsNowhere(2, FLNK),
+    ];
+    assert!(rt; makes_own(rt.alloc(), text, &facts));
+    let facts = [
+        LeadsHome(0, FieldNo::Own(OwnField::Out)),
+        LeadsNowhere(1, INP),
+    ];
+    assert!(rt; !makes_own(rt.alloc(), text, &facts));
 }
 
 // Texts that are refused, by the kind of the first fault.

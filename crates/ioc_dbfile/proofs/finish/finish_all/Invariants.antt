@@ -1,10 +1,10 @@
 use Rattle.std.proofs.Common.{◌≡◌, ◌++◌, take, drop}
 use Rattle.rec_types.specs.Record.{record_rules}
 use Rattle.ioc_dbfile.specs.Finished.{finished, by_place}
-use Rattle.ioc_dbfile.specs.OwnerTable.{owner_in}
+use Rattle.ioc_dbfile.specs.OwnDevices.{owner_for}
 use Rattle.ioc_dbfile.proofs.finish.finish_all.Given as goal
 
 abbrev pub invariant-loop-item : goal.invariant-loop-item
 invariant-loop-item l =
     (l.number ≡ l.item-index)
-    × (l.records ≡ by_place (finished record_rules l.names l.whole.types.items (owner_in l.whole.owners)) 0 (take l.item-index l.initial.records) ++ drop l.item-index l.initial.records)
+    × (l.records ≡ by_place (λ n. finished record_rules l.names l.whole.types.items (owner_for l.whole.owners n) n) 0 (take l.item-index l.initial.records) ++ drop l.item-index l.initial.records)

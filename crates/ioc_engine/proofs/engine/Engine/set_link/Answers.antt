@@ -3,7 +3,7 @@ use Rattle.std.proofs.Common.{ℕ, ◌≡◌, length, ap, ◌∙◌, subst, inr}
 use Rattle.ioc_dbcommon.specs.declared.link_field.LinkField.{LinkField}
 use Rattle.ioc_dbcommon.specs.declared.link_field.Lead.{Lead}
 use Rattle.ioc_dbfile.specs.Finished.{leads_to}
-use Rattle.ioc_dbfile.specs.OwnerTable.{owner_in}
+use Rattle.ioc_dbfile.specs.OwnDevices.{owner_for}
 use Rattle.rec_types.specs.Record.{record_rules}
 use Rattle.ioc_engine_core.specs.Linked.{LinkWasRefused}
 use Rattle.ioc_engine.specs.declared.lookup.Lookup.{Lookup}
@@ -16,11 +16,11 @@ returns-in_err-reply-clause-refused g c =
     let p = err_from_is_err_and c.from_residual-in_err-reply.result c.from_residual-in_err-reply.ensures.1 in
     let look = c.args.self.now.lookup in
     let link = c.in_ok-link.link in
-    let lead : c.lead-lead.result ≡ leads_to look.names look.types.items (owner_in look.owners) c.args.channel.number link =
+    let lead : c.lead-lead.result ≡ leads_to look.names look.types.items (owner_for look.owners c.args.channel.number) c.args.channel.number link =
     c.lead-lead.ensures
-    ∙ (ap (λ (l : Lookup). leads_to l.names l.types.items (owner_in l.owners) c.record-number.result link) c.get-lookup.ensures.table
-    ∙ ap (λ (n : ℕ). leads_to look.names look.types.items (owner_in look.owners) n link) c.record-number.ensures) in
-    let kept : c.in-Ok.kept ≡ field_of_link look.names look.types.items (owner_in look.owners) c.args.channel.number link =
+    ∙ (ap (λ (l : Lookup). leads_to l.names l.types.items (owner_for l.owners c.record-number.result) c.record-number.result link) c.get-lookup.ensures.table
+    ∙ ap (λ (n : ℕ). leads_to look.names look.types.items (owner_for look.owners n) n link) c.record-number.ensures) in
+    let kept : c.in-Ok.kept ≡ field_of_link look.names look.types.items (owner_for look.owners c.args.channel.number) c.args.channel.number link =
     c.in-Ok.ensures ∙ ap (λ (l : Lead). record { link = link; lead = l }) lead in
     let refused = c.in_err-reply.ensures.refused in
     rw (p.1, p.2) (inr (inr (inr (

@@ -1,0 +1,18 @@
+use Rattle.std.proofs.Common.{rules, List, map, sym, ap, ◌∙◌}
+use Rattle.rec_types.specs.Record.{Record, record_rules}
+use Rattle.ioc_engine.proofs.Closing.{closed_in, idle_in}
+use Rattle.ioc_engine.proofs.seed.Seed.of.Goals as goal
+
+pub invariant_of-result : goal.invariant_of-result
+invariant_of-result g c =
+    let same = c.in_ok-loaded.ensures.records in
+    record {
+      same_table = c.in_ok-cell.ensures.table;
+      fresh = c.in_ok-cell.ensures.master;
+      all_places = search rules;
+      all_tickets = search rules;
+      copies = c.in_ok-loaded.ensures.copies;
+      idle = idle_in c.args.database.records.items c.in_ok-loaded.loaded.items same c.args.database.idle;
+      closed = closed_in c.args.database.records.items c.in_ok-loaded.loaded.items same c.args.database.closed;
+      types = c.in_ok-lookup.ensures.types ∙ ap (λ (rs : List Record). map record_rules.record_type rs) (c.as_slice.ensures.value ∙ sym same);
+    }
