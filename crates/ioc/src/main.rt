@@ -6,14 +6,14 @@
 #![tactic(auto)]
 
 use ioc_app::{
-    Console, Header, JournalFile, Outputs, Plant, RunFault, Saving, Sizes, Ticks, database_hash,
-    ioc_run,
+    Console, Header, JournalFile, Outputs, Plant, PlantDevices, RunFault, Saving, Sizes, Ticks,
+    database_hash, ioc_run,
 };
 use ioc_arguments::{Args, Devices, Mode, PROGRAM, ioc_args};
 use ioc_command_line::{FileRole, Reason, Stage, Stop, bad_database, given, read_whole, show};
 use ioc_dblex::Macros;
 use ioc_devices::{Asks, counting_devices};
-use ioc_engine::{Database, Device, DeviceName, LoadError, SystemClock, load};
+use ioc_engine::{Database, Device, LoadError, SystemClock, load};
 use ioc_files::{
     CreateFiles, FileSeries, ReplaceFiles, Requested, Restored, path_of, saved_values,
 };
@@ -229,6 +229,7 @@ fn header_of(args: &Args<'_>, hash: [u8; 32]) -> Header {
     Header {
         program: Short::cut(PROGRAM.version.as_bytes()),
         database: hash,
+        has_own_devices: matches!(args.devices, Devices::Outside),
         is_sealed: args.seals,
         first: 0,
     }
@@ -364,7 +365,7 @@ fn run_with<
     rt: &R,
     args: &Args<'_>,
     loaded: HashedDatabase,
-    devices: Vec<(DeviceName, D)>,
+    devices: PlantDevices<D>,
     asks: &'a Asks,
     saving: Option<&'a Saving>,
     terminal: Terminal<I, E>,
@@ -448,13 +449,13 @@ fn work<
     let saving = saving.as_ref();
     match args.devices {
         Devices::Counting => {
-            let devices = counting_devices(alloc, &loaded.database)?;
+            let devices = PlantDevices::Named(counting_devices(alloc, &loaded.database)?);
             let asks = Asks::none(alloc)?;
             run_with(rt, args, loaded, devices, &asks, saving, terminal)
         }
         Devices::Outside => {
             let asks = Asks::new(alloc, &loaded.database)?;
-            let devices = asks.devices(rt, alloc)?;
+            let devices = PlantDevices::Own(asks.devices(rt, alloc)?);
             run_with(rt, args, loaded, devices, &asks, saving, terminal)
         }
     }

@@ -23,6 +23,6 @@ pub use console::Console;
 pub use fault::RunFault;
 pub use going_on::Sizes;
 pub use ioc_journal_lines::{Header, database_hash};
-pub use running::{JournalFile, Outputs, Plant, ioc_run};
+pub use running::{JournalFile, Outputs, Plant, PlantDevices, ioc_run};
 pub use saving::Saving;
 pub use task::{Task, Ticks};

@@ -11,11 +11,13 @@ use crate::saving::Saving;
 use crate::streams::Streams;
 use crate::task::{Task, fault_of};
 use ioc_devices::Asks;
-use ioc_engine::{Clock, Database, Desk, Device, DeviceName, Engine, EngineName, Limits, Seed};
+use ioc_engine::{
+    Clock, Database, Desk, Device, DeviceName, Engine, EngineName, Limits, RecordNo, Seed,
+};
 use ioc_files::ReplaceFiles;
 use ioc_journal_lines::Header;
 use ioc_saved::SavedValue;
-use std::alloc::Global;
+use std::alloc::{AllocError, Global};
 use std::io::Write;
 use std::marker::Brand;
 use std::sync::Wait;
@@ -31,12 +33,21 @@ const KEPT: u64 = 65_536;
 // The number of requests that can wait at the same time.
 const MAX_WAITING: usize = 7_000;
 
+/// The devices of a run.
+#[derive(Drop)]
+pub enum PlantDevices<D: Drop> {
+    /// Each belongs to the first record that has a link with its name.
+    Named(Vec<(DeviceName, D)>),
+    /// Each belongs to the record with its number: each record with a device link has one of its own.
+    Own(Vec<(RecordNo, D)>),
+}
+
 /// What a run works with: the records of a loaded database, their devices, the clock, and the number
 /// of threads that serve requests.
 #[derive(Drop)]
 pub struct Plant<D: Drop, C: Drop> {
     pub database: Database,
-    pub devices: Vec<(DeviceName, D)>,
+    pub devices: PlantDevices<D>,
     pub clock: C,
     pub workers: u64,
 }
@@ -303,6 +314,18 @@ fn run<
     work::<Brand, D, C, T, W, J, R>(rt, alloc, seed, clock, workers, task, streams)
 }
 
+// Returns the seed of a database with these devices.
+fn seed_of<D: Drop>(
+    alloc: Global,
+    database: Database,
+    devices: PlantDevices<D>,
+) -> Result<Seed<D>, AllocError> {
+    match devices {
+        PlantDevices::Named(devices) => Seed::new(alloc, database, devices),
+        PlantDevices::Own(devices) => Seed::with_own_devices(alloc, database, devices),
+    }
+}
+
 /// Does a task with the records of a database, while as many threads serve the requests that wait.
 /// Then it writes a line for each record, in the order of the database text, and the line of the
 /// counts of requests. If the journal is kept, each of its entries is a line of its file, behind its
@@ -343,7 +366,7 @@ pub fn ioc_run<
     } = outputs;
     let writer = writer_of(alloc, journal, task.is_endless())?;
     let mut streams = Streams::new(alloc, lines, writer, asks, saving);
-    let Ok(seed) = Seed::new(alloc, database, devices) else {
+    let Ok(seed) = seed_of(alloc, database, devices) else {
         return Err(RunFault::Start);
     };
     run(rt, alloc, seed, clock, workers, task, &mut streams)

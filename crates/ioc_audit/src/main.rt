@@ -23,7 +23,7 @@ use ioc_journal_base::base_of;
 use ioc_journal_lines::database_hash;
 use ioc_site_database::{SiteFault, SiteText, SiteWords, site_text};
 use ioc_values::LoadError;
-use std::alloc::Global;
+use std::alloc::{AllocError, Global};
 use std::env;
 use std::io::{self, BufRead, BufReader, BufWriter, Write};
 use std::process::ExitCode;
@@ -79,6 +79,14 @@ fn audited<R: BufRead, W: Write>(
     }
 }
 
+// Returns the database by the rule of devices that the run had.
+fn by_rule(alloc: Global, database: Database, begun: &FileBegun) -> Result<Database, AllocError> {
+    if begun.has_own_devices() {
+        return database.with_own_devices(alloc);
+    }
+    Ok(database)
+}
+
 // Returns the auditor of a journal's file: of the database with the saved values that the run has taken,
 // or of the base with which the file begins. Returns what is said if there is none. If no entries are to
 // be checked, it is one of the database.
@@ -96,7 +104,7 @@ fn auditor_of(
                 return Ok(Err(told_of_base(alloc, words, line, fault)?));
             }
         };
-        let Database { records, .. } = database;
+        let Database { records, .. } = by_rule(alloc, database, begun)?;
         return Ok(Ok(Auditor::new(alloc, records)?));
     }
     if let Some(base) = base_of(alloc, database.records.as_slice(), begun.items.as_slice())?

@@ -1,10 +1,9 @@
 //! Devices outside the program, and what they are asked.
 ghost use Rattle.ioc_devices.specs.Devices.{outside_gives};
 
-use crate::device::own_devices;
 use crossbeam_queue::ArrayQueue;
 use ioc_commands::add_escaped_text;
-use ioc_dbfile::{Database, DeviceName};
+use ioc_dbfile::{Database, DeviceName, device_named};
 use ioc_device::{Answer, Ask, Device};
 use ioc_names::RecordNo;
 use ioc_record::RecordKind;
@@ -114,8 +113,8 @@ pub fn add_value(out: &mut Vec<u8>, value: Value) -> Result<(), AllocError> {
 }
 
 impl Asks {
-    /// Creates the list of the devices of a database that are outside: one for each text behind the `@`
-    /// of a device link. It belongs to the first record with such a link.
+    /// Creates the list of the devices of a database that are outside: one for each record with a device
+    /// link, also where several records have the same text behind the `@`.
     ///
     /// # Errors
     ///
@@ -123,7 +122,7 @@ impl Asks {
     pub fn new(alloc: Global, database: &Database) -> Result<Self, AllocError> {
         let mut records = Vec::new(alloc);
         for (index, item) in database.records.iter().enumerate() {
-            for text in own_devices(alloc, item)? {
+            if let Some(text) = device_named(item) {
                 records.push(OutsideRecord {
                     number: RecordNo::new(index),
                     name: item.common().name,
@@ -157,7 +156,7 @@ impl Asks {
         })
     }
 
-    /// Returns the devices, each with the name by which records have it.
+    /// Returns the devices, each with the number of its record.
     ///
     /// # Errors
     ///
@@ -166,11 +165,11 @@ impl Asks {
         &'a self,
         rt: &'a R,
         alloc: Global,
-    ) -> Result<Vec<(DeviceName, OutsideDevice<'a, R>)>, AllocError> {
+    ) -> Result<Vec<(RecordNo, OutsideDevice<'a, R>)>, AllocError> {
         let mut devices = Vec::with_capacity(alloc, self.records.len())?;
         for number in 0..self.records.len() {
             let device = self.device(rt, number);
-            if devices.push((self.records[number].text, device)).is_err() {
+            if devices.push((self.records[number].number, device)).is_err() {
                 return Err(AllocError);
             }
         }

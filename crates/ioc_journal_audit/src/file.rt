@@ -6,7 +6,7 @@ use crate::changes::Trace;
 use crate::items::{Items, read_items};
 use crate::journal::{AuditFault, Audited, LastLine, audit, next_line};
 use ioc_journal_file::{BaseItem, NextFile, next_of};
-use ioc_journal_lines::{Seals, end_of, header_of, seal_of};
+use ioc_journal_lines::{Header, Seals, end_of, header_of, seal_of};
 use ioc_saved::SavedValue;
 use std::alloc::Global;
 use std::io::{BufRead, Write};
@@ -42,6 +42,8 @@ pub struct Frame {
     /// How many entries stand behind the last seal.
     pub unsealed: u64,
     pub has_header: bool,
+    /// Whether each record with a device link had a device of its own.
+    pub has_own_devices: bool,
     pub is_sealed: bool,
     pub tail: Tail,
     /// The file in which the journal goes on, if it does.
@@ -96,18 +98,31 @@ enum Other {
 }
 
 impl Frame {
-    // Nothing was read of a file with a header, or of one without.
-    fn new(has_header: bool, is_sealed: bool, first: u64) -> Self {
+    // Nothing was read of a file without a header.
+    fn without_header() -> Self {
         Frame {
-            first,
+            first: 0,
             entries: 0,
-            others: if has_header { 1 } else { 0 },
+            others: 0,
             seals: 0,
             unsealed: 0,
-            has_header,
-            is_sealed,
+            has_header: false,
+            has_own_devices: false,
+            is_sealed: false,
             tail: Tail::NotSeen,
             next: None,
+        }
+    }
+
+    // The line of a header was read, and nothing behind it.
+    fn behind(header: &Header) -> Self {
+        Frame {
+            first: header.first,
+            others: 1,
+            has_header: true,
+            has_own_devices: header.has_own_devices,
+            is_sealed: header.is_sealed,
+            ..Frame::without_header()
         }
     }
 
@@ -262,7 +277,7 @@ fn begin<R: BufRead>(
 ) -> Result<Begun, AuditFault> {
     match first_byte(journal)? {
         None => return Ok(Begun::Found(FileFound::Fault(FileFault::Empty))),
-        Some(b'0'..=b'9') => return Ok(Begun::Frame(Frame::new(false, false, 0))),
+        Some(b'0'..=b'9') => return Ok(Begun::Frame(Frame::without_header())),
         Some(_) => {}
     }
     next_line(journal, &mut last.text)?;
@@ -271,13 +286,13 @@ fn begin<R: BufRead>(
             [.., b'\n'] => Audited::NoEntry(1),
             _ => Audited::CutOff(0),
         };
-        return Ok(Begun::Found(FileFound::Checked(audited, Frame::new(false, false, 0))));
+        return Ok(Begun::Found(FileFound::Checked(audited, Frame::without_header())));
     };
     if header.database != *database {
         let fault = FileFault::OtherDatabase(header.database);
         return Ok(Begun::Found(FileFound::Fault(fault)));
     }
-    let frame = Frame::new(true, header.is_sealed, header.first);
+    let frame = Frame::behind(&header);
     if header.is_sealed {
         last.seals = Some(Seals::new());
     }
@@ -330,7 +345,7 @@ pub fn begin_file<R: BufRead>(
     let mut last = LastLine::new(alloc);
     let (frame, found) = match begin(alloc, journal, &mut last, database)? {
         Begun::Frame(frame) => (frame, None),
-        Begun::Found(found) => (Frame::new(false, false, 0), Some(found)),
+        Begun::Found(found) => (Frame::without_header(), Some(found)),
     };
     if frame.has_header && found.is_none() {
         return begin_entries(alloc, journal, last, frame);
@@ -349,6 +364,12 @@ impl FileBegun {
     /// one.
     pub fn first(&self) -> u64 {
         self.frame.first
+    }
+
+    /// Returns whether each record with a device link had a device of its own. Otherwise a device that
+    /// several records name was that of the first one.
+    pub fn has_own_devices(&self) -> bool {
+        self.frame.has_own_devices
     }
 
     /// Returns whether something is found already, so that no entries are to be checked.

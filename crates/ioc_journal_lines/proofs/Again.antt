@@ -16,7 +16,7 @@ use Rattle.ioc_saved.specs.Files.{value_line}
 use Rattle.ioc_saved.specs.Lines.{saved_in}
 use Rattle.ioc_journal_lines.specs.declared.header.Header.{Header}
 use Rattle.ioc_journal_lines.specs.Words.{ends_word, is_whole, is_word, number_at, digest_at}
-use Rattle.ioc_journal_lines.specs.Lines.{header_line, seal_word, base_line, end_line, seal_line, IsDigest, IsHeader, read_header, read_base, read_end, read_seal}
+use Rattle.ioc_journal_lines.specs.Lines.{header_line, device_word, seal_word, base_line, end_line, seal_line, IsDigest, IsHeader, read_header, read_base, read_end, read_seal}
 use Rattle.ioc_journal_lines.proofs.Splitting.{and_true, word_cut, after_cut}
 
 -- ---- Numbers
@@ -89,31 +89,41 @@ unfolding read_seal seal_line
 seal_again hash h = rw (digest_again hash 10 [] h refl) refl
 
 -- The words of a header one after the other.
-header_words : (program hash seals first : List ℕ)
-    → codes "journal" ++ 9 ∷ codes "1" ++ 9 ∷ program ++ 9 ∷ hash ++ 9 ∷ codes "lowest" ++ 9 ∷ seals ++ 9 ∷ first ++ 10 ∷ []
-    ≡ codes "journal" ++ 9 ∷ (codes "1" ++ 9 ∷ (program ++ 9 ∷ (hash ++ 9 ∷ (codes "lowest" ++ 9 ∷ (seals ++ 9 ∷ (first ++ 10 ∷ []))))))
-header_words program hash seals first = simp append_assoc
+header_words : (program hash devices seals first : List ℕ)
+    → codes "journal" ++ 9 ∷ codes "1" ++ 9 ∷ program ++ 9 ∷ hash ++ 9 ∷ devices ++ 9 ∷ seals ++ 9 ∷ first ++ 10 ∷ []
+    ≡ codes "journal" ++ 9 ∷ (codes "1" ++ 9 ∷ (program ++ 9 ∷ (hash ++ 9 ∷ (devices ++ 9 ∷ (seals ++ 9 ∷ (first ++ 10 ∷ []))))))
+header_words program hash devices seals first = simp append_assoc
 
 seal_word_read : (is_sealed : Bool) → (is_word (seal_word is_sealed) (codes "sealed") ≡ is_sealed) × (is_whole (seal_word is_sealed) ≡ true)
 unfolding seal_word
 seal_word_read true = (refl, refl)
 seal_word_read false = (refl, refl)
 
+device_word_read : (own : Bool) → (is_word (device_word own) (codes "own") ≡ own) × (is_whole (device_word own) ≡ true)
+unfolding device_word
+device_word_read true = (refl, refl)
+device_word_read false = (refl, refl)
+
 pub header_again : (header : Header) → IsHeader header → read_header (header_line header) ≡ Some header
 unfolding read_header header_line
 header_again header h =
     let seals = seal_word_read header.is_sealed in
+    let devices = device_word_read header.has_own_devices in
     let last : List ℕ = decimal header.first ++ 10 ∷ [] in
-    let behind : List ℕ = codes "lowest" ++ 9 ∷ (seal_word header.is_sealed ++ 9 ∷ last) in
-    ap read_header (header_words header.program (encode_lower header.database) (seal_word header.is_sealed) (decimal header.first))
+    let sealed : List ℕ = seal_word header.is_sealed ++ 9 ∷ last in
+    let behind : List ℕ = device_word header.has_own_devices ++ 9 ∷ sealed in
+    ap read_header (header_words header.program (encode_lower header.database) (device_word header.has_own_devices) (seal_word header.is_sealed) (decimal header.first))
     ∙ rw (
       word_cut header.program 9 (encode_lower header.database ++ 9 ∷ behind) h.whole refl,
       after_cut header.program 9 (encode_lower header.database ++ 9 ∷ behind) h.whole refl,
       digest_again header.database 9 behind h.database refl,
+      word_cut (device_word header.has_own_devices) 9 sealed devices.1 refl,
+      after_cut (device_word header.has_own_devices) 9 sealed devices.1 refl,
       word_cut (seal_word header.is_sealed) 9 last seals.1 refl,
       after_cut (seal_word header.is_sealed) 9 last seals.1 refl,
       number_again header.first 10 [] h.first refl,
       take_all 16 header.program h.short,
+      devices.0,
       seals.0,
     ) refl
 

@@ -8,18 +8,23 @@ use Rattle.ioc_saved.specs.Lines.{saved_in}
 use Rattle.ioc_journal_lines.specs.declared.header.Header.{Header}
 use Rattle.ioc_journal_lines.specs.Words.{is_whole, is_word, word_of, after_word, number_at, digest_at, ◌>>=◌}
 
+-- The word for the rule by which devices belong to records: by `own` each record with a device link has a device of its own, and by
+-- `lowest` a device that several records name is that of the lowest record.
+unfoldable pub device_word : Bool → List ℕ
+device_word true = codes "own"
+device_word false = codes "lowest"
+
 -- The word for whether a journal has seals.
 unfoldable pub seal_word : Bool → List ℕ
 seal_word true = codes "sealed"
 seal_word false = codes "plain"
 
 -- The header: the form of the file, the version of the program, the hash of the database text and the macros, the rule by which
--- devices belong to records, whether there are seals, and the place of the first entry. By the rule `lowest`, a device that several records name is that
--- of the lowest record.
+-- devices belong to records, whether there are seals, and the place of the first entry.
 unfoldable pub header_line : Header → List ℕ
 header_line header =
-    codes "journal" ++ 9 ∷ codes "1" ++ 9 ∷ header.program ++ 9 ∷ encode_lower header.database ++ 9 ∷ codes "lowest" ++ 9 ∷ seal_word header.is_sealed
-    ++ 9 ∷ decimal header.first ++ 10 ∷ []
+    codes "journal" ++ 9 ∷ codes "1" ++ 9 ∷ header.program ++ 9 ∷ encode_lower header.database ++ 9 ∷ device_word header.has_own_devices
+    ++ 9 ∷ seal_word header.is_sealed ++ 9 ∷ decimal header.first ++ 10 ∷ []
 
 -- A value that a run has taken from a file of saved ones, with the line that it has there.
 unfoldable pub base_line : SavedValue → List ℕ
@@ -52,6 +57,7 @@ read_header line = do
   Some (record {
     program = take 16 (word_of (after_word (after_word line)));
     database = hash.0;
+    has_own_devices = is_word (word_of hash.1) (codes "own");
     is_sealed = is_word (word_of (after_word hash.1)) (codes "sealed");
     first = first.0;
   })

@@ -1,6 +1,6 @@
 //! The first line of a journal's file.
-ghost use Rattle.std.specs.Prelude.{◌≡◌, ◌++◌, OnOk, IfOk, IfSome, Some};
-ghost use Rattle.ioc_journal_lines.specs.Lines.{header_line, seal_word, read_header, IsHeader};
+ghost use Rattle.std.specs.Prelude.{◌≡◌, ◌++◌, ◌∷◌, [], OnOk, IfOk, IfSome, Some};
+ghost use Rattle.ioc_journal_lines.specs.Lines.{header_line, device_word, seal_word, read_header, IsHeader};
 ghost use Rattle.ioc_journal_lines.specs.Words.{Gives};
 
 use crate::digest::{add_digest, digest_at};
@@ -16,10 +16,21 @@ pub struct Header {
     pub program: Short<16>,
     /// The SHA-256 hash of the database text and of the macros.
     pub database: [u8; 32],
+    /// Whether each record with a device link has a device of its own. Otherwise a device that several
+    /// records name is that of the lowest one.
+    pub has_own_devices: bool,
     /// Whether it has seals.
     pub is_sealed: bool,
     /// The place of its first entry.
     pub first: u64,
+}
+
+// Returns the word for the rule by which devices belong to records.
+#[tactic(auto, unfolding(crate::specs::Lines::device_word))]
+fn device_word(has_own_devices: bool) -> &'static [u8]
+    ensures { result.now ≡ device_word has_own_devices }
+{
+    if has_own_devices { b"own" } else { b"lowest" }
 }
 
 // Returns the word for whether a journal has seals.
@@ -28,6 +39,19 @@ fn seal_word(is_sealed: bool) -> &'static [u8]
     ensures { result.now ≡ seal_word is_sealed }
 {
     if is_sealed { b"sealed" } else { b"plain" }
+}
+
+// Appends the words for the rule of devices and for whether there are seals, between tabs.
+fn add_rules(out: &mut Vec<u8>, header: &Header) -> Result<(), AllocError>
+    ensures { OnOk result (out.new.items
+        ≡ out.old.items ++ 9 ∷ device_word header.now.has_own_devices ++ 9 ∷ seal_word header.now.is_sealed ++ 9 ∷ []) }
+{
+    out.push(b'\t')?;
+    out.extend_from_slice(device_word(header.has_own_devices))?;
+    out.push(b'\t')?;
+    out.extend_from_slice(seal_word(header.is_sealed))?;
+    out.push(b'\t')?;
+    Ok(())
 }
 
 /// Appends the line of a header.
@@ -43,9 +67,7 @@ pub fn add_header(out: &mut Vec<u8>, header: &Header) -> Result<(), AllocError>
     out.extend_from_slice(header.program.as_slice())?;
     out.push(b'\t')?;
     add_digest(out, &header.database)?;
-    out.extend_from_slice(b"\tlowest\t")?;
-    out.extend_from_slice(seal_word(header.is_sealed))?;
-    out.push(b'\t')?;
+    add_rules(out, header)?;
     out.extend_from_slice(Buffer::new().format(header.first).as_bytes())?;
     out.push(b'\n')?;
     Ok(())
@@ -60,12 +82,13 @@ fn read_header(line: &[u8]) -> Option<Header>
     let (_form, rest) = split(rest);
     let (program, rest) = split(rest);
     let (database, rest) = digest_at(rest)?;
-    let (_devices, rest) = split(rest);
+    let (devices, rest) = split(rest);
     let (seals, rest) = split(rest);
     let (first, _rest) = number_at(rest)?;
     Some(Header {
         program: Short::cut(program),
         database,
+        has_own_devices: is_same(devices, b"own"),
         is_sealed: is_same(seals, b"sealed"),
         first,
     })

@@ -12,6 +12,7 @@ fn lines_read_back(rt: HostRuntime) -> Result<(), AllocError> {
     let header = Header {
         program: Short::cut(b"0.1.0"),
         database: [0xA5; 32],
+        has_own_devices: false,
         is_sealed: false,
         first: 0,
     };
@@ -22,6 +23,20 @@ fn lines_read_back(rt: HostRuntime) -> Result<(), AllocError> {
     assert!(rt; line.as_slice() == wanted.as_slice());
     let read = header_of(rt.alloc(), line.as_slice())?;
     assert!(rt; matches!(&read, Some(read) if read.database == header.database && read.first == 0));
+    assert!(rt; matches!(&read, Some(read) if !read.has_own_devices));
+    let mut own_line = Vec::new(rt.alloc());
+    add_header(
+        &mut own_line,
+        &Header {
+            has_own_devices: true,
+            ..header
+        },
+    )?;
+    let wanted =
+        b"journal\t1\t0.1.0\ta5a5a5a5a5a5a5a5a5a5a5a5a5a5a5a5a5a5a5a5a5a5a5a5a5a5a5a5a5a5a5a5\town\tplain\t0\n";
+    assert!(rt; own_line.as_slice() == wanted.as_slice());
+    let read = header_of(rt.alloc(), own_line.as_slice())?;
+    assert!(rt; matches!(&read, Some(read) if read.has_own_devices));
     assert!(rt; header_of(rt.alloc(), b"journal\t1\t0.1.0\ta5\tlowest\tplain\t0\n")?.is_none());
     assert!(rt; end_of(rt.alloc(), b"end\t12\n")? == Some(12));
     assert!(rt; end_of(rt.alloc(), b"end\t012\n")?.is_none());
