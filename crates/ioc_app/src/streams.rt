@@ -18,8 +18,8 @@ use std::sync::{Mutex, Wait};
 #[derive(Clone, Copy)]
 pub struct Counts {
     pub pace: Pace,
-    /// How many entries the journal's file has, if it is kept.
-    pub entries: Option<u64>,
+    /// How many entries the journal has, and how many of them are in memory, if it is kept.
+    pub entries: Option<(u64, u64)>,
     /// How many asks devices outside were told.
     pub told: u64,
     /// How many words watch fields.
@@ -309,7 +309,7 @@ impl<'a, W: Write + Drop, J: Write + Drop> Streams<'a, W, J> {
         Counts {
             pace: written.pace,
             entries: match &written.journal {
-                Some(writer) => Some(writer.place()),
+                Some(writer) => Some((writer.place(), writer.in_memory())),
                 None => None,
             },
             told: written.told,
