@@ -218,7 +218,9 @@ fn target_of<B: EngineName<Sensor>>(
 ) -> Result<Target, IocError> {
     let first = thread.saturating_mul(2);
     let name = match work {
-        Work::Lone | Work::Chain | Work::Marked | Work::Watched | Work::Put => format!(in alloc; "c{thread}:0")?,
+        Work::Lone | Work::Chain | Work::Marked | Work::Watched | Work::Put => format!(in alloc;
+            "c{thread}:0"
+        )?,
         Work::Notify | Work::Cancel => format!(in alloc; "d{thread}")?,
         Work::Link => format!(in alloc; "c{first}:9.FLNK")?,
         Work::Post => format!(in alloc; "p{thread}")?,
