@@ -185,9 +185,7 @@ fn option_at(bytes: &[u8]) -> Option<(Option<u64>, &[u8])>
 fn value_part_at(bytes: &[u8]) -> Option<(Part, &[u8])>
     ensures { Gives (λ x. (x.0, x.1.now)) result (value_part_at bytes.now) }
 {
-    let Some((value, rest)) = value_at(bytes) else {
-        return None;
-    };
+    let (value, rest) = value_at(bytes)?;
     Some((Part::Value(value), rest))
 }
 
@@ -195,9 +193,7 @@ fn value_part_at(bytes: &[u8]) -> Option<(Part, &[u8])>
 fn link_part_at(bytes: &[u8]) -> Option<(Part, &[u8])>
     ensures { Gives (λ x. (x.0, x.1.now)) result (link_part_at bytes.now) }
 {
-    let Some((link, rest)) = link_field_at(bytes) else {
-        return None;
-    };
+    let (link, rest) = link_field_at(bytes)?;
     Some((Part::Link(link), rest))
 }
 
@@ -218,21 +214,11 @@ fn part_at(bytes: &[u8]) -> Option<(Part, &[u8])>
 fn state_at(bytes: &[u8]) -> Option<(HiddenState, &[u8])>
     ensures { Gives (λ x. (x.0, x.1.now)) result (state_at bytes.now) }
 {
-    let Some((time, rest)) = number_at(bytes) else {
-        return None;
-    };
-    let Some((pending, rest)) = option_at(rest) else {
-        return None;
-    };
-    let Some((last_pending, rest)) = number_at(rest) else {
-        return None;
-    };
-    let Some((last_change, rest)) = number_at(rest) else {
-        return None;
-    };
-    let Some((notification, rest)) = option_at(rest) else {
-        return None;
-    };
+    let (time, rest) = number_at(bytes)?;
+    let (pending, rest) = option_at(rest)?;
+    let (last_pending, rest) = number_at(rest)?;
+    let (last_change, rest) = number_at(rest)?;
+    let (notification, rest) = option_at(rest)?;
     let state = HiddenState {
         time,
         pending,
@@ -247,15 +233,9 @@ fn state_at(bytes: &[u8]) -> Option<(HiddenState, &[u8])>
 fn field_item_at(bytes: &[u8]) -> Option<BaseItem>
     ensures { Gives (λ x. x) result (field_item_at bytes.now) }
 {
-    let Some((record, rest)) = record_at(bytes) else {
-        return None;
-    };
-    let Some((field, rest)) = field_at(rest) else {
-        return None;
-    };
-    let Some((part, _rest)) = part_at(rest) else {
-        return None;
-    };
+    let (record, rest) = record_at(bytes)?;
+    let (field, rest) = field_at(rest)?;
+    let (part, _rest) = part_at(rest)?;
     Some(BaseItem::Field(record, field, part))
 }
 
@@ -263,12 +243,8 @@ fn field_item_at(bytes: &[u8]) -> Option<BaseItem>
 fn state_item_at(bytes: &[u8]) -> Option<BaseItem>
     ensures { Gives (λ x. x) result (state_item_at bytes.now) }
 {
-    let Some((record, rest)) = record_at(bytes) else {
-        return None;
-    };
-    let Some((state, _rest)) = state_at(rest) else {
-        return None;
-    };
+    let (record, rest) = record_at(bytes)?;
+    let (state, _rest) = state_at(rest)?;
     Some(BaseItem::State(record, state))
 }
 
@@ -276,18 +252,10 @@ fn state_item_at(bytes: &[u8]) -> Option<BaseItem>
 fn waiting_item_at(bytes: &[u8]) -> Option<BaseItem>
     ensures { Gives (λ x. x) result (waiting_item_at bytes.now) }
 {
-    let Some((number, rest)) = notification_at(bytes) else {
-        return None;
-    };
-    let Some((target, rest)) = record_at(rest) else {
-        return None;
-    };
-    let Some((field, rest)) = field_at(rest) else {
-        return None;
-    };
-    let Some((value, _rest)) = value_at(rest) else {
-        return None;
-    };
+    let (number, rest) = notification_at(bytes)?;
+    let (target, rest) = record_at(rest)?;
+    let (field, rest) = field_at(rest)?;
+    let (value, _rest) = value_at(rest)?;
     let waiting = Waiting {
         number,
         target,
@@ -301,12 +269,8 @@ fn waiting_item_at(bytes: &[u8]) -> Option<BaseItem>
 fn desk_item_at(bytes: &[u8]) -> Option<BaseItem>
     ensures { Gives (λ x. x) result (desk_item_at bytes.now) }
 {
-    let Some((desk, rest)) = number_at(bytes) else {
-        return None;
-    };
-    let Some((calls, _rest)) = number_at(rest) else {
-        return None;
-    };
+    let (desk, rest) = number_at(bytes)?;
+    let (calls, _rest) = number_at(rest)?;
     Some(BaseItem::Desk(desk, calls))
 }
 

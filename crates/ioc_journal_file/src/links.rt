@@ -119,9 +119,7 @@ fn database_at(bytes: &[u8]) -> Option<(Link, &[u8])>
 fn constant_at(bytes: &[u8]) -> Option<(Link, &[u8])>
     ensures { Gives (λ x. (x.0, x.1.now)) result (constant_at bytes.now) }
 {
-    let Some((number, rest)) = integer_at(bytes) else {
-        return None;
-    };
+    let (number, rest) = integer_at(bytes)?;
     Some((Link::Constant(number), rest))
 }
 
@@ -152,12 +150,8 @@ fn link_at(bytes: &[u8]) -> Option<(Link, &[u8])>
 fn address_at(bytes: &[u8]) -> Option<(Lead, &[u8])>
     ensures { Gives (λ x. (x.0, x.1.now)) result (address_at bytes.now) }
 {
-    let Some((number, rest)) = record_at(bytes) else {
-        return None;
-    };
-    let Some((field, rest)) = field_at(rest) else {
-        return None;
-    };
+    let (number, rest) = record_at(bytes)?;
+    let (field, rest) = field_at(rest)?;
     Some((Lead::Field(FieldAddress { number, field }), rest))
 }
 
@@ -181,11 +175,7 @@ fn lead_at(bytes: &[u8]) -> Option<(Lead, &[u8])>
 pub(crate) fn link_field_at(bytes: &[u8]) -> Option<(LinkField, &[u8])>
     ensures { Gives (λ x. (x.0, x.1.now)) result (link_field_at bytes.now) }
 {
-    let Some((link, rest)) = link_at(bytes) else {
-        return None;
-    };
-    let Some((lead, rest)) = lead_at(rest) else {
-        return None;
-    };
+    let (link, rest) = link_at(bytes)?;
+    let (lead, rest) = lead_at(rest)?;
     Some((LinkField { link, lead }, rest))
 }
