@@ -185,7 +185,9 @@ fn option_at(bytes: &[u8]) -> Option<(Option<u64>, &[u8])>
 fn value_part_at(bytes: &[u8]) -> Option<(Part, &[u8])>
     ensures { Gives (λ x. (x.0, x.1.now)) result (value_part_at bytes.now) }
 {
-    let (value, rest) = value_at(bytes)?;
+    let Some((value, rest)) = value_at(bytes) else {
+        return None;
+    };
     Some((Part::Value(value), rest))
 }
 
@@ -193,7 +195,9 @@ fn value_part_at(bytes: &[u8]) -> Option<(Part, &[u8])>
 fn link_part_at(bytes: &[u8]) -> Option<(Part, &[u8])>
     ensures { Gives (λ x. (x.0, x.1.now)) result (link_part_at bytes.now) }
 {
-    let (link, rest) = link_field_at(bytes)?;
+    let Some((link, rest)) = link_field_at(bytes) else {
+        return None;
+    };
     Some((Part::Link(link), rest))
 }
 
@@ -214,11 +218,21 @@ fn part_at(bytes: &[u8]) -> Option<(Part, &[u8])>
 fn state_at(bytes: &[u8]) -> Option<(HiddenState, &[u8])>
     ensures { Gives (λ x. (x.0, x.1.now)) result (state_at bytes.now) }
 {
-    let (time, rest) = number_at(bytes)?;
-    let (pending, rest) = option_at(rest)?;
-    let (last_pending, rest) = number_at(rest)?;
-    let (last_change, rest) = number_at(rest)?;
-    let (notification, rest) = option_at(rest)?;
+    let Some((time, rest)) = number_at(bytes) else {
+        return None;
+    };
+    let Some((pending, rest)) = option_at(rest) else {
+        return None;
+    };
+    let Some((last_pending, rest)) = number_at(rest) else {
+        return None;
+    };
+    let Some((last_change, rest)) = number_at(rest) else {
+        return None;
+    };
+    let Some((notification, rest)) = option_at(rest) else {
+        return None;
+    };
     let state = HiddenState {
         time,
         pending,
@@ -233,9 +247,15 @@ fn state_at(bytes: &[u8]) -> Option<(HiddenState, &[u8])>
 fn field_item_at(bytes: &[u8]) -> Option<BaseItem>
     ensures { Gives (λ x. x) result (field_item_at bytes.now) }
 {
-    let (record, rest) = record_at(bytes)?;
-    let (field, rest) = field_at(rest)?;
-    let (part, _rest) = part_at(rest)?;
+    let Some((record, rest)) = record_at(bytes) else {
+        return None;
+    };
+    let Some((field, rest)) = field_at(rest) else {
+        return None;
+    };
+    let Some((part, _rest)) = part_at(rest) else {
+        return None;
+    };
     Some(BaseItem::Field(record, field, part))
 }
 
@@ -243,8 +263,12 @@ fn field_item_at(bytes: &[u8]) -> Option<BaseItem>
 fn state_item_at(bytes: &[u8]) -> Option<BaseItem>
     ensures { Gives (λ x. x) result (state_item_at bytes.now) }
 {
-    let (record, rest) = record_at(bytes)?;
-    let (state, _rest) = state_at(rest)?;
+    let Some((record, rest)) = record_at(bytes) else {
+        return None;
+    };
+    let Some((state, _rest)) = state_at(rest) else {
+        return None;
+    };
     Some(BaseItem::State(record, state))
 }
 
@@ -252,10 +276,18 @@ fn state_item_at(bytes: &[u8]) -> Option<BaseItem>
 fn waiting_item_at(bytes: &[u8]) -> Option<BaseItem>
     ensures { Gives (λ x. x) result (waiting_item_at bytes.now) }
 {
-    let (number, rest) = notification_at(bytes)?;
-    let (target, rest) = record_at(rest)?;
-    let (field, rest) = field_at(rest)?;
-    let (value, _rest) = value_at(rest)?;
+    let Some((number, rest)) = notification_at(bytes) else {
+        return None;
+    };
+    let Some((target, rest)) = record_at(rest) else {
+        return None;
+    };
+    let Some((field, rest)) = field_at(rest) else {
+        return None;
+    };
+    let Some((value, _rest)) = value_at(rest) else {
+        return None;
+    };
     let waiting = Waiting {
         number,
         target,
@@ -269,8 +301,12 @@ fn waiting_item_at(bytes: &[u8]) -> Option<BaseItem>
 fn desk_item_at(bytes: &[u8]) -> Option<BaseItem>
     ensures { Gives (λ x. x) result (desk_item_at bytes.now) }
 {
-    let (desk, rest) = number_at(bytes)?;
-    let (calls, _rest) = number_at(rest)?;
+    let Some((desk, rest)) = number_at(bytes) else {
+        return None;
+    };
+    let Some((calls, _rest)) = number_at(rest) else {
+        return None;
+    };
     Some(BaseItem::Desk(desk, calls))
 }
 

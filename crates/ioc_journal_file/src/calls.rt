@@ -182,7 +182,9 @@ pub(crate) fn add_call(out: &mut Vec<u8>, call: &Call) -> Result<(), AllocError>
 fn replied_at(event: Event, bytes: &[u8]) -> Option<(Call, &[u8])>
     ensures { Gives (λ x. (x.0, x.1.now)) result (replied_at event bytes.now) }
 {
-    let (reply, rest) = reply_at(bytes)?;
+    let Some((reply, rest)) = reply_at(bytes) else {
+        return None;
+    };
     Some((Call::Event(event, reply), rest))
 }
 
@@ -190,7 +192,9 @@ fn replied_at(event: Event, bytes: &[u8]) -> Option<(Call, &[u8])>
 fn process_at(bytes: &[u8]) -> Option<(Call, &[u8])>
     ensures { Gives (λ x. (x.0, x.1.now)) result (process_at bytes.now) }
 {
-    let (record, rest) = record_at(bytes)?;
+    let Some((record, rest)) = record_at(bytes) else {
+        return None;
+    };
     replied_at(Event::Process { record }, rest)
 }
 
@@ -199,9 +203,15 @@ fn process_at(bytes: &[u8]) -> Option<(Call, &[u8])>
 fn put_at(bytes: &[u8]) -> Option<(Call, &[u8])>
     ensures { Gives (λ x. (x.0, x.1.now)) result (put_at bytes.now) }
 {
-    let (record, rest) = record_at(bytes)?;
-    let (field, rest) = field_at(rest)?;
-    let (value, rest) = input_at(rest)?;
+    let Some((record, rest)) = record_at(bytes) else {
+        return None;
+    };
+    let Some((field, rest)) = field_at(rest) else {
+        return None;
+    };
+    let Some((value, rest)) = input_at(rest) else {
+        return None;
+    };
     replied_at(
         Event::Put {
             record,
@@ -217,9 +227,15 @@ fn put_at(bytes: &[u8]) -> Option<(Call, &[u8])>
 fn complete_at(bytes: &[u8]) -> Option<(Call, &[u8])>
     ensures { Gives (λ x. (x.0, x.1.now)) result (complete_at bytes.now) }
 {
-    let (record, rest) = record_at(bytes)?;
-    let (wait, rest) = number_at(rest)?;
-    let (finished, rest) = finished_at(rest)?;
+    let Some((record, rest)) = record_at(bytes) else {
+        return None;
+    };
+    let Some((wait, rest)) = number_at(rest) else {
+        return None;
+    };
+    let Some((finished, rest)) = finished_at(rest) else {
+        return None;
+    };
     replied_at(
         Event::Complete {
             record,
@@ -235,10 +251,18 @@ fn complete_at(bytes: &[u8]) -> Option<(Call, &[u8])>
 fn notify_at(bytes: &[u8]) -> Option<(Call, &[u8])>
     ensures { Gives (λ x. (x.0, x.1.now)) result (notify_at bytes.now) }
 {
-    let (record, rest) = record_at(bytes)?;
-    let (notification, rest) = notification_at(rest)?;
-    let (field, rest) = field_at(rest)?;
-    let (value, rest) = input_at(rest)?;
+    let Some((record, rest)) = record_at(bytes) else {
+        return None;
+    };
+    let Some((notification, rest)) = notification_at(rest) else {
+        return None;
+    };
+    let Some((field, rest)) = field_at(rest) else {
+        return None;
+    };
+    let Some((value, rest)) = input_at(rest) else {
+        return None;
+    };
     replied_at(
         Event::Notify {
             record,
@@ -255,7 +279,9 @@ fn notify_at(bytes: &[u8]) -> Option<(Call, &[u8])>
 fn cancel_at(bytes: &[u8]) -> Option<(Call, &[u8])>
     ensures { Gives (λ x. (x.0, x.1.now)) result (cancel_at bytes.now) }
 {
-    let (notification, rest) = notification_at(bytes)?;
+    let Some((notification, rest)) = notification_at(bytes) else {
+        return None;
+    };
     replied_at(Event::Cancel { notification }, rest)
 }
 
@@ -264,8 +290,12 @@ fn cancel_at(bytes: &[u8]) -> Option<(Call, &[u8])>
 fn get_at(bytes: &[u8]) -> Option<(Call, &[u8])>
     ensures { Gives (λ x. (x.0, x.1.now)) result (get_at bytes.now) }
 {
-    let (number, rest) = record_at(bytes)?;
-    let (field, rest) = field_at(rest)?;
+    let Some((number, rest)) = record_at(bytes) else {
+        return None;
+    };
+    let Some((field, rest)) = field_at(rest) else {
+        return None;
+    };
     let (shown, rest) = shown_at(rest);
     Some((Call::Get(number, field, shown), rest))
 }
@@ -275,7 +305,9 @@ fn get_at(bytes: &[u8]) -> Option<(Call, &[u8])>
 fn is_live_at(bytes: &[u8]) -> Option<(Call, &[u8])>
     ensures { Gives (λ x. (x.0, x.1.now)) result (is_live_at bytes.now) }
 {
-    let (number, rest) = notification_at(bytes)?;
+    let Some((number, rest)) = notification_at(bytes) else {
+        return None;
+    };
     let (live, rest) = live_at(rest);
     Some((Call::IsLive(number, live), rest))
 }
@@ -285,9 +317,15 @@ fn is_live_at(bytes: &[u8]) -> Option<(Call, &[u8])>
 fn relink_at(bytes: &[u8]) -> Option<(Call, &[u8])>
     ensures { Gives (λ x. (x.0, x.1.now)) result (relink_at bytes.now) }
 {
-    let (number, rest) = record_at(bytes)?;
-    let (field, rest) = field_at(rest)?;
-    let (link, rest) = link_field_at(rest)?;
+    let Some((number, rest)) = record_at(bytes) else {
+        return None;
+    };
+    let Some((field, rest)) = field_at(rest) else {
+        return None;
+    };
+    let Some((link, rest)) = link_field_at(rest) else {
+        return None;
+    };
     let (changed, rest) = changed_at(rest);
     Some((Call::Link(number, field, link, changed), rest))
 }
@@ -298,7 +336,9 @@ fn post_at(bytes: &[u8]) -> Option<(Call, &[u8])>
     ensures { Gives (λ x. (x.0, x.1.now)) result (post_at bytes.now) }
 {
     let (name, rest) = text_at(bytes);
-    let (count, rest) = number_at(rest)?;
+    let Some((count, rest)) = number_at(rest) else {
+        return None;
+    };
     Some((Call::Post(name, count), rest))
 }
 
@@ -308,7 +348,9 @@ fn interrupt_at(bytes: &[u8]) -> Option<(Call, &[u8])>
     ensures { Gives (λ x. (x.0, x.1.now)) result (interrupt_at bytes.now) }
 {
     let (device, rest) = text_at(bytes);
-    let (count, rest) = number_at(rest)?;
+    let Some((count, rest)) = number_at(rest) else {
+        return None;
+    };
     Some((Call::Interrupt(device, count), rest))
 }
 

@@ -108,10 +108,18 @@ pub fn print(line: &Line, out: &mut Vec<u8>) -> Result<(), AllocError>
 fn mark_at(bytes: &[u8]) -> Option<(Mark, &[u8])>
     ensures { Gives (λ x. (x.0, x.1.now)) result (mark_at bytes.now) }
 {
-    let (place, rest) = number_at(bytes)?;
-    let (desk, rest) = number_at(rest)?;
-    let (call, rest) = number_at(rest)?;
-    let (moment, rest) = number_at(rest)?;
+    let Some((place, rest)) = number_at(bytes) else {
+        return None;
+    };
+    let Some((desk, rest)) = number_at(rest) else {
+        return None;
+    };
+    let Some((call, rest)) = number_at(rest) else {
+        return None;
+    };
+    let Some((moment, rest)) = number_at(rest) else {
+        return None;
+    };
     let mark = Mark {
         place,
         desk,
@@ -126,9 +134,15 @@ fn mark_at(bytes: &[u8]) -> Option<(Mark, &[u8])>
 fn head_at(bytes: &[u8]) -> Option<((Mark, Call, u64), &[u8])>
     ensures { Gives (λ x. (x.0, x.1.now)) result (head_at bytes.now) }
 {
-    let (mark, rest) = mark_at(bytes)?;
-    let (call, rest) = call_at(rest)?;
-    let (count, rest) = number_at(rest)?;
+    let Some((mark, rest)) = mark_at(bytes) else {
+        return None;
+    };
+    let Some((call, rest)) = call_at(rest) else {
+        return None;
+    };
+    let Some((count, rest)) = number_at(rest) else {
+        return None;
+    };
     Some(((mark, call, count), rest))
 }
 

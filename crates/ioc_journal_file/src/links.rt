@@ -119,7 +119,9 @@ fn database_at(bytes: &[u8]) -> Option<(Link, &[u8])>
 fn constant_at(bytes: &[u8]) -> Option<(Link, &[u8])>
     ensures { Gives (λ x. (x.0, x.1.now)) result (constant_at bytes.now) }
 {
-    let (number, rest) = integer_at(bytes)?;
+    let Some((number, rest)) = integer_at(bytes) else {
+        return None;
+    };
     Some((Link::Constant(number), rest))
 }
 
@@ -150,8 +152,12 @@ fn link_at(bytes: &[u8]) -> Option<(Link, &[u8])>
 fn address_at(bytes: &[u8]) -> Option<(Lead, &[u8])>
     ensures { Gives (λ x. (x.0, x.1.now)) result (address_at bytes.now) }
 {
-    let (number, rest) = record_at(bytes)?;
-    let (field, rest) = field_at(rest)?;
+    let Some((number, rest)) = record_at(bytes) else {
+        return None;
+    };
+    let Some((field, rest)) = field_at(rest) else {
+        return None;
+    };
     Some((Lead::Field(FieldAddress { number, field }), rest))
 }
 
@@ -175,7 +181,11 @@ fn lead_at(bytes: &[u8]) -> Option<(Lead, &[u8])>
 pub(crate) fn link_field_at(bytes: &[u8]) -> Option<(LinkField, &[u8])>
     ensures { Gives (λ x. (x.0, x.1.now)) result (link_field_at bytes.now) }
 {
-    let (link, rest) = link_at(bytes)?;
-    let (lead, rest) = lead_at(rest)?;
+    let Some((link, rest)) = link_at(bytes) else {
+        return None;
+    };
+    let Some((lead, rest)) = lead_at(rest) else {
+        return None;
+    };
     Some((LinkField { link, lead }, rest))
 }

@@ -82,7 +82,9 @@ fn refused_at(bytes: &[u8]) -> Option<(Reply, &[u8])>
 fn notified_at(bytes: &[u8]) -> Option<(Reply, &[u8])>
     ensures { Gives (λ x. (x.0, x.1.now)) result (notified_at bytes.now) }
 {
-    let (number, rest) = notification_at(bytes)?;
+    let Some((number, rest)) = notification_at(bytes) else {
+        return None;
+    };
     Some((Reply::Notify(number), rest))
 }
 

@@ -92,7 +92,9 @@ pub(crate) fn add_answer(out: &mut Vec<u8>, answer: &Answer) -> Result<(), Alloc
 fn number_in(range: Range, bytes: &[u8]) -> Option<(Value, &[u8])>
     ensures { Gives (λ x. (x.0, x.1.now)) result (number_in range bytes.now) }
 {
-    let (number, rest) = integer_at(bytes)?;
+    let Some((number, rest)) = integer_at(bytes) else {
+        return None;
+    };
     let value = of_number(Kind::Number(range), number)?;
     Some((value, rest))
 }
@@ -142,7 +144,9 @@ pub(crate) fn value_at(bytes: &[u8]) -> Option<(Value, &[u8])>
 fn value_input_at(bytes: &[u8]) -> Option<(Input, &[u8])>
     ensures { Gives (λ x. (x.0, x.1.now)) result (value_input_at bytes.now) }
 {
-    let (value, rest) = value_at(bytes)?;
+    let Some((value, rest)) = value_at(bytes) else {
+        return None;
+    };
     Some((Input::Value(value), rest))
 }
 
@@ -163,7 +167,9 @@ pub(crate) fn input_at(bytes: &[u8]) -> Option<(Input, &[u8])>
 fn done_at(bytes: &[u8]) -> Option<(Finished, &[u8])>
     ensures { Gives (λ x. (x.0, x.1.now)) result (done_at bytes.now) }
 {
-    let (value, rest) = value_at(bytes)?;
+    let Some((value, rest)) = value_at(bytes) else {
+        return None;
+    };
     Some((Finished::Done(value), rest))
 }
 
@@ -183,7 +189,9 @@ pub(crate) fn finished_at(bytes: &[u8]) -> Option<(Finished, &[u8])>
 fn value_answer_at(bytes: &[u8]) -> Option<(Answer, &[u8])>
     ensures { Gives (λ x. (x.0, x.1.now)) result (value_answer_at bytes.now) }
 {
-    let (value, rest) = value_at(bytes)?;
+    let Some((value, rest)) = value_at(bytes) else {
+        return None;
+    };
     Some((Answer::Done(value), rest))
 }
 
