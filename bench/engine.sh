@@ -54,6 +54,17 @@ for records in 1 4 10 16 32 100; do
   echo "| $records | $map | $(each 'PROGRAM TOTALS') |"
 done
 echo
+echo "| Records of a chain | Nobody watches | All are watched, and marked | All are watched, and looked at |"
+echo "|---|---|---|---|"
+for records in 1 10; do
+  row="| $records"
+  for work in chain marked watched; do
+    by_engine "$records" "$work"
+    row="$row | $(each 'PROGRAM TOTALS')"
+  done
+  echo "$row |"
+done
+echo
 echo "| A round | Beside it | Instructions |"
 echo "|---|---|---|"
 for work_and_size in "put 0" "notify 0" "link 1000" "link 131000" "cancel 1000" "cancel 131000" "post 1"; do

@@ -13,8 +13,9 @@ pub const PROGRAM: Program<'static> = Program {
 };
 
 // The names of the works.
-static WORKS: [&str; 11] = [
-    "lone", "chain", "put", "notify", "link", "cancel", "post", "serve", "spread", "narrow", "hold",
+static WORKS: [&str; 13] = [
+    "lone", "chain", "marked", "watched", "put", "notify", "link", "cancel", "post", "serve",
+    "spread", "narrow", "hold",
 ];
 
 // Returns the argument of a number.

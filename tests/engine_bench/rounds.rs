@@ -5,10 +5,14 @@ use ioc_engine::{
     Channel, Desk, Engine, EngineName, Finished, FixedClock, Input as Given, IocError, NotifyId,
     Outcome, RecordNo, Reply, Value,
 };
+use ioc_fields::{FieldNo, OwnField};
 use std::alloc::Global;
 use std::sync::Wait;
 use std::thread;
 use std::thread::Threads;
+
+// The field that is looked at.
+const VALUE: FieldNo = FieldNo::Own(OwnField::Val);
 
 type Calls<B> = Engine<B, Sensor, FixedClock>;
 
@@ -52,6 +56,43 @@ fn requests<B: EngineName<Sensor>, R: Wait>(
         let (reply, _receipt) = engine.process(rt, desk, RecordNo::new(place))?;
         held = held.saturating_add(u64::from(is_processed(&reply)));
         place = ring.after(place);
+    }
+    Ok(held)
+}
+
+// Looks at VAL of each record that is marked.
+fn look_at_marked<B: EngineName<Sensor>, R: Wait>(
+    rt: &R,
+    engine: &Calls<B>,
+    desk: &mut OneDesk<B>,
+) -> Result<(), IocError> {
+    for number in &engine.take_marked(rt)? {
+        engine.look(rt, desk, *number, &[VALUE])?;
+    }
+    Ok(())
+}
+
+// Watches the records of a chain, and requests the first of them in each round. If it looks, it looks at
+// VAL of each that is marked then.
+fn watched_requests<B: EngineName<Sensor>, R: Wait>(
+    rt: &R,
+    engine: &Calls<B>,
+    desk: &mut OneDesk<B>,
+    job: &Job,
+    channel: Channel,
+) -> Result<u64, IocError> {
+    let first = channel.record().index();
+    for place in first..first.saturating_add(job.size) {
+        engine.watch(rt, RecordNo::new(place))?;
+    }
+    look_at_marked(rt, engine, desk)?;
+    let mut held = 0u64;
+    for _ in 0..job.rounds {
+        let (reply, _receipt) = engine.process(rt, desk, channel.record())?;
+        held = held.saturating_add(u64::from(is_processed(&reply)));
+        if matches!(job.work, Work::Watched) {
+            look_at_marked(rt, engine, desk)?;
+        }
     }
     Ok(held)
 }
@@ -177,7 +218,9 @@ fn target_of<B: EngineName<Sensor>>(
 ) -> Result<Target, IocError> {
     let first = thread.saturating_mul(2);
     let name = match work {
-        Work::Lone | Work::Chain | Work::Put => format!(in alloc; "c{thread}:0")?,
+        Work::Lone | Work::Chain | Work::Marked | Work::Watched | Work::Put => format!(in alloc;
+            "c{thread}:0"
+        )?,
         Work::Notify | Work::Cancel => format!(in alloc; "d{thread}")?,
         Work::Link => format!(in alloc; "c{first}:9.FLNK")?,
         Work::Post => format!(in alloc; "p{thread}")?,
@@ -224,6 +267,7 @@ fn rounds<B: EngineName<Sensor>, R: Wait>(
             let ring = ring_of(job, channel.record().index(), thread);
             requests(rt, engine, &mut desk, ring, job.rounds)
         }
+        Work::Marked | Work::Watched => watched_requests(rt, engine, &mut desk, job, channel),
         Work::Put => {
             let given = Given::from_text(b"3");
             puts(rt, engine, &mut desk, channel, &given, job.rounds)

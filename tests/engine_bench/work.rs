@@ -15,6 +15,11 @@ pub enum Work {
     Lone,
     /// A round requests the first record of a chain.
     Chain,
+    /// A round requests the first record of a chain whose records are watched, and marked from the first
+    /// round on.
+    Marked,
+    /// The same, and looks at each record that is marked.
+    Watched,
     /// A round puts a value into a record without links.
     Put,
     /// A round is a put with notification into a record that awaits its device, and its completion.
@@ -45,6 +50,8 @@ impl Work {
         match name {
             "lone" => Some(Work::Lone),
             "chain" => Some(Work::Chain),
+            "marked" => Some(Work::Marked),
+            "watched" => Some(Work::Watched),
             "put" => Some(Work::Put),
             "notify" => Some(Work::Notify),
             "link" => Some(Work::Link),
@@ -63,6 +70,8 @@ impl Work {
         match self {
             Work::Lone => "lone",
             Work::Chain => "chain",
+            Work::Marked => "marked",
+            Work::Watched => "watched",
             Work::Put => "put",
             Work::Notify => "notify",
             Work::Link => "link",
@@ -114,7 +123,7 @@ impl Job {
         let threads = self.threads;
         let (chains, length, awaiting, others) = match self.work {
             Work::Lone | Work::Put => (threads, 1, 0, self.size),
-            Work::Chain => (threads, self.size, 0, 0),
+            Work::Chain | Work::Marked | Work::Watched => (threads, self.size, 0, 0),
             Work::Link => (threads.saturating_mul(2), 10, 0, self.size),
             Work::Notify | Work::Cancel => (0, 0, threads, self.size),
             Work::Post | Work::Spread | Work::Narrow | Work::Hold => (0, 0, 0, self.size),

@@ -13,5 +13,6 @@ mod sessions;
 mod steps;
 mod timer;
 mod walk;
+mod watched;
 mod worked;
 mod workers;

@@ -47,6 +47,10 @@ struct Answerer<E: Write + Drop> {
     tick: u64,
     // How many asks of devices were answered.
     answered: u64,
+    // How many puts with notification were begun, and how many have ended or were canceled. Each ends by a
+    // line: whatever is part of one awaits a device, so no worker and no tick ends one.
+    puts_begun: u64,
+    puts_over: u64,
 }
 
 // What is said to a line: its reply, and the lines that come behind it without a tag.
@@ -117,6 +121,8 @@ impl<I: Read + Drop, E: Write + Drop> Console<I, E> {
                 line: 0,
                 tick: 0,
                 answered: 0,
+                puts_begun: 0,
+                puts_over: 0,
             },
         })
     }
@@ -221,10 +227,13 @@ impl<E: Write + Drop> Answerer<E> {
         add_named(alloc, said, "watches", counts.watches)?;
         let open = counts.told.saturating_sub(self.answered);
         add_named(alloc, said, "asks_open", open)?;
-        let mut count = 5;
-        if let Some(entries) = counts.entries {
+        let live = self.puts_begun.saturating_sub(self.puts_over);
+        add_named(alloc, said, "puts_live", live)?;
+        let mut count = 6;
+        if let Some((entries, in_memory)) = counts.entries {
             add_named(alloc, said, "entries", entries)?;
-            count += 1;
+            add_named(alloc, said, "entries_in_memory", in_memory)?;
+            count += 2;
         }
         if let Some((saves, failed)) = counts.saves {
             add_named(alloc, said, "saves", saves)?;
@@ -258,7 +267,7 @@ impl<E: Write + Drop> Answerer<E> {
         if let Reply::Plain = reply {
             self.answered = self.answered.saturating_add(1);
         }
-        say(caller, reply, answer)
+        self.say(caller, reply, answer)
     }
 
     // Appends a line for each field of a record, and returns how many fields it has.
@@ -282,31 +291,6 @@ impl<E: Write + Drop> Answerer<E> {
         }
         Ok(count)
     }
-}
-
-// Appends a line for each put with notification that has ended by the last call.
-fn add_ended<B: EngineName<D>, D: Device, C: Clock + Drop, R: Wait>(
-    caller: &Caller<'_, B, D, C, R>,
-    behind: &mut Vec<u8>,
-) -> Result<(), AllocError> {
-    for number in caller.desk.ended() {
-        behind.extend_from_slice(ended_line(*number).as_slice())?;
-    }
-    Ok(())
-}
-
-// Appends the line of a reply and one for each put with notification that has ended by its call, or
-// returns the refusal.
-fn say<B: EngineName<D>, D: Device, C: Clock + Drop, R: Wait>(
-    caller: &Caller<'_, B, D, C, R>,
-    reply: Reply,
-    answer: &mut Answer,
-) -> Result<(), LineFault> {
-    if let Reply::Refused(refused) = reply {
-        return Err(LineFault::from(refused));
-    }
-    add_reply(&mut answer.reply, &reply)?;
-    Ok(add_ended(caller, &mut answer.behind)?)
 }
 
 // Makes the call that a line of a script asks for, if its answer is a reply.
@@ -356,6 +340,40 @@ fn placed_by<B: EngineName<D>, D: Device, C: Clock + Drop, R: Wait>(
 }
 
 impl<E: Write + Drop> Answerer<E> {
+    // Counts the puts with notification that the last call has begun or ended, and appends a line for each
+    // that has ended.
+    fn add_ended<B: EngineName<D>, D: Device, C: Clock + Drop, R: Wait>(
+        &mut self,
+        caller: &Caller<'_, B, D, C, R>,
+        reply: &Reply,
+        behind: &mut Vec<u8>,
+    ) -> Result<(), AllocError> {
+        if let Reply::Notify(_) = reply {
+            self.puts_begun = self.puts_begun.saturating_add(1);
+        }
+        let ended = caller.desk.ended();
+        self.puts_over = self.puts_over.saturating_add(ended.len() as u64);
+        for number in ended {
+            behind.extend_from_slice(ended_line(*number).as_slice())?;
+        }
+        Ok(())
+    }
+
+    // Appends the line of a reply and one for each put with notification that has ended by its call, or
+    // returns the refusal.
+    fn say<B: EngineName<D>, D: Device, C: Clock + Drop, R: Wait>(
+        &mut self,
+        caller: &Caller<'_, B, D, C, R>,
+        reply: Reply,
+        answer: &mut Answer,
+    ) -> Result<(), LineFault> {
+        if let Reply::Refused(refused) = reply {
+            return Err(LineFault::from(refused));
+        }
+        add_reply(&mut answer.reply, &reply)?;
+        Ok(self.add_ended(caller, &reply, &mut answer.behind)?)
+    }
+
     // Does what a line of a script asks for, and appends its reply.
     fn do_script<B: EngineName<D>, D: Device, C: Clock + Drop, R: Wait>(
         &mut self,
@@ -380,7 +398,10 @@ impl<E: Write + Drop> Answerer<E> {
             _ => {}
         }
         if let Some(reply) = reply_to(caller, command)? {
-            return say(caller, reply, answer);
+            if let (Command::Cancel(_), Reply::Plain) = (command, &reply) {
+                self.puts_over = self.puts_over.saturating_add(1);
+            }
+            return self.say(caller, reply, answer);
         }
         match count_for(caller, command)? {
             Some(count) => Ok(add_count(&mut answer.reply, count)?),
@@ -408,8 +429,9 @@ impl<E: Write + Drop> Answerer<E> {
         let Some(answered) = placed_by(caller, request, given)? else {
             return Ok(());
         };
+        let reply = answered.0;
         self.say_placed(caller.alloc, answered, &mut answer.reply)?;
-        Ok(add_ended(caller, &mut answer.behind)?)
+        Ok(self.add_ended(caller, &reply, &mut answer.behind)?)
     }
 
     // Appends the names of the records that a type, a pattern, or both stand for.

@@ -73,6 +73,11 @@ impl<J: Write + Drop> JournalWriter<J> {
         self.text.place()
     }
 
+    /// Returns how many of the entries before that place are still in memory.
+    pub fn in_memory(&self) -> u64 {
+        self.text.place().saturating_sub(self.kept)
+    }
+
     // Writes the lines that aren't written yet, with a seal behind them if one is due. If that fails,
     // they are left out.
     fn flush(&mut self, is_last: bool) -> Result<(), RunFault> {

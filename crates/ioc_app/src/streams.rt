@@ -1,4 +1,8 @@
 //! What the threads of a run write.
+ghost use Rattle.std.specs.Prelude.{List, OnOk};
+ghost use Rattle.ioc_devices.specs.Asking.{TakesAll, TellsAll};
+ghost use Rattle.ioc_devices.specs.declared.asks.Asked.{Asked};
+
 use crate::caller::LineFault;
 use crate::fault::RunFault;
 use crate::journal::JournalWriter;
@@ -6,7 +10,7 @@ use crate::pace::{Next, Pace};
 use crate::saving::Saving;
 use crate::watching::{add_changes, add_marked};
 use ioc_command_line::Reason;
-use ioc_devices::{Asked, Asks};
+use ioc_devices::{AskTeller, Asked, Asks};
 use ioc_engine::{Desk, Device, Engine, EngineName, IocError};
 use ioc_names::RecordNo;
 use ioc_watches::{Removal, Watch, Watches};
@@ -18,8 +22,8 @@ use std::sync::{Mutex, Wait};
 #[derive(Clone, Copy)]
 pub struct Counts {
     pub pace: Pace,
-    /// How many entries the journal's file has, if it is kept.
-    pub entries: Option<u64>,
+    /// How many entries the journal has, and how many of them are in memory, if it is kept.
+    pub entries: Option<(u64, u64)>,
     /// How many asks devices outside were told.
     pub told: u64,
     /// How many words watch fields.
@@ -33,7 +37,7 @@ pub struct Counts {
 /// nothing more is written.
 #[derive(Drop)]
 pub struct Streams<'a, W: Write + Drop, J: Write + Drop> {
-    written: Mutex<Written<W, J>>,
+    written: Mutex<Written<'a, W, J>>,
     pub asks: &'a Asks,
     /// What is saved, if anything is.
     pub saving: Option<&'a Saving>,
@@ -41,10 +45,11 @@ pub struct Streams<'a, W: Write + Drop, J: Write + Drop> {
 
 // What is written under the lock.
 #[derive(Drop)]
-struct Written<W: Write + Drop, J: Write + Drop> {
+struct Written<'a, W: Write + Drop, J: Write + Drop> {
     lines: W,
     journal: Option<JournalWriter<J>>,
     pace: Pace,
+    teller: AskTeller<'a>,
     told: u64,
     watches: Watches,
     fault: Option<RunFault>,
@@ -67,7 +72,7 @@ fn settle<B: EngineName<D>, D: Device, C: Drop, R: Wait>(
     }
 }
 
-impl<W: Write + Drop, J: Write + Drop> Written<W, J> {
+impl<W: Write + Drop, J: Write + Drop> Written<'_, W, J> {
     // Returns the fault of the write that failed, if one did.
     fn check(&self) -> Result<(), RunFault> {
         match self.fault {
@@ -118,11 +123,14 @@ impl<W: Write + Drop, J: Write + Drop> Written<W, J> {
         desk: &mut Desk<B, D>,
         asks: &Asks,
         lines: &mut Vec<u8>,
-    ) -> Result<(), RunFault> {
-        let all = asks.take(rt, alloc)?;
+    ) -> Result<(), RunFault>
+        ensures { OnOk result ((all : List Asked) × TakesAll self.old.teller.lane.seen all self.new.teller.lane.seen
+            × TellsAll asks.now.records.items all lines.old.items lines.new.items) }
+    {
+        let all = self.teller.take(rt, alloc)?;
         for asked in &all {
             settle(rt, engine, desk, asks, asked)?;
-            asks.add_line(alloc, lines, asked)?;
+            asks.add_line(lines, asked)?;
         }
         self.told = self.told.saturating_add(all.len() as u64);
         Ok(())
@@ -188,6 +196,7 @@ impl<'a, W: Write + Drop, J: Write + Drop> Streams<'a, W, J> {
                 lines,
                 journal,
                 pace: Pace::new(),
+                teller: asks.teller(),
                 told: 0,
                 watches: Watches::new(alloc),
                 fault: None,
@@ -309,7 +318,7 @@ impl<'a, W: Write + Drop, J: Write + Drop> Streams<'a, W, J> {
         Counts {
             pace: written.pace,
             entries: match &written.journal {
-                Some(writer) => Some(writer.place()),
+                Some(writer) => Some((writer.place(), writer.in_memory())),
                 None => None,
             },
             told: written.told,

@@ -1,5 +1,5 @@
 -- How a program ends.
-use Rattle.std.specs.Prelude.{◌≡◌, ◌⊎◌, ℕ, List, [], ◌∷◌, ◌++◌, codes, Bool, true, false, String, if◌then◌else◌, Option, Some, None, Result, Ok, Err}
+use Rattle.std.specs.Prelude.{◌≡◌, ◌⊎◌, ℕ, ℤ, pos, int_eq, List, [], ◌∷◌, ◌++◌, codes, Bool, true, false, String, if◌then◌else◌, Option, Some, None, Result, Ok, Err}
 use Rattle.std.specs.Borrow.{Bor}
 use Rattle.std.specs.Global.{Global}
 use Rattle.std.specs.String.{string_bytes}
@@ -31,6 +31,15 @@ reason_of kind.FileTooLarge = reason.FileTooLarge
 reason_of kind.BrokenPipe = reason.BrokenPipe
 reason_of _ = reason.Other
 
+-- Whether the code of an error says that no file is open (EBADF).
+abbrev pub is_closed : Option ℤ → Bool
+is_closed None = false
+is_closed (Some code) = int_eq code (pos 9)
+
+-- The reason of the operating system for standard input, by the code and the kind of its error.
+abbrev pub input_reason_of : Option ℤ → ErrorKind → Reason
+input_reason_of code error = if is_closed code then reason.ClosedInput else reason_of error
+
 -- The words of the operating system.
 unfoldable pub reason_text : Reason → List ℕ
 reason_text reason.NotFound = codes "No such file or directory"
@@ -40,6 +49,7 @@ reason_text reason.IsADirectory = codes "Is a directory"
 reason_text reason.StorageFull = codes "No space left on device"
 reason_text reason.FileTooLarge = codes "File too large"
 reason_text reason.BrokenPipe = codes "Broken pipe"
+reason_text reason.ClosedInput = codes "Standard input is closed"
 reason_text reason.Gap = codes "Entries are missing"
 reason_text reason.Other = codes "Input/output error"
 

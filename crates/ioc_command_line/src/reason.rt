@@ -1,9 +1,12 @@
 //! Why the operating system refused to open, read or write a file.
 ghost use Rattle.std.specs.Prelude.{◌≡◌};
-ghost use Rattle.std.specs.IoError.{error_kind};
-ghost use Rattle.ioc_command_line.specs.Endings.{reason_of, reason_text, is_out_of_memory};
+ghost use Rattle.std.specs.IoError.{error_kind, raw_os_error};
+ghost use Rattle.ioc_command_line.specs.Endings.{reason_of, input_reason_of, reason_text, is_out_of_memory};
 
 use std::{fmt, io};
+
+// The code of the operating system for a file that isn't open.
+const EBADF: i32 = 9;
 
 /// Why the operating system refused to open, read or write a file.
 #[derive(Clone, Copy, Debug, PartialEq, Eq)]
@@ -16,6 +19,8 @@ pub enum Reason {
     FileTooLarge,
     /// Nobody reads what is written.
     BrokenPipe,
+    /// The program was started without a standard input.
+    ClosedInput,
     /// Lines that were to be written before are missing.
     Gap,
     Other,
@@ -37,6 +42,16 @@ impl Reason {
             _ => Reason::Other,
         }
     }
+
+    /// The reason that an error of standard input tells.
+    pub fn of_input(error: &io::Error) -> Self
+        ensures { result ≡ input_reason_of (raw_os_error error.now) (error_kind error.now) }
+    {
+        if error.raw_os_error() == Some(EBADF) {
+            return Reason::ClosedInput;
+        }
+        Reason::of(error)
+    }
 }
 
 /// The words of the operating system.
@@ -55,6 +70,7 @@ impl fmt::Display for Reason {
             Reason::StorageFull => "No space left on device",
             Reason::FileTooLarge => "File too large",
             Reason::BrokenPipe => "Broken pipe",
+            Reason::ClosedInput => "Standard input is closed",
             Reason::Gap => "Entries are missing",
             Reason::Other => "Input/output error",
         })

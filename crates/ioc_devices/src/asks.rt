@@ -1,12 +1,14 @@
 //! Devices outside the program, and what they are asked.
+ghost use Rattle.std.specs.Prelude.{◌≡◌, [], IfOk, OnOk};
 ghost use Rattle.ioc_devices.specs.Devices.{outside_gives};
+ghost use Rattle.ioc_devices.specs.Asking.{TakesAll, Adds, IsValueText, IsAskText, IsAskLine, Tells};
 
-use crossbeam_queue::ArrayQueue;
 use ioc_commands::add_escaped_text;
 use ioc_dbfile::{Database, DeviceName, device_named};
 use ioc_device::{Answer, Ask, Device};
 use ioc_names::RecordNo;
 use ioc_record::RecordKind;
+use ioc_shared_queues::{QueueLane, SharedQueue};
 use ioc_values::{Name, Value, exact_double_text};
 use itoa::Buffer;
 use std::alloc::{AllocError, Global};
@@ -19,21 +21,21 @@ const ASKS_OF_A_DEVICE: usize = 2;
 
 const LEAST_ASKS: usize = 4_096;
 
-// A record whose device is outside.
+/// A record whose device is outside.
 #[derive(Clone, Copy)]
-struct OutsideRecord {
-    number: RecordNo,
-    name: Name,
-    // What follows the `@` of its link.
-    text: DeviceName,
+pub struct OutsideRecord {
+    pub number: RecordNo,
+    pub name: Name,
+    /// What follows the `@` of its link.
+    pub text: DeviceName,
 }
 
 /// What a device outside is asked, with the number of the wait that its answer ends.
 #[derive(Clone, Copy)]
 pub struct Asked {
-    device: usize,
-    wait: u64,
-    ask: Ask,
+    pub device: usize,
+    pub wait: u64,
+    pub ask: Ask,
 }
 
 /// What devices outside are asked and nobody has told them yet.
@@ -44,8 +46,8 @@ pub struct Asked {
 /// ```
 #[derive(Drop)]
 pub struct Asks {
-    records: Vec<OutsideRecord>,
-    queue: ArrayQueue<Asked>,
+    pub records: Vec<OutsideRecord>,
+    pub queue: SharedQueue<Asked>,
     // Ends the sleep of the thread that tells of the asks.
     alarm: Parker,
     // Whether that thread is to end.
@@ -58,23 +60,29 @@ pub struct Asks {
 pub struct OutsideDevice<'a, R: Wait> {
     rt: &'a R,
     asks: &'a Asks,
+    lane: QueueLane<Asked>,
     number: usize,
     // The number of its last wait.
     wait: u64,
+    ghost of: { lane.of ≡ asks.now.queue.id },
 }
 
 impl<R: Wait> OutsideDevice<'_, R> {
     // Puts what the device is asked on the queue.
     fn put_down(&mut self, ask: Ask) -> Answer
-        ensures { outside_gives self.old.wait result self.new.wait }
+        ensures number { self.new.number ≡ self.old.number }
+        ensures gives { outside_gives self.old.number self.old.wait self.old.lane.seen ask result self.new.wait self.new.lane.seen }
     {
-        let wait = self.wait.saturating_add(1);
+        let Some(wait) = self.wait.checked_add(1) else {
+            return Answer::Fault;
+        };
         let asked = Asked {
             device: self.number,
             wait,
             ask,
         };
-        if self.asks.queue.push(self.rt, asked).is_err() {
+        let put = self.asks.queue.put(self.rt, &mut self.lane, asked);
+        if put.is_err() {
             return Answer::Fault;
         }
         self.wait = wait;
@@ -84,7 +92,8 @@ impl<R: Wait> OutsideDevice<'_, R> {
 }
 
 impl<R: Wait> Device for OutsideDevice<'_, R> {
-    ghost gives = { λ old _ _ answer new. outside_gives old.wait answer new.wait };
+    ghost gives = { λ old ask _ answer new. (new.number ≡ old.number)
+        × outside_gives old.number old.wait old.lane.seen ask answer new.wait new.lane.seen };
 
     fn read(&mut self, _moment: u64) -> Answer {
         self.put_down(Ask::Read)
@@ -101,14 +110,83 @@ impl<R: Wait> Device for OutsideDevice<'_, R> {
 /// # Errors
 ///
 /// [`AllocError`] if allocation fails; a part may have been appended then.
-pub fn add_value(out: &mut Vec<u8>, value: Value) -> Result<(), AllocError> {
+pub fn add_value(out: &mut Vec<u8>, value: Value) -> Result<(), AllocError>
+    ensures { OnOk result (Adds (IsValueText value) out.old.items out.new.items) }
+{
     match &value {
         Value::Text(text) => add_escaped_text(out, text.as_slice()),
         Value::Double(number) => out.extend_from_slice(exact_double_text(*number).as_slice()),
-        _ => {
-            let number = value.number().unwrap_or(0);
-            out.extend_from_slice(Buffer::new().format(number).as_bytes())
+        _ => match value.number() {
+            Some(number) => out.extend_from_slice(Buffer::new().format(number).as_bytes()),
+            None => Ok(()),
+        },
+    }
+}
+
+// Appends what a device with this text is asked to do.
+fn add_ask(out: &mut Vec<u8>, text: &DeviceName, ask: &Ask) -> Result<(), AllocError>
+    ensures { OnOk result (Adds (IsAskText text.now ask.now) out.old.items out.new.items) }
+{
+    match *ask {
+        Ask::Read => {
+            out.extend_from_slice(b" read ")?;
+            add_escaped_text(out, text.as_slice())
         }
+        Ask::Write(value) => {
+            out.extend_from_slice(b" write ")?;
+            add_escaped_text(out, text.as_slice())?;
+            out.push(b'\t')?;
+            add_value(out, value)
+        }
+    }
+}
+
+// Appends the line that tells the device of a record what it is asked.
+fn add_line_of(out: &mut Vec<u8>, outside: &OutsideRecord, asked: &Asked) -> Result<(), AllocError>
+    ensures { OnOk result (Adds (IsAskLine outside.now asked.now) out.old.items out.new.items) }
+{
+    out.extend_from_slice(b"? ")?;
+    out.extend_from_slice(outside.name.as_slice())?;
+    out.push(b' ')?;
+    out.extend_from_slice(Buffer::new().format(asked.wait).as_bytes())?;
+    add_ask(out, &outside.text, &asked.ask)?;
+    out.push(b'\n')?;
+    Ok(())
+}
+
+/// By which what devices were asked is taken, to be told.
+///
+/// ```rust
+/// let mut teller = asks.teller();
+/// for asked in &teller.take(rt, alloc)? {
+///     asks.add_line(&mut lines, asked)?;
+/// }
+/// ```
+#[derive(Drop)]
+pub struct AskTeller<'a> {
+    asks: &'a Asks,
+    lane: QueueLane<Asked>,
+    ghost of: { lane.of ≡ asks.now.queue.id },
+}
+
+impl AskTeller<'_> {
+    /// Takes what devices were asked and nobody has told them yet, in the order in which they were asked.
+    ///
+    /// # Errors
+    ///
+    /// [`AllocError`] if allocation fails. What was taken before is lost then.
+    #[tactic(auto, using(crate::proofs::Takings::takes_one_more))]
+    pub fn take<R: Wait>(&mut self, rt: &R, alloc: Global) -> Result<Vec<Asked>, AllocError>
+        ensures { IfOk result (λ taken. TakesAll self.old.lane.seen taken.items self.new.lane.seen) }
+    {
+        let mut taken = Vec::new(alloc);
+        for _ in 0..self.asks.queue.capacity() {
+            let Some(asked) = self.asks.queue.take(rt, &mut self.lane) else {
+                break;
+            };
+            taken.push(asked)?;
+        }
+        Ok(taken)
     }
 }
 
@@ -150,7 +228,7 @@ impl Asks {
             .max(LEAST_ASKS);
         Ok(Asks {
             records,
-            queue: ArrayQueue::new(alloc, most)?,
+            queue: SharedQueue::new(alloc, most)?,
             alarm: Parker::new(),
             is_over: AtomicBool::new(false),
         })
@@ -177,29 +255,27 @@ impl Asks {
     }
 
     // Returns the device with this number.
-    fn device<'a, R: Wait>(&'a self, rt: &'a R, number: usize) -> OutsideDevice<'a, R> {
+    fn device<'a, R: Wait>(&'a self, rt: &'a R, number: usize) -> OutsideDevice<'a, R>
+        ensures number { result.number ≡ number }
+        ensures new { (result.wait ≡ 0) × (result.lane.seen ≡ []) }
+    {
         OutsideDevice {
             rt,
             asks: self,
+            lane: self.queue.lane(),
             number,
             wait: 0,
         }
     }
 
-    /// Takes what devices were asked and nobody has told them, in order.
-    ///
-    /// # Errors
-    ///
-    /// [`AllocError`] if allocation fails. What was taken before is lost then.
-    pub fn take<R: Wait>(&self, rt: &R, alloc: Global) -> Result<Vec<Asked>, AllocError> {
-        let mut taken = Vec::new(alloc);
-        for _ in 0..self.queue.capacity() {
-            let Some(asked) = self.queue.pop(rt) else {
-                break;
-            };
-            taken.push(asked)?;
+    /// Returns by what the asks are taken. It has taken none yet.
+    pub fn teller(&self) -> AskTeller<'_>
+        ensures { result.lane.seen ≡ [] }
+    {
+        AskTeller {
+            asks: self,
+            lane: self.queue.lane(),
         }
-        Ok(taken)
     }
 
     /// Returns the record whose device was asked.
@@ -216,33 +292,13 @@ impl Asks {
     /// # Errors
     ///
     /// [`AllocError`] if allocation fails; a part may have been appended then.
-    pub fn add_line(
-        &self,
-        alloc: Global,
-        out: &mut Vec<u8>,
-        asked: &Asked,
-    ) -> Result<(), AllocError> {
-        let Some(outside) = self.records.get(asked.device) else {
-            return Ok(());
-        };
-        out.extend_from_slice(b"? ")?;
-        out.extend_from_slice(outside.name.as_slice())?;
-        let wait = format!(in alloc; " {} ", asked.wait)?;
-        out.extend_from_slice(wait.as_bytes())?;
-        match asked.ask {
-            Ask::Read => {
-                out.extend_from_slice(b"read ")?;
-                add_escaped_text(out, outside.text.as_slice())?;
-            }
-            Ask::Write(value) => {
-                out.extend_from_slice(b"write ")?;
-                add_escaped_text(out, outside.text.as_slice())?;
-                out.push(b'\t')?;
-                add_value(out, value)?;
-            }
+    pub fn add_line(&self, out: &mut Vec<u8>, asked: &Asked) -> Result<(), AllocError>
+        ensures { OnOk result (Tells self.now.records.items asked.now out.old.items out.new.items) }
+    {
+        match self.records.get(asked.device) {
+            Some(outside) => add_line_of(out, outside, asked),
+            None => Ok(()),
         }
-        out.push(b'\n')?;
-        Ok(())
     }
 
     /// Returns what a thread sleeps on that tells of the asks. Each new ask wakes it.

@@ -289,7 +289,7 @@ pub fn run_script<S: Session, R: Read + Drop, W: Write>(
                     return Ok(());
                 }
             }
-            Err(e) => return Err(ScriptFault::Read(Reason::of(&e))),
+            Err(e) => return Err(ScriptFault::Read(Reason::of_input(&e))),
         }
     }
     Err(ScriptFault::Read(Reason::Other))

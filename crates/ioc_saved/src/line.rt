@@ -48,15 +48,9 @@ fn value_in(line: &[u8]) -> Option<SavedValue>
 {
     let (names, coded) = split(b' ', line);
     let (name, field) = split(b'.', names);
-    let Some(record_name) = name_in(name) else {
-        return None;
-    };
-    let Some(field) = name_in(field) else {
-        return None;
-    };
-    let Some(value) = text_in(coded) else {
-        return None;
-    };
+    let record_name = name_in(name)?;
+    let field = name_in(field)?;
+    let value = text_in(coded)?;
     Some(SavedValue {
         record_name,
         field,

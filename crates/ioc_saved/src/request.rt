@@ -92,12 +92,8 @@ fn channel_of(word: &[u8]) -> Option<(Name, FieldName)>
     ensures { Gives (λ channel. (channel.0, channel.1)) result (channel_of word.now) }
 {
     let (name, _) = split(b'.', word);
-    let Some(name) = name_in(name) else {
-        return None;
-    };
-    let Some(field) = name_in(field_of(word)) else {
-        return None;
-    };
+    let name = name_in(name)?;
+    let field = name_in(field_of(word))?;
     Some((name, field))
 }
 

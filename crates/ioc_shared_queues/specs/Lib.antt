@@ -1,4 +1,5 @@
 pub mod Seen
+pub mod SharedQueues
 pub mod Order
 pub mod Turns
 pub mod Lanes

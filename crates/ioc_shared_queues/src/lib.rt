@@ -14,6 +14,7 @@ pub mod order;
 pub mod queues;
 pub mod rank;
 pub mod record_requests;
+pub mod shared_queue;
 pub mod worker;
 
 pub use callback_queues::{CallbackQueues, Lane};
@@ -22,4 +23,5 @@ pub use idle_workers::IdleWorkers;
 pub use queues::SharedQueues;
 pub use rank::Rank;
 pub use record_requests::RecordRequest;
+pub use shared_queue::{QueueLane, SharedQueue};
 pub use worker::{Serve, Worker};

@@ -5,6 +5,7 @@ use crate::tests::scans::SCANS;
 use crate::tests::steps::Step::{self, Checkpoint, Closes, Ends, Makes, Parts};
 use crate::tests::steps::Wanted::{At, Fails, Moves, Shows};
 use crate::tests::steps::{Says, Wanted};
+use crate::tests::watched::WATCHED;
 use ioc_engine::{IocError, Tally};
 
 /// What is expected at the end of an engine.
@@ -666,7 +667,7 @@ record(longin,\"q\"){field(INP,\"@e\")}
 ];
 
 /// Returns all sessions.
-pub fn sessions() -> [&'static [Session]; 7] {
+pub fn sessions() -> [&'static [Session]; 8] {
     [
         &CALLS,
         &CHECKPOINTS,
@@ -675,5 +676,6 @@ pub fn sessions() -> [&'static [Session]; 7] {
         &PUTS_OVER_LINK_CHANGES,
         &MORE_PUTS_OVER_LINK_CHANGES,
         &SCANS,
+        &WATCHED,
     ]
 }

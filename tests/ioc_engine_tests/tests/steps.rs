@@ -4,6 +4,7 @@ use ioc_engine::{
     Clock, Desk, Device, Engine, EngineName, FieldText, IocError, NotifyId, Outcome, Receipt,
     RecordNo, Reply, Scan,
 };
+use ioc_fields::FieldNo;
 use std::sync::Wait;
 use std::thread;
 
@@ -65,6 +66,14 @@ pub enum Step {
     Serves(usize),
     /// A field gets this text, because other threads make calls. The step waits for it.
     Waits(&'static [u8], &'static [u8]),
+    /// The record with this name is watched.
+    Watches(&'static [u8]),
+    /// The record with this name is watched no more.
+    Unwatches(&'static [u8]),
+    /// The records with these names were marked since the last such step, and no others.
+    Marked(&'static [&'static [u8]]),
+    /// A look at this field of a record shows this text.
+    Looks(&'static [u8], FieldNo, &'static [u8]),
     /// The engine is closed, which it wasn't before. It shows no sets, opens no desk and makes no
     /// checkpoint any more.
     Closes,
@@ -261,6 +270,63 @@ fn comes<B: EngineName<D>, D: Device, C: Clock + Drop, R: Wait>(
     false
 }
 
+// Watches a record, and returns whether it is watched.
+fn watches<B: EngineName<D>, D: Device, C: Clock + Drop, R: Wait>(
+    rt: &R,
+    engine: &Engine<B, D, C>,
+    name: &[u8],
+) -> bool {
+    match engine.record(name) {
+        Ok(number) => engine.watch(rt, number).is_ok(),
+        Err(_) => false,
+    }
+}
+
+// Watches a record no more, and returns whether there is one.
+fn unwatches<B: EngineName<D>, D: Device, C: Clock + Drop, R: Wait>(
+    rt: &R,
+    engine: &Engine<B, D, C>,
+    name: &[u8],
+) -> bool {
+    match engine.record(name) {
+        Ok(number) => engine.unwatch(rt, number).is_ok(),
+        Err(_) => false,
+    }
+}
+
+// Takes the records that were marked, and returns whether they have these names, in any order.
+fn are_marked<B: EngineName<D>, D: Device, C: Clock + Drop, R: Wait>(
+    rt: &R,
+    engine: &Engine<B, D, C>,
+    names: &[&[u8]],
+) -> bool {
+    match engine.take_marked(rt) {
+        Ok(marked) => is_part(engine, marked.as_slice(), names),
+        Err(_) => false,
+    }
+}
+
+// Looks at a field, and returns whether it has this text.
+fn looks<B: EngineName<D>, D: Device, C: Clock + Drop, R: Wait>(
+    rt: &R,
+    engine: &Engine<B, D, C>,
+    desk: &mut Desk<B, D>,
+    name: &[u8],
+    field: FieldNo,
+    wanted: &[u8],
+) -> bool {
+    let Ok(number) = engine.record(name) else {
+        return false;
+    };
+    let Ok(shown) = engine.look(rt, desk, number, &[field]) else {
+        return false;
+    };
+    match shown.first() {
+        Some(first) => first.text == FieldText::cut(wanted),
+        None => false,
+    }
+}
+
 // Carries out a step, and returns whether it has the expected result.
 fn holds<B: EngineName<D>, D: Device, C: Clock + Drop, R: Wait>(
     rt: &R,
@@ -283,6 +349,10 @@ fn holds<B: EngineName<D>, D: Device, C: Clock + Drop, R: Wait>(
         }
         Step::Serves(wanted) => serve_all(rt, engine, desk) == wanted,
         Step::Waits(name, wanted) => comes(rt, engine, desk, name, wanted),
+        Step::Watches(name) => watches(rt, engine, name),
+        Step::Unwatches(name) => unwatches(rt, engine, name),
+        Step::Marked(names) => are_marked(rt, engine, names),
+        Step::Looks(name, field, wanted) => looks(rt, engine, desk, name, field, wanted),
         Step::Closes => closes(rt, engine),
     }
 }
