@@ -130,8 +130,8 @@ impl<W: Write + Drop, J: Write + Drop> Written<'_, W, J> {
         let all = self.teller.take(rt, alloc)?;
         for asked in &all {
             settle(rt, engine, desk, asks, asked)?;
-            asks.add_line(lines, asked)?;
         }
+        asks.add_lines(lines, &all)?;
         self.told = self.told.saturating_add(all.len() as u64);
         Ok(())
     }

@@ -1,7 +1,7 @@
 //! Devices outside the program, and what they are asked.
 ghost use Rattle.std.specs.Prelude.{◌≡◌, [], IfOk, OnOk};
 ghost use Rattle.ioc_devices.specs.Devices.{outside_gives};
-ghost use Rattle.ioc_devices.specs.Asking.{TakesAll, Adds, IsValueText, IsAskText, IsAskLine, Tells};
+ghost use Rattle.ioc_devices.specs.Asking.{TakesAll, Adds, IsValueText, IsAskText, IsAskLine, Tells, TellsAll};
 
 use ioc_commands::add_escaped_text;
 use ioc_dbfile::{Database, DeviceName, device_named};
@@ -158,9 +158,8 @@ fn add_line_of(out: &mut Vec<u8>, outside: &OutsideRecord, asked: &Asked) -> Res
 ///
 /// ```rust
 /// let mut teller = asks.teller();
-/// for asked in &teller.take(rt, alloc)? {
-///     asks.add_line(&mut lines, asked)?;
-/// }
+/// let all = teller.take(rt, alloc)?;
+/// asks.add_lines(&mut lines, &all)?;
 /// ```
 #[derive(Drop)]
 pub struct AskTeller<'a> {
@@ -286,19 +285,31 @@ impl Asks {
         }
     }
 
-    /// Appends the line that tells a device what it is asked: `? REC N read TEXT`, or
-    /// `? REC N write TEXT` and the value behind a tab.
-    ///
-    /// # Errors
-    ///
-    /// [`AllocError`] if allocation fails; a part may have been appended then.
-    pub fn add_line(&self, out: &mut Vec<u8>, asked: &Asked) -> Result<(), AllocError>
+    // Appends the line that tells a device what it is asked: `? REC N read TEXT`, or
+    // `? REC N write TEXT` and the value behind a tab.
+    fn add_line(&self, out: &mut Vec<u8>, asked: &Asked) -> Result<(), AllocError>
         ensures { OnOk result (Tells self.now.records.items asked.now out.old.items out.new.items) }
     {
         match self.records.get(asked.device) {
             Some(outside) => add_line_of(out, outside, asked),
             None => Ok(()),
         }
+    }
+
+    /// Appends the line of each of these asks, in order.
+    ///
+    /// # Errors
+    ///
+    /// [`AllocError`] if allocation fails; a part may have been appended then.
+    pub fn add_lines(&self, out: &mut Vec<u8>, all: &[Asked]) -> Result<(), AllocError>
+        ensures { OnOk result (TellsAll self.now.records.items all.now out.old.items out.new.items) }
+    {
+        let mut rest = all;
+        while let [asked, others @ ..] = rest {
+            self.add_line(out, asked)?;
+            rest = others;
+        }
+        Ok(())
     }
 
     /// Returns what a thread sleeps on that tells of the asks. Each new ask wakes it.
