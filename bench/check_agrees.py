@@ -3,11 +3,11 @@
 
 A text is one of examples/*.db, or one that drawn.py draws, with one to four changes: of characters, tokens, names of fields, values,
 record types, links, macros and lines. They agree if ioc-check finds an error exactly where the load refuses the text, both with status 1,
-and its first error is on the line of the load's `E13 BadDb line L: WORDS`. A text on which docs/CHECK.md has them differ on purpose
-isn't drawn: includes and other statements of a database definition, macros in macros, `info` with JSON.
+and its first error is on the line of the load's `E13 BadDb line L: WORDS`; and if the load takes the text, the lock sets are the same.
+In each run the last line of ioc-check must count the lines.
 
-With --all these are drawn too. What the load refuses must have an error, or a warning that the load refuses it, on the load's line then; what
-it takes has no such warning, and no error, unless its bytes are read differently. In each run the last line of ioc-check must count the lines.
+With --all most texts have something that EPICS Base and ioc-check by -d take too: includes and other statements of a database definition,
+macros in macros, `info` with JSON, a byte order mark. As texts of one DB these are refused, and must have an error.
 """
 import argparse
 import concurrent.futures
@@ -27,9 +27,9 @@ TOP = pathlib.Path(__file__).resolve().parent.parent
 BIN = TOP / "bin"
 REFUSAL = re.compile(rb"E13 BadDb line (\d+): (.*)\n")
 ERROR = re.compile(rb"x\.db:(\d+):\d+: error: (.*)")
-# Errors and warnings of each file, and those warnings that tell what the load refuses.
+# Errors and warnings of each file.
 FINDING = re.compile(rb"^\S+?:\d+:\d+: (error|warning): ", re.M)
-REFUSED_BY_LOAD = re.compile(rb"x\.db:(\d+):\d+: warning: (?:the load |statement .*; the load refuses it)")
+SET = re.compile(rb"\d+ records?: (.*)\n")
 # An open body is told where it opens, and by the load at the text's end: it counts as an error, but not as the first one.
 OPEN_BODY = re.compile(rb"the body of .*, which opens on line \d+, isn't closed; put '}' at its end")
 # A sign that is missing is told behind the token before it, and by the load at the token after it, on another line perhaps.
@@ -40,13 +40,13 @@ NO_TOKEN = re.compile(rb"'.*' can't stand outside quotes; put the text in double
 BLANK = re.compile(rb"\s*(#.*)?")
 TOKEN = re.compile(rb'"(?:\\.|[^"\\\n])*"|[\w\-+:.\[\]<>;]+|[^\w\s]|\s+')
 QUOTED_OR_COMMENT = re.compile(rb'"(?:\\.|[^"\\\n])*"|#[^\n]*')
-# What docs/CHECK.md lets them differ on: macros in macros or with definitions, JSON behind `info`, and, outside of quotes and comments,
-# statements of a definition.
+# What is read otherwise by -d and --write than of one DB: macros in macros or with definitions, JSON behind `info`, and, outside of quotes
+# and comments, statements of a definition.
 ON_PURPOSE = [re.compile(rb"\$[({][^)}\n]*[$,]"), re.compile(rb"info\s*\([^,]*,\s*[\[{]")]
 DEFINITION = re.compile(rb"\b(include|menu|recordtype|device|driver|path|addpath|breaktable|registrar|function|variable|link|substitute)\b")
-# Bytes that docs/CHECK.md says they read differently: a backslash before a macro or before a sign that it has no meaning for; names of
-# macros that the load refuses; a carriage return without a line feed, a zero byte, and a byte order mark; a value that begins with a
-# bracket. Quotes, backslashes, commas and # in a macro's value aren't drawn.
+# Bytes that are: a backslash before a macro or before a sign that it has no meaning for; names of macros that the load refuses; a carriage
+# return without a line feed, a zero byte, and a byte order mark; a value that begins with a bracket. Quotes, backslashes, commas and # in a
+# macro's value aren't drawn.
 BYTES = [
     re.compile(rb"\\(?![\"\\'abtnvfr])"),
     re.compile(rb"\$\((?!\w+[)=])[^)\n]*\)|\$\{(?!\w+[}=])[^}\n]*\}", re.A),
@@ -59,7 +59,7 @@ CHARACTERS = [bytes([byte]) for byte in b"\"\"\\\\{}(),#$*@.;:'-+0 1aZ\n\n\r\t\0
 TYPE_WORDS = [*(it.encode() for it in TYPES), b"ai", b"calc", b"longinn", b"Longin", b"", b"*", b'"*"', b'"longin"']
 TEXTS = [it.encode("latin-1") for kind in VALUES.values() for it in kind] + [it.encode() for them in BY_NAME.values() for it in them]
 BAD_TEXTS = [it.encode() for it in BAD_VALUES + BAD_LINKS] + LEFT_OUT
-# What ioc-check reads as EPICS Base does, and the load refuses. The files are those of INCLUDED.
+# What EPICS Base takes, and the load refuses. The files are those of INCLUDED.
 READ_BY_CHECK = [
     b'include "one.inc"\n', b'include "none.inc"\n', b' path "more"\n', b'addpath "more:."\n', b"driver(drvCard)\n", b"menu(m) { choice(c, \"C\") }\n",
     b'substitute "P=x,Q=7"\n', b"% int a;\n", b'record(longin, "i") { info(q, {"a": [1, 2]}) }\n', b'record(longin, "j") { include "field.inc" }\n',
@@ -166,7 +166,7 @@ def changed_line(generator, text):
 
 
 def changed_reading(generator, text):
-    """With something that ioc-check alone reads."""
+    """With something that EPICS Base takes, and the load refuses."""
     lines = text.splitlines(keepends=True) or [b""]
     lines.insert(generator.randint(0, len(lines)), generator.choice(READ_BY_CHECK))
     return generator.choice([b"", b"", b"", b"\xef\xbb\xbf"]) + b"".join(lines)
@@ -190,12 +190,9 @@ def drawn_text(generator, takes_all):
     return text, macros
 
 
-def is_drawn(text, takes_bytes=False, takes_all=False):
-    """Is it a text on which they have to agree?"""
-    if takes_all:
-        return True
-    not_drawn = ON_PURPOSE if takes_bytes else ON_PURPOSE + BYTES
-    return not DEFINITION.search(QUOTED_OR_COMMENT.sub(b" ", text)) and not any(pattern.search(text) for pattern in not_drawn)
+def is_read_alike(text):
+    """Is it a text that is read by -d and --write as one DB is?"""
+    return not DEFINITION.search(QUOTED_OR_COMMENT.sub(b" ", text)) and not any(pattern.search(text) for pattern in ON_PURPOSE + BYTES)
 
 
 def counted(number, word):
@@ -214,50 +211,45 @@ def are_on_one_line(text, errors, refused):
     return line == told or is_missing or (not errors and refused[2] == b"body not closed")
 
 
-def fault_of_all(text, check, errors, refused):
-    """How ioc-check disagrees with a load on a text of any kind, or None."""
-    told = [int(line) for line in REFUSED_BY_LOAD.findall(check.stdout)]
-    if not refused:
-        is_other = any(pattern.search(text) for pattern in BYTES)
-        return "the load takes what ioc-check refuses" if told or (check.returncode and not is_other) else None
-    if check.returncode:
-        return None
-    return None if int(refused[1]) in told else "no error and no such warning, and the load refuses it"
+def sets_of_load(line):
+    """The lock sets of a line `sets {a b} {c}`, or None if a name has a bracket."""
+    sets = line.rstrip(b"\n")[6:-1].split(b"} {") if b"{" in line else []
+    return None if any(sign in it for it in sets for sign in b"{}") else sorted(sorted(it.split(b" ")) for it in sets)
 
 
-def judge(folder, text, macros, takes_all):
+def judge(folder, text, macros):
     """How a text is taken: what the load says, and how ioc-check disagrees with it, or None."""
     pathlib.Path(folder, "x.db").write_bytes(text)
-    load, check = (
-        subprocess.run([BIN / words[0], *words[1:], *macros], cwd=folder, capture_output=True, timeout=60)
-        for words in (["ioc-replay", "x.db", "none"], ["ioc-check", "x.db"])
-    )
+
+    def ran(*words):
+        return subprocess.run([BIN / words[0], *words[1:], *macros], cwd=folder, capture_output=True, timeout=60)
+
+    load, check = ran("ioc-replay", "x.db", "sets"), ran("ioc-check", "x.db")
     refused, errors = REFUSAL.fullmatch(load.stderr), ERROR.findall(check.stdout)
     said = refused[2].decode() if refused else "loaded"
     found = [word == b"error" for word in FINDING.findall(check.stdout)]
     counts = f"{counted(sum(found), 'error')}, {counted(len(found) - sum(found), 'warning')}\n"
     if counts.encode() != check.stderr:
         fault = f"the last line isn't {counts}"
-    elif takes_all:
-        fault = fault_of_all(text, check, errors, refused)
-        if not fault:
-            return said, None
-    elif load.returncode != bool(refused) or check.returncode != bool(errors):
+    elif load.returncode != bool(refused) or check.returncode != any(found):
         fault = f"status {load.returncode} of the load and {check.returncode} of ioc-check"
-    elif bool(errors) != bool(refused) or REFUSED_BY_LOAD.search(check.stdout):
+    elif any(found) != bool(refused):
         fault = "one of them finds no error"
     elif refused and not are_on_one_line(text, errors, refused):
         fault = "the first error is on another line"
+    elif not refused and (sets := sets_of_load(load.stdout)) is not None and sets != sorted(
+            sorted(it.split(b" ")) for it in SET.findall(ran("ioc-check", "x.db", "--sets").stdout)):
+        fault = f"the load has the lock sets {sets}"
     else:
         return said, None
     return said, f"{fault}\n  the load: {load.stderr!r}\n  ioc-check: {check.stdout!r}"
 
 
-def shortened(folder, text, macros, words):
+def shortened(folder, text, macros):
     """The text without the lines and then the bytes that its disagreement doesn't take."""
 
     def kind(text):
-        said, fault = judge(folder, text, macros, words.all)
+        said, fault = judge(folder, text, macros)
         return said, fault and fault.partition("\n")[0]
 
     wanted = kind(text)
@@ -268,7 +260,7 @@ def shortened(folder, text, macros, words):
             at = 0
             while at < len(pieces):
                 fewer = pieces[:at] + pieces[at + width:]
-                if is_drawn(b"".join(fewer), words.bytes, words.all) and kind(b"".join(fewer)) == wanted:
+                if kind(b"".join(fewer)) == wanted:
                     pieces = fewer
                 else:
                     at += width
@@ -281,19 +273,17 @@ def run(numbers, words):
     """Draws and judges the texts of these numbers: what the load said how often, and each disagreement."""
     said, faults = Counter(), []
     with tempfile.TemporaryDirectory() as folder:
-        pathlib.Path(folder, "none").write_text("")
+        pathlib.Path(folder, "sets").write_text("sets\n")
         for name, included in INCLUDED.items():
             pathlib.Path(folder, name).write_bytes(included)
         for number in numbers:
             generator = random.Random(f"{words.seed} {number}")
             text, macros = drawn_text(generator, words.all)
-            while not is_drawn(text, words.bytes, words.all):
-                text, macros = drawn_text(generator, words.all)
-            load, fault = judge(folder, text, macros, words.all)
+            load, fault = judge(folder, text, macros)
             said[load] += 1
             if fault and words.shorten:
-                text = shortened(folder, text, macros, words)
-                fault = judge(folder, text, macros, words.all)[1]
+                text = shortened(folder, text, macros)
+                fault = judge(folder, text, macros)[1]
             if fault:
                 faults.append(f"text {number}: {fault}\n  macros: {macros}\n  text: {text!r}")
     return said, faults
@@ -304,8 +294,7 @@ def main():
     parser.add_argument("count", type=int, metavar="N", help="how many texts")
     parser.add_argument("seed", type=int, nargs="?", default=1, metavar="SEED")
     parser.add_argument("--jobs", type=int, default=os.cpu_count(), metavar="N", help="how many processes")
-    parser.add_argument("--bytes", action="store_true", help="draw texts with bytes that they read differently too")
-    parser.add_argument("--all", action="store_true", help="draw texts of all kinds: nothing that the load refuses is told as sound")
+    parser.add_argument("--all", action="store_true", help="draw texts of all kinds, most with what EPICS Base takes and the load refuses")
     parser.add_argument("--shorten", action="store_true", help="cut each text down to what its disagreement takes")
     words = parser.parse_args()
     said, faults = Counter(), []

@@ -25,7 +25,7 @@ from dataclasses import dataclass
 
 sys.dont_write_bytecode = True
 import failing
-from check_agrees import are_on_one_line, is_drawn
+from check_agrees import are_on_one_line, is_read_alike
 from drawn import EVERY_FIELD, LINKS, mutated
 from hostile import FORMS, REFUSAL, TALLY, asking_lines, contradiction, drawn_run
 
@@ -265,7 +265,9 @@ class Case:
         text = self.of.text
         # What is dropped by the options is no error here, and one of the load.
         is_dropped = ("--write" in words and b"TPRO" in text) or any(" dropped record(" in it for it in told)
-        if is_drawn(text) and not is_dropped:
+        # One DB alone is read as its load reads it.
+        is_alone = "--write" not in words and "-I" not in words
+        if (is_alone or is_read_alike(text)) and not is_dropped:
             want((ran.status == 1) == (plain.status == 1), "ioc-check and the load disagree", (ran, plain))
             if plain.status == 1:
                 errors = [(line, rest.encode("latin-1")) for line, rest in re.findall(r"x\.db:(\d+):\d+: error: (.*)", "\n".join(told))]
@@ -293,7 +295,7 @@ class Case:
         """What ioc-check wrote loads, and the script has the same replies on it."""
         again = self.runner.run("ioc-replay", written, self.runner.path("script"), kind="of what ioc-check wrote")
         want(again.status == 0, "what ioc-check wrote doesn't load", (again, ran))
-        if plain.status == 0 and not has_dropped and is_drawn(self.of.text):
+        if plain.status == 0 and not has_dropped and is_read_alike(self.of.text):
             want(again.out == plain.out, "other replies by what ioc-check wrote", (again, plain))
 
     def check_site(self):

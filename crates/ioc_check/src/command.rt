@@ -1,21 +1,28 @@
 //! The command line of the program.
 use clap::{Arg, ArgAction, ArgMatches, Command};
-use ioc_command_line::{Program, Stop, UsageFault, parse};
+use ioc_command_line::{Program, Stop, UsageFault, defined, parse};
+use ioc_dblex::Macros;
 use ioc_site_database::LeftOutTypes;
 use ioc_site_reader::{Definition, parse_definitions};
 use std::alloc::{AllocError, Global};
 
-/// The program, with its exit statuses behind its arguments.
+/// The program, without the notes of its help.
 pub const PROGRAM: Program<'static> = Program {
     name: "ioc-check",
     version: "0.1.0",
     about: "Reads the database files DB, in which the macros NAME stand for VALUE, \
         and reports every mistake in them and what in them is worth a look.",
-    notes: "\
-A DB whose name ends in .substitutions, .subs or .sub is a substitution file. A word with = \
-    defines macros. Findings are printed as FILE:LINE:COLUMN: error: TEXT or warning: TEXT, to \
-    standard output, or to standard error beside --sets and --dot, and how many \
-    there are to standard error.
+    notes: "",
+};
+
+/// What the help says behind the arguments and the words of a site's files.
+pub const NOTES: &str = "\
+A word with = defines macros. One DB is read as the other programs load it. Several are read as files of -d \
+    are, and so is one whose name ends in .substitutions, .subs or .sub. There is no error exactly if \
+    they load by the same words.
+
+Findings are printed as FILE:LINE:COLUMN: error: TEXT or warning: TEXT, to standard output, or to standard \
+    error beside --sets and --dot, and how many there are to standard error.
 
 With --calc no DB is read: EXPRESSION is run on the inputs that words as A=6 and VAL=1 give.
 
@@ -23,15 +30,12 @@ With --write fields that EPICS has and this project leaves out are dropped with 
     is written only if there is no error.
 
 The exit status: 0 there is no error, 1 there is one, 2 the command line is wrong, 3 what is found \
-    or OUT cannot be written, 4 memory ran out",
-};
+    or OUT cannot be written, 4 memory ran out";
 
 // The names of arguments.
 const FILES: &str = "DB";
 
 const MACROS: &str = "macros";
-
-const FOLDERS: &str = "include";
 
 const SETS: &str = "sets";
 
@@ -41,20 +45,17 @@ const WRITE: &str = "write";
 
 const DROP_TYPES: &str = "drop-types";
 
-const ADAPT: &str = "adapt";
-
 const CALC: &str = "calc";
 
-/// What a command line asks for.
+/// What a command line asks for, but for the words of a site's files.
 #[derive(Drop)]
 pub struct Words<'a> {
-    /// The paths of the database files.
-    pub paths: Vec<&'a [u8]>,
-    pub definitions: Vec<Definition>,
-    /// The words that define them, in the order in which the other programs take them.
-    pub defining: Vec<&'a str>,
-    /// The folders in which included files are looked for.
-    pub folders: Vec<&'a str>,
+    /// The paths of the database files, if there is no `-d`.
+    pub paths: Vec<&'a str>,
+    // The words of `-m`.
+    macros: Vec<&'a str>,
+    // The words that define macros without it.
+    definitions: Vec<&'a str>,
     /// Whether the lock sets are printed.
     pub sets: bool,
     /// Whether a picture is printed.
@@ -62,15 +63,18 @@ pub struct Words<'a> {
     /// The path of the file to which all records are written as one text.
     pub output: Option<&'a str>,
     pub left_out_types: LeftOutTypes,
-    /// Whether what EPICS has and this project leaves out is dropped or replaced.
-    pub is_adapted: bool,
     /// The expression that is tried on numbers, in place of all else.
     pub expression: Option<&'a str>,
 }
 
+/// Returns whether the words of a command line ask for an expression, which may begin as an option does.
+pub fn names_expression(words: &[String]) -> bool {
+    words.iter().any(|word| word.as_str() == "--calc" || word.as_str().starts_with("--calc="))
+}
+
 // Returns the command of the program, without what a run shows and writes.
-fn command<'a>(alloc: Global) -> Result<Command<'a>, AllocError> {
-    PROGRAM
+fn command<'a>(alloc: Global, program: &Program<'a>) -> Result<Command<'a>, AllocError> {
+    program
         .command(alloc)
         .arg(
             Arg::new(alloc, FILES)
@@ -85,13 +89,6 @@ fn command<'a>(alloc: Global) -> Result<Command<'a>, AllocError> {
                 .value_name("NAME=VALUE")
                 .action(ArgAction::Append)
                 .help("defines macros too, before the words do; several have commas between them"),
-        )?
-        .arg(
-            Arg::new(alloc, FOLDERS)
-                .short('I')
-                .value_name("DIR")
-                .action(ArgAction::Append)
-                .help("looks for included files in DIR too"),
         )
 }
 
@@ -123,12 +120,6 @@ fn with_outputs<'a>(alloc: Global, command: Command<'a>) -> Result<Command<'a>, 
                 .help("drops records of types that are left out here or unknown, with a warning"),
         )?
         .arg(
-            Arg::new(alloc, ADAPT)
-                .long(ADAPT)
-                .action(ArgAction::SetTrue)
-                .help("drops or replaces what EPICS has and is left out here, with a warning"),
-        )?
-        .arg(
             Arg::new(alloc, CALC)
                 .long(CALC)
                 .value_name("EXPRESSION")
@@ -139,53 +130,59 @@ fn with_outputs<'a>(alloc: Global, command: Command<'a>) -> Result<Command<'a>, 
         )
 }
 
-impl<'a> Words<'a> {
-    // Adds the macros of `NAME=VALUE`, or of several with commas between them.
-    fn define(&mut self, alloc: Global, word: &'a str) -> Result<(), Stop> {
-        let mut defined = parse_definitions(alloc, word.as_bytes())?;
-        if defined.fault.is_some() {
-            let text = String::from_str(alloc, word)?;
-            return Err(Stop::Usage(UsageFault::NoDefinition(text)));
-        }
-        self.definitions
-            .append(&mut defined.list)
-            .map_err(AllocError::from)?;
-        self.defining.push(word).map_err(AllocError::from)?;
-        Ok(())
+// Returns why the program stops if a word defines no macro.
+fn no_definition(alloc: Global, word: &str) -> Stop {
+    match String::from_str(alloc, word) {
+        Ok(text) => Stop::Usage(UsageFault::NoDefinition(text)),
+        Err(e) => Stop::from(e),
     }
+}
 
-    // Adds what the words of the command line say.
-    fn add(&mut self, alloc: Global, matches: &ArgMatches<'a>) -> Result<(), Stop> {
+impl<'a> Words<'a> {
+    // Adds what the words of the command line say. With `-d` the first word stands for its first file, and
+    // the others define macros.
+    fn add(
+        &mut self,
+        alloc: Global,
+        matches: &ArgMatches<'a>,
+        names_files: bool,
+    ) -> Result<(), Stop> {
         for word in matches.get_strs(MACROS).unwrap_or(&[]) {
-            self.define(alloc, *word)?;
+            self.macros.push(*word).map_err(AllocError::from)?;
         }
-        for folder in matches.get_strs(FOLDERS).unwrap_or(&[]) {
-            self.folders.push(*folder).map_err(AllocError::from)?;
-        }
-        for word in matches.get_strs(FILES).unwrap_or(&[]) {
+        let words = matches.get_strs(FILES).unwrap_or(&[]);
+        for word in words.get(usize::from(names_files)..).unwrap_or(&[]) {
+            let word = *word;
             if word.contains('=') {
-                self.define(alloc, *word)?;
+                self.definitions.push(word).map_err(AllocError::from)?;
+            } else if names_files || self.expression.is_some() {
+                return Err(no_definition(alloc, word));
             } else {
-                self.paths.push(word.as_bytes()).map_err(AllocError::from)?;
+                self.paths.push(word).map_err(AllocError::from)?;
             }
         }
         Ok(())
     }
 
     /// Parses the words of a command line: the program's name, files, definitions of macros and
-    /// options.
+    /// options. If `names_files` holds, the first file stands for those of `-d`.
     ///
     /// # Errors
     ///
     /// [`Stop::Shown`] if the words ask for help or for the version. [`Stop::Refused`] and
     /// [`Stop::Usage`] if they are wrong. [`Stop::Memory`] if allocation fails.
-    pub fn from_words(alloc: Global, words: &'a [String]) -> Result<Words<'a>, Stop> {
-        let matches = parse(alloc, with_outputs(alloc, command(alloc)?)?, words)?;
+    pub fn from_words(
+        alloc: Global,
+        program: &Program<'a>,
+        words: &'a [String],
+        names_files: bool,
+    ) -> Result<Words<'a>, Stop> {
+        let command = with_outputs(alloc, command(alloc, program)?)?;
+        let matches = parse(alloc, command, words)?;
         let mut said = Words {
             paths: Vec::new(alloc),
+            macros: Vec::new(alloc),
             definitions: Vec::new(alloc),
-            defining: Vec::new(alloc),
-            folders: Vec::new(alloc),
             sets: matches.get_flag(SETS),
             dot: matches.get_flag(DOT),
             output: matches.get_str(WRITE),
@@ -194,17 +191,55 @@ impl<'a> Words<'a> {
             } else {
                 LeftOutTypes::Keep
             },
-            is_adapted: matches.get_flag(ADAPT),
             expression: matches.get_str(CALC),
         };
-        said.add(alloc, &matches)?;
-        match (said.expression, said.paths.first()) {
-            (None, None) => Err(Stop::Usage(UsageFault::NoArgument)),
-            (Some(_), Some(path)) => {
-                let text = String::from_utf8_lossy(alloc, path)?;
-                Err(Stop::Usage(UsageFault::NoDefinition(text)))
-            }
-            _ => Ok(said),
+        said.add(alloc, &matches, names_files)?;
+        if said.expression.is_none() && !names_files && said.paths.is_empty() {
+            return Err(Stop::Usage(UsageFault::NoArgument));
         }
+        Ok(said)
+    }
+
+    /// Returns the macros as the load of one text takes them.
+    ///
+    /// # Errors
+    ///
+    /// [`UsageFault::NoDefinition`] if a word defines no macro. [`Stop::Memory`] if allocation fails.
+    pub fn macros(&self, alloc: Global) -> Result<Macros, Stop> {
+        let mut macros = Macros::new(alloc);
+        defined(alloc, self.macros.as_slice(), &mut macros)?;
+        defined(alloc, self.definitions.as_slice(), &mut macros)?;
+        Ok(macros)
+    }
+
+    /// Returns the words that define macros, but for those of `-m`, each behind a byte 0.
+    ///
+    /// # Errors
+    ///
+    /// [`AllocError`] if allocation fails.
+    pub fn definitions(&self, alloc: Global) -> Result<Vec<u8>, AllocError> {
+        let mut all = Vec::new(alloc);
+        for word in &self.definitions {
+            all.push(0)?;
+            all.extend_from_slice(word.as_bytes())?;
+        }
+        Ok(all)
+    }
+
+    /// Returns what all words define, as the inputs of an expression.
+    ///
+    /// # Errors
+    ///
+    /// [`UsageFault::NoDefinition`] if a word defines nothing. [`Stop::Memory`] if allocation fails.
+    pub fn inputs(&self, alloc: Global) -> Result<Vec<Definition>, Stop> {
+        let mut all = Vec::new(alloc);
+        for word in self.macros.iter().chain(self.definitions.iter()) {
+            let mut parsed = parse_definitions(alloc, word.as_bytes())?;
+            if parsed.fault.is_some() {
+                return Err(no_definition(alloc, *word));
+            }
+            all.append(&mut parsed.list).map_err(AllocError::from)?;
+        }
+        Ok(all)
     }
 }

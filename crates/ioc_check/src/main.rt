@@ -1,24 +1,21 @@
 //! `ioc-check DB.. [NAME=VALUE]..`: reads a site's database files, and reports every mistake in
-//! them and what in them is worth a look.
+//! them and what in them is worth a look. There is no error exactly if the other programs load them by the
+//! same words.
 #![tactic(auto)]
 
 mod calc;
+mod checking;
 mod command;
-mod loading;
 mod writing;
 
 use crate::calc::{NAMES, Tried, calculate};
-use crate::command::{PROGRAM, Words};
-use crate::loading::add_refusals;
-use crate::writing::{Prepared, database_of, prepare, refuse_overwriting, save};
-use ioc_command_line::{Ending, Reason, Stop, given, show};
-use ioc_site::{Finding, Reading};
-use ioc_site_database::{Counts, Disk, add_findings, folder_paths, told_once};
-use ioc_site_reader::{Request, read_files};
-use ioc_site_rules::{add_picture, add_sets, check, put_in_order};
-use std::alloc::{Alloc, AllocError, Global};
+use crate::checking::{Checked, check_databases};
+use crate::command::{NOTES, PROGRAM, Words, names_expression};
+use crate::writing::save;
+use ioc_command_line::{Ending, Program, Reason, Stop, given, show};
+use ioc_site_database::{Counts, HELP, SiteWords, Verdict, add_findings};
+use std::alloc::{AllocError, Global};
 use std::env;
-use std::fs::Files;
 use std::io::{self, Write};
 use std::process::ExitCode;
 
@@ -27,93 +24,27 @@ use std::process::ExitCode;
 struct Printed {
     output: Vec<u8>,
     errors: Vec<u8>,
+    /// How many findings there are. They decide the exit status.
     counts: Counts,
-    /// The text of all records, if it is to be written.
-    database: Option<Vec<u8>>,
 }
 
-// Returns what the reading shows of itself: lock sets and a picture, as the words ask for.
-fn shown(alloc: Global, words: &Words<'_>, reading: &Reading) -> Result<Vec<u8>, AllocError> {
-    let mut out = Vec::new(alloc);
-    if words.sets {
-        add_sets(alloc, reading, &mut out)?;
-    }
-    if words.dot {
-        let mut text = String::new(alloc);
-        add_picture(alloc, reading, &mut text)?;
-        out.extend_from_slice(text.as_bytes())?;
-    }
-    Ok(out)
-}
-
-/// What a run finds in files.
-#[derive(Drop)]
-struct Found {
-    /// The names of the files.
-    files: Vec<Vec<u8>>,
-    findings: Vec<Finding>,
-    /// The text of all records, if it is to be written.
-    database: Option<Vec<u8>>,
-}
-
-// Checks what was read, and returns what is found in the order of its places.
-fn findings_of(alloc: Global, words: &Words<'_>, reading: Reading) -> Result<Found, Stop> {
-    let mut checked = check(alloc, &reading)?;
-    let Reading {
-        files,
-        texts,
-        statements,
-        findings: mut all,
-        ..
-    } = reading;
-    all.append(&mut checked).map_err(AllocError::from)?;
-    let database = database_of(alloc, words, statements.as_slice(), &mut all)?;
-    let is_whole = words.output.is_none() && !words.is_adapted;
-    if is_whole && Counts::of(all.as_slice()).errors == 0 {
-        add_refusals(alloc, words, texts.as_slice(), &mut all)?;
-    }
-    put_in_order(alloc, &mut all)?;
-    let findings = told_once(alloc, all)?;
-    Ok(Found {
-        files,
-        findings,
-        database,
-    })
-}
-
-// Reads and checks the files that the words name.
-fn examine<R: Files + Alloc<A = Global>>(rt: &R, words: &Words<'_>) -> Result<Printed, Stop> {
-    let alloc = rt.alloc();
-    let folders = folder_paths(rt, words.folders.as_slice())?;
-    let request = Request {
-        paths: words.paths.as_slice(),
-        macros: words.definitions.as_slice(),
-        folders: folders.as_slice(),
-    };
-    let reading = read_files(alloc, &mut Disk(rt), request)?;
-    refuse_overwriting(rt, words, reading.files.as_slice())?;
-    let Prepared { reading, losses } = prepare(alloc, words, reading)?;
-    let output = shown(alloc, words, &reading)?;
-    let Found {
-        files,
-        findings,
-        database,
-    } = findings_of(alloc, words, reading)?;
+// Returns what is printed of what is found: a line for each finding, and how many there are.
+fn printed_of(alloc: Global, words: &Words<'_>, checked: &Checked) -> Result<Printed, AllocError> {
+    let Verdict { findings, counts } = &checked.verdict;
     let mut lines = Vec::new(alloc);
-    add_findings(alloc, files.as_slice(), findings.as_slice(), &mut lines)?;
-    let counts = Counts::of(findings.as_slice());
+    add_findings(alloc, &checked.files, findings, &mut lines)?;
     let is_shown = words.sets || words.dot;
     let (output, mut errors) = if is_shown {
-        (output, lines)
+        (checked.shown.clone()?, lines)
     } else {
-        (lines, output)
+        (lines, Vec::new(alloc))
     };
-    errors.extend_from_slice(losses.as_slice())?;
+    errors.extend_from_slice(&checked.losses)?;
+    errors.extend_from_slice(counts.line(alloc)?.as_bytes())?;
     Ok(Printed {
         output,
         errors,
-        counts,
-        database,
+        counts: *counts,
     })
 }
 
@@ -121,7 +52,8 @@ fn examine<R: Files + Alloc<A = Global>>(rt: &R, words: &Words<'_>) -> Result<Pr
 fn calculated(alloc: Global, words: &Words<'_>, text: &str) -> Result<Printed, Stop> {
     let mut output = Vec::new(alloc);
     let mut all = Vec::new(alloc);
-    match calculate(alloc, text.as_bytes(), &words.definitions)? {
+    let inputs = words.inputs(alloc)?;
+    match calculate(alloc, text.as_bytes(), &inputs)? {
         Tried::Gives(lines) => output = lines,
         Tried::Fault(finding) => all.push(finding).map_err(AllocError::from)?,
     }
@@ -134,33 +66,60 @@ fn calculated(alloc: Global, words: &Words<'_>, text: &str) -> Result<Printed, S
         output,
         errors: Vec::new(alloc),
         counts: Counts::of(&all),
-        database: None,
     })
+}
+
+// Prints the output of a run.
+fn print(rt: &HostRuntime, output: &[u8]) -> Result<(), Stop> {
+    match io::writer(rt).write_all(output) {
+        Ok(()) => Ok(()),
+        Err(e) => Err(Stop::Write(Reason::of(&e))),
+    }
+}
+
+// Prints what a run tells, and returns the exit status. What can't be written there doesn't change it.
+fn tell(rt: &HostRuntime, printed: &Printed) -> Result<u8, Stop> {
+    let text = String::from_utf8_lossy(rt.alloc(), printed.errors.as_slice())?;
+    let _written = eprint!(rt; "{text}");
+    Ok(printed.counts.status())
+}
+
+// Runs words that ask for an expression.
+fn calculate_words(rt: &HostRuntime, program: &Program<'_>, all: &[String]) -> Result<u8, Stop> {
+    let words = Words::from_words(rt.alloc(), program, all, false)?;
+    let printed = calculated(rt.alloc(), &words, words.expression.unwrap_or(""))?;
+    print(rt, &printed.output)?;
+    tell(rt, &printed)
+}
+
+// Runs words that name databases.
+fn check_words(rt: &HostRuntime, program: &Program<'_>, all: &[String]) -> Result<u8, Stop> {
+    let alloc = rt.alloc();
+    let site = SiteWords::of(alloc, all)?;
+    let left = site.left(PROGRAM.name)?;
+    let words = Words::from_words(alloc, program, left.as_slice(), site.names_files())?;
+    let checked = check_databases(rt, &site, &words)?;
+    let printed = printed_of(alloc, &words, &checked)?;
+    print(rt, &printed.output)?;
+    if let (Some(path), Some(text)) = (words.output, &checked.database) {
+        save(rt, path, text.as_slice())?;
+    }
+    tell(rt, &printed)
 }
 
 // Does what the words of the command line ask for, and returns the exit status of the program.
 fn work(rt: &HostRuntime) -> Result<u8, Stop> {
-    let alloc = rt.alloc();
-    let all = given(alloc, env::args(rt))?;
-    let words = Words::from_words(alloc, all.as_slice())?;
-    let mut printed = match words.expression {
-        Some(text) => calculated(alloc, &words, text)?,
-        None => examine(rt, &words)?,
+    let all = given(rt.alloc(), env::args(rt))?;
+    let notes = format!(in rt.alloc(); "{HELP}\n{NOTES}")?;
+    let program = Program {
+        notes: &notes,
+        ..PROGRAM
     };
-    if let Err(e) = io::writer(rt).write_all(printed.output.as_slice()) {
-        return Err(Stop::Write(Reason::of(&e)));
+    if names_expression(all.as_slice()) {
+        calculate_words(rt, &program, all.as_slice())
+    } else {
+        check_words(rt, &program, all.as_slice())
     }
-    if let (Some(path), Some(text)) = (words.output, &printed.database) {
-        save(rt, path, text.as_slice())?;
-    }
-    if words.expression.is_none() {
-        let line = printed.counts.line(alloc)?;
-        printed.errors.extend_from_slice(line.as_bytes())?;
-    }
-    let text = String::from_utf8_lossy(alloc, printed.errors.as_slice())?;
-    // Findings that can't be written to standard error don't change the status.
-    let _written = eprint!(rt; "{text}");
-    Ok(printed.counts.status())
 }
 
 fn main(rt: HostRuntime) -> ExitCode {

@@ -1,8 +1,11 @@
 //! The text of all records that is written to a file.
-use crate::command::{PROGRAM, Words};
+ghost use Rattle.std.specs.Prelude.{IfOk, IfSome};
+ghost use Rattle.ioc_site_writer.specs.Loads.{Loads};
+
+use crate::command::PROGRAM;
 use ioc_command_line::{FileRole, Reason, Stop, is_out_of_memory};
 use ioc_site::{Finding, Reading, Statement};
-use ioc_site_database::{Adapted, Counts, Kept, adapt, leave_out};
+use ioc_site_database::{Adapted, Counts, Kept, LeftOutTypes, leave_out, with_adaption};
 use ioc_site_writer::{Written, write_database};
 use ioc_values::LoadError;
 use std::alloc::{Alloc, AllocError, Global};
@@ -64,12 +67,9 @@ fn is_among<R: Files + Alloc<A = Global>>(
 /// [`Stop::Refused`] if it is one. [`Stop::Memory`] if allocation fails.
 pub fn refuse_overwriting<R: Files + Alloc<A = Global>>(
     rt: &R,
-    words: &Words<'_>,
+    path: &str,
     files: &[Vec<u8>],
 ) -> Result<(), Stop> {
-    let Some(path) = words.output else {
-        return Ok(());
-    };
     if is_among(rt, path, files)? {
         let name = PROGRAM.name;
         let text = format!(in rt.alloc();
@@ -94,7 +94,7 @@ fn with_findings(reading: Reading, more: Vec<Finding>) -> Result<Reading, AllocE
 // Returns what is left of a reading that is to be written without what this project leaves out.
 fn without_left_out(
     alloc: Global,
-    words: &Words<'_>,
+    types: LeftOutTypes,
     reading: Reading,
 ) -> Result<Reading, AllocError> {
     let Reading {
@@ -108,7 +108,7 @@ fn without_left_out(
         statements,
         dropped,
         ..
-    } = leave_out(alloc, statements, words.left_out_types)?;
+    } = leave_out(alloc, statements, types)?;
     let kept = Reading {
         files,
         texts,
@@ -126,47 +126,49 @@ pub struct Prepared {
     pub losses: Vec<u8>,
 }
 
-/// Returns what is checked of a reading: all of it, or, if it is to be written, what is left when
-/// that is left out which EPICS has and this project doesn't, or what it is when that is adapted.
+/// Returns what is checked of a reading that is to be written: what is left when that is left out which
+/// EPICS has and this project doesn't, records of such types as is asked for, or what it is when all that
+/// is adapted.
 ///
 /// # Errors
 ///
 /// [`AllocError`] if allocation fails.
-pub fn prepare(alloc: Global, words: &Words<'_>, reading: Reading) -> Result<Prepared, AllocError> {
-    if words.is_adapted {
+pub fn prepare(
+    alloc: Global,
+    types: LeftOutTypes,
+    is_adapted: bool,
+    reading: Reading,
+) -> Result<Prepared, AllocError> {
+    if is_adapted {
         let Adapted {
             reading,
             notes,
             losses,
-        } = adapt(alloc, reading)?;
+        } = with_adaption(alloc, reading, true)?;
         return Ok(Prepared {
             reading: with_findings(reading, notes)?,
             losses,
         });
     }
-    let reading = match words.output {
-        Some(_) => without_left_out(alloc, words, reading)?,
-        None => reading,
-    };
     Ok(Prepared {
-        reading,
+        reading: without_left_out(alloc, types, reading)?,
         losses: Vec::new(alloc),
     })
 }
 
-/// Returns the text of all records, if it is to be written and there is no error. Adds warnings of
-/// what is left out of it.
+/// Returns the text of all records, if there is no error. Adds warnings of what is left out of it.
 ///
 /// # Errors
 ///
 /// [`Stop::BadDb`] if the text is too long. [`Stop::Memory`] if allocation fails.
 pub fn database_of(
     alloc: Global,
-    words: &Words<'_>,
     statements: &[Statement],
     findings: &mut Vec<Finding>,
-) -> Result<Option<Vec<u8>>, Stop> {
-    if words.output.is_none() || Counts::of(findings.as_slice()).errors > 0 {
+) -> Result<Option<Vec<u8>>, Stop>
+    ensures { IfOk result (λ text. IfSome text (λ t. Loads t.items)) }
+{
+    if Counts::of(findings.as_slice()).errors > 0 {
         return Ok(None);
     }
     match write_database(alloc, statements) {

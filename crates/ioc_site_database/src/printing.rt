@@ -1,5 +1,5 @@
 //! What the program prints of its findings.
-ghost use Rattle.std.specs.Prelude.{◌≡◌, ◌+◌, ◌<◌, ◌↔◌, ◌++◌, count_by, length, OnOk};
+ghost use Rattle.std.specs.Prelude.{◌≡◌, ◌+◌, ◌<◌, ◌≤◌, ◌↔◌, ◌++◌, count_by, length, OnOk};
 ghost use Rattle.ioc_site_database.specs.Counting.{is_error};
 ghost use Rattle.ioc_site_database.specs.Printing.{hex_digit, is_control, one_line_byte, on_one_line};
 
@@ -34,6 +34,16 @@ impl Counts {
         Counts {
             errors,
             warnings: findings.len() - errors,
+        }
+    }
+
+    /// Returns the counts with at least so many errors.
+    pub fn with_least(self, errors: usize) -> Self
+        ensures { errors ≤ result.errors }
+    {
+        Counts {
+            errors: self.errors.max(errors),
+            warnings: self.warnings,
         }
     }
 

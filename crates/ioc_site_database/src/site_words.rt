@@ -1,5 +1,5 @@
 //! The words of a command line that name a site's files.
-ghost use Rattle.std.specs.Prelude.{◌≡◌, false, map, None, Ok};
+ghost use Rattle.std.specs.Prelude.{◌≡◌, ◌++◌, ◌∷◌, [], false, map, None, Ok, OnOk, if◌then◌else◌};
 ghost use Rattle.std.specs.String.{string_bytes};
 ghost use Rattle.ioc_site_database.specs.SiteWords.{is_option, is_site_word, names_site};
 
@@ -26,12 +26,11 @@ enum Wanted {
     Macros,
 }
 
-/// A file of `-d`, and which of the words of `-m` hold in it: those from `from` to `to`.
-#[derive(Clone, Copy)]
+/// A file of `-d`, and the words of `-m` that hold in it.
+#[derive(Drop)]
 struct NamedFile<'a> {
     path: &'a str,
-    from: usize,
-    to: usize,
+    macros: Vec<&'a str>,
 }
 
 /// What a command line says of a site's files, and the words that are left.
@@ -39,15 +38,18 @@ struct NamedFile<'a> {
 pub struct SiteWords<'a> {
     alloc: Global,
     files: Vec<NamedFile<'a>>,
+    /// All words of `-m`.
     macros: Vec<&'a str>,
+    /// Those that hold in the next file.
+    held: Vec<&'a str>,
+    /// Whether they hold in the last file.
+    is_used: bool,
     folders: Vec<&'a str>,
     is_adapted: bool,
     /// Words that are no options, behind the program's name.
     plain: Vec<&'a str>,
     left: Vec<&'a str>,
     wanted: Option<Wanted>,
-    /// The first word of `-m` that holds in the next file.
-    from: usize,
     is_behind_options: bool,
 }
 
@@ -126,41 +128,56 @@ impl<'a> SiteWords<'a> {
             alloc,
             files: Vec::new(alloc),
             macros: Vec::new(alloc),
+            held: Vec::new(alloc),
+            is_used: false,
             folders: Vec::new(alloc),
             is_adapted: false,
             plain: Vec::new(alloc),
             left: Vec::new(alloc),
             wanted: None,
-            from: 0,
             is_behind_options: false,
         }
+    }
+
+    // Takes a file of `-d`, in which the words of `-m` hold that hold now.
+    fn give_file(&mut self, path: &'a str) -> Result<(), AllocError>
+        ensures path { OnOk result (map (λ f. f.path.now) self.new.files.items ≡ map (λ f. f.path.now) self.old.files.items
+            ++ path.now ∷ []) }
+        ensures macros { OnOk result (map (λ f. map (λ w. w.now) f.macros.items) self.new.files.items
+            ≡ map (λ f. map (λ w. w.now) f.macros.items) self.old.files.items ++ map (λ w. w.now) self.old.held.items ∷ []) }
+        ensures held { OnOk result (self.new.held.items ≡ self.old.held.items) }
+    {
+        let macros = self.held.as_slice().to_vec(self.alloc)?;
+        self.files.push(NamedFile { path, macros })?;
+        self.is_used = true;
+        Ok(())
+    }
+
+    // Takes a word of `-m`. It holds in the files behind it beside the words before it, but for those that stand
+    // before a file.
+    fn give_macros(&mut self, word: &'a str) -> Result<(), AllocError>
+        ensures held { OnOk result (map (λ w. w.now) self.new.held.items
+            ≡ map (λ w. w.now) (if self.old.is_used then [] else self.old.held.items) ++ word.now ∷ []) }
+        ensures files { OnOk result (self.new.files.items ≡ self.old.files.items) }
+    {
+        if self.is_used {
+            self.held.clear();
+            self.is_used = false;
+        }
+        self.held.push(word)?;
+        self.macros.push(word)?;
+        self.left.push("-m")?;
+        self.left.push(word)?;
+        Ok(())
     }
 
     // Takes the value of an option.
     fn give(&mut self, wanted: Wanted, value: &'a str) -> Result<(), AllocError> {
         match wanted {
-            Wanted::File => {
-                self.files.push(NamedFile {
-                    path: value,
-                    from: self.from,
-                    to: self.macros.len(),
-                })?;
-            }
-            Wanted::Folder => self.folders.push(value)?,
-            Wanted::Macros => {
-                if self
-                    .files
-                    .last()
-                    .is_some_and(|file| file.to == self.macros.len())
-                {
-                    self.from = self.macros.len();
-                }
-                self.macros.push(value)?;
-                self.left.push("-m")?;
-                self.left.push(value)?;
-            }
+            Wanted::File => self.give_file(value),
+            Wanted::Folder => Ok(self.folders.push(value)?),
+            Wanted::Macros => self.give_macros(value),
         }
-        Ok(())
     }
 
     // Says that an option lacks its value.
@@ -215,13 +232,7 @@ impl<'a> SiteWords<'a> {
         if let Some(wanted) = self.wanted {
             return Err(self.lacking(wanted));
         }
-        let has_files = !self.files.is_empty();
-        if has_files
-            && self
-                .files
-                .last()
-                .is_some_and(|file| file.to < self.macros.len())
-        {
+        if !self.files.is_empty() && !self.is_used {
             return Err(refused(self.alloc, "-m stands before the -d for which it holds"));
         }
         Ok(())
@@ -239,12 +250,22 @@ impl<'a> SiteWords<'a> {
         if !names_site(words) {
             return Ok(None);
         }
+        Ok(Some(SiteWords::of(alloc, words)?))
+    }
+
+    /// Reads the words of a command line as [`SiteWords::from_words`] does, also if they say nothing of a
+    /// site's files.
+    ///
+    /// # Errors
+    ///
+    /// [`Stop::Refused`] if a file or a folder is missing. [`Stop::Memory`] if allocation fails.
+    pub fn of(alloc: Global, words: &'a [String]) -> Result<SiteWords<'a>, Stop> {
         let mut said = SiteWords::new(alloc);
         for word in words.get(1..).unwrap_or(&[]) {
             said.take(word.as_str())?;
         }
         said.finish()?;
-        Ok(Some(said))
+        Ok(said)
     }
 
     /// Returns the words that are left, behind the program's name: the first file of `-d` stands for the
@@ -289,6 +310,11 @@ impl<'a> SiteWords<'a> {
         definitions.get(count..).unwrap_or(&[])
     }
 
+    /// Returns whether there is a file of `-d`.
+    pub fn names_files(&self) -> bool {
+        !self.files.is_empty()
+    }
+
     /// Returns whether what this project leaves out is dropped or replaced.
     pub fn is_adapted(&self) -> bool {
         self.is_adapted
@@ -313,26 +339,27 @@ impl<'a> SiteWords<'a> {
         Ok(all)
     }
 
-    /// Returns the files that are read, with the macros that hold in each: those of `-d`, or the database
-    /// text of the program. The definitions stand each behind a byte 0.
+    /// Returns the files that are read, with the macros that hold in each: those of `-d`, or the databases
+    /// that are named without it. The definitions stand each behind a byte 0.
     ///
     /// # Errors
     ///
     /// [`UsageFault::NoDefinition`] if a word defines no macro. [`Stop::Memory`] if allocation fails.
     pub fn files(
         &self,
-        database: &'a str,
+        databases: &[&'a str],
         definitions: &[u8],
     ) -> Result<Vec<(&'a str, Vec<Definition>)>, Stop> {
         let mut all = Vec::new(self.alloc);
         for file in &self.files {
-            let words = self.macros.get(file.from..file.to).unwrap_or(&[]);
-            let macros = self.macros_of(words, definitions)?;
+            let macros = self.macros_of(file.macros.as_slice(), definitions)?;
             all.push((file.path, macros)).map_err(AllocError::from)?;
         }
         if self.files.is_empty() {
-            let macros = self.macros_of(self.macros.as_slice(), definitions)?;
-            all.push((database, macros)).map_err(AllocError::from)?;
+            for database in databases {
+                let macros = self.macros_of(self.macros.as_slice(), definitions)?;
+                all.push((*database, macros)).map_err(AllocError::from)?;
+            }
         }
         Ok(all)
     }

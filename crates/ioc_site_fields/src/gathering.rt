@@ -1,8 +1,8 @@
 //! The records of all statements of a site.
 use crate::names::{add_alias, add_alias_of, opened};
 use crate::types_and_fields::add_entry;
-use ioc_site::{Reading, RecordText, Statement, Word};
-use ioc_site_records::{Report, Shown, Site};
+use ioc_site::{Reading, RecordText, Statement};
+use ioc_site_records::{Report, Site};
 use std::alloc::AllocError;
 
 // Adds the values of a statement whose record isn't known: they may be links.
@@ -43,15 +43,6 @@ fn add_statement<'a>(
     Ok(())
 }
 
-// Reports a statement that has no part in records.
-fn report_skipped(word: &Word, report: &mut Report) -> Result<(), AllocError> {
-    let shown = Shown(word.text.as_slice());
-    let text = format!(in report.alloc;
-        "statement {shown} is known to EPICS and left out here; the load refuses it"
-    )?;
-    report.warning(word.place, text)
-}
-
 /// Gathers the records of all statements, and reports what is wrong with each statement by itself.
 ///
 /// # Errors
@@ -66,7 +57,7 @@ pub fn gather<'a>(reading: &'a Reading, report: &mut Report) -> Result<Site<'a>,
             Statement::Alias { record, alias } => {
                 add_alias_of(&mut site, record, alias, report)?;
             }
-            Statement::Skipped(word) => report_skipped(word, report)?,
+            Statement::Skipped(_) => {}
         }
     }
     note_loss(reading, reading.statements.len(), report);

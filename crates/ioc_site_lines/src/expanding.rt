@@ -73,7 +73,7 @@ impl<'a> Part<'a> {
 /// Replaces macros, line by line.
 #[derive(Drop)]
 pub struct Expander {
-    alloc: Global,
+    pub(crate) alloc: Global,
     /// The definitions that hold.
     pub macros: Macros,
     /// What is wrong with the macros of the last line.
@@ -116,14 +116,14 @@ impl Expander {
     }
 
     /// Notes a mistake.
-    fn fail(&mut self, column: u32, parts: &[&[u8]]) -> Result<(), AllocError> {
+    pub(crate) fn fail(&mut self, column: u32, parts: &[&[u8]]) -> Result<(), AllocError> {
         let text = joined(self.alloc, parts)?;
         self.faults.push(Fault { column, text })?;
         Ok(())
     }
 
     /// Appends a byte.
-    fn add(&mut self, line: &mut Line, byte: u8, column: u32) -> Result<(), AllocError> {
+    pub(crate) fn add(&mut self, line: &mut Line, byte: u8, column: u32) -> Result<(), AllocError> {
         if self.left == 0 {
             return Ok(());
         }
@@ -132,7 +132,12 @@ impl Expander {
     }
 
     /// Appends a text that comes from one column.
-    fn add_text(&mut self, line: &mut Line, text: &[u8], column: u32) -> Result<(), AllocError> {
+    pub(crate) fn add_text(
+        &mut self,
+        line: &mut Line,
+        text: &[u8],
+        column: u32,
+    ) -> Result<(), AllocError> {
         for byte in text {
             self.add(line, *byte, column)?;
         }

@@ -12,11 +12,16 @@ fn is_sign(byte: u8) -> bool {
     b"(){},".contains(&byte)
 }
 
+/// Returns whether the byte is a blank. A form feed is none, and no carriage return that stands alone.
+fn is_blank(byte: u8) -> bool {
+    byte == b' ' || byte == b'\t'
+}
+
 /// Returns how many bytes at the front are blanks.
 pub fn blanks(bytes: &[u8]) -> usize {
     let mut count = 0;
     for byte in bytes {
-        if !byte.is_ascii_whitespace() {
+        if !is_blank(*byte) {
             return count;
         }
         count = count.saturating_add(1);
@@ -73,14 +78,21 @@ fn unclosed_length(bytes: &[u8]) -> usize {
     bytes.len()
 }
 
-/// Returns how many bytes at the front belong to no token.
+/// Returns how many bytes at the front belong to no token: the first one, and those up to what may begin one.
 fn fault_length(bytes: &[u8]) -> usize {
     for (at, byte) in bytes.iter().enumerate() {
-        if byte.is_ascii_whitespace() || is_sign(*byte) || *byte == b'"' || *byte == b'#' {
+        let ends = byte.is_ascii_whitespace() || is_sign(*byte) || b"\"#".contains(byte);
+        if at > 0 && ends {
             return at;
         }
     }
     bytes.len()
+}
+
+/// Returns whether some bytes are a word with `)` behind it, or with nothing.
+pub fn is_whole_word(bytes: &[u8]) -> bool {
+    let behind = bytes.get(word_length(bytes)..).unwrap_or(&[]);
+    matches!(behind.get(blanks(behind)..), Some([] | [b')', ..]))
 }
 
 /// How the bytes of a token lie.
@@ -122,7 +134,7 @@ fn item_length(bytes: &[u8]) -> Option<usize> {
     let mut is_quoted = false;
     let mut is_escaped = false;
     for (at, byte) in bytes.iter().enumerate() {
-        let ends = byte.is_ascii_whitespace() || b"{},".contains(byte);
+        let ends = is_blank(*byte) || b"{},".contains(byte);
         if is_escaped {
             is_escaped = false;
         } else if ends && !is_quoted {

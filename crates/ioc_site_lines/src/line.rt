@@ -1,4 +1,6 @@
 //! A line of a file with its macros replaced.
+ghost use Rattle.std.specs.Prelude.{◌≡◌, get_or};
+
 use std::alloc::{AllocError, Global};
 
 /// A line with its macros replaced, and for each of its bytes the column from which it comes.
@@ -44,7 +46,9 @@ impl Line {
     }
 
     /// Returns the column from which this byte comes.
-    pub fn column(&self, at: usize) -> u32 {
+    pub fn column(&self, at: usize) -> u32
+        ensures { result ≡ get_or self.now.columns.items at 1 }
+    {
         self.columns.get(at).copied().unwrap_or(1)
     }
 

@@ -1,11 +1,20 @@
 //! Files that are being read.
+ghost use Rattle.std.specs.Prelude.{◌≡◌, IfOk};
+ghost use Rattle.ioc_site_lines.specs.Places.{place_of_rest};
+
 use crate::findings::{joined, shown};
 use crate::json::Json;
-use crate::lexing::{blanks, extent_of, item_extent_of};
+use crate::lexing::{blanks, extent_of, is_whole_word, item_extent_of};
 use crate::line::Line;
 use crate::token::{Kind, Token};
 use ioc_site::Place;
 use std::alloc::{AllocError, Global};
+
+/// What is said of a carriage return alone.
+pub const LONE_RETURN: &[u8] = b"a carriage return without a line feed; put a line feed behind it";
+
+/// What is said of a byte that is 0.
+pub const ZERO_BYTE: &[u8] = b"a byte that is 0; drop it";
 
 /// A file that is being read.
 #[derive(Drop)]
@@ -86,7 +95,9 @@ impl OpenFile {
     }
 
     /// Returns where the rest of the line begins.
-    pub fn place(&self) -> Place {
+    pub fn place(&self) -> Place
+        ensures { result ≡ place_of_rest self.now }
+    {
         Place {
             file: self.number,
             line: self.line_number,
@@ -116,6 +127,13 @@ impl OpenFile {
         if self.skip_blanks().is_none() {
             return Ok(None);
         }
+        Ok(Some(self.take(alloc)?))
+    }
+
+    /// Takes the token with which the rest of the line begins. Its place is there.
+    fn take(&mut self, alloc: Global) -> Result<Token, AllocError>
+        ensures { IfOk result (λ t. t.place ≡ place_of_rest self.old) }
+    {
         let place = self.place();
         let rest = self.line.from(self.at);
         let extent = if self.has_sets {
@@ -132,12 +150,17 @@ impl OpenFile {
         self.at = self.at.saturating_add(extent.whole);
         let next = self.skip_blanks();
         let kind = extent.kind;
-        Ok(Some(Token {
+        Ok(Token {
             kind,
             text,
             place,
             next,
-        }))
+        })
+    }
+
+    /// Returns whether the rest of the line begins with a word that ends the line, or that `)` follows.
+    pub fn is_at_whole_word(&self) -> bool {
+        is_whole_word(self.line.from(self.at))
     }
 
     /// Adds the rest of the line to a value in JSON, up to the value's end. Returns whether it ends
@@ -175,11 +198,14 @@ fn fault_text(alloc: Global, written: &[u8]) -> Result<Vec<u8>, AllocError> {
             &[b"the text that begins here isn't closed; put '\"' at its end, on this line"],
         );
     }
-    if written.starts_with(b"\xc2\xa0") {
-        return joined(
-            alloc,
-            &[b"a no-break space stands here; put a plain one in its place"],
-        );
+    let known: &[u8] = match written {
+        [0xc2, 0xa0, ..] => b"a no-break space stands here; put a plain one in its place",
+        [b'\r', ..] => LONE_RETURN,
+        [0, ..] => ZERO_BYTE,
+        _ => b"",
+    };
+    if !known.is_empty() {
+        return known.to_vec(alloc);
     }
     joined(
         alloc,

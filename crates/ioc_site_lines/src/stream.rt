@@ -1,14 +1,20 @@
 //! The tokens of the files that are open, one after the other.
+ghost use Rattle.std.specs.Prelude.{◌≡◌, true, not, IfOk, OnOk};
+ghost use Rattle.ioc_site_lines.specs.Places.{is_among};
+
 use crate::closing::{Comment, block_end, clear, first_comment};
 use crate::defining::parse_definitions;
+use crate::escapes::unescaped;
 use crate::expanding::Expander;
 use crate::findings::Findings;
 use crate::json::Json;
 use crate::lexing::blanks;
 use crate::line::Line;
+use crate::loading::{Manner, before_comment};
 use crate::macros::Definition;
-use crate::opened::{OpenFile, WrittenLine};
+use crate::opened::{LONE_RETURN, OpenFile, WrittenLine, ZERO_BYTE};
 use crate::token::Token;
+use ioc_dblex::unescaped as unescaped_by_load;
 use ioc_site::{Finding, Place, Word};
 use std::alloc::{AllocError, Global};
 use std::mem;
@@ -21,6 +27,7 @@ const MOST_BYTES: u64 = 1 << 26;
 pub struct Stream {
     /// What allocates.
     pub alloc: Global,
+    manner: Manner,
     open: Vec<OpenFile>,
     pub(crate) expander: Expander,
     /// What is found so far.
@@ -31,9 +38,10 @@ pub struct Stream {
 
 impl Stream {
     /// Begins with no open file.
-    pub fn new(alloc: Global) -> Self {
+    pub fn new(alloc: Global, manner: Manner) -> Self {
         Stream {
             alloc,
+            manner,
             open: Vec::new(alloc),
             expander: Expander::new(alloc, MOST_BYTES),
             findings: Findings::new(alloc),
@@ -41,7 +49,8 @@ impl Stream {
         }
     }
 
-    /// Begins to read a file, which is read up to its end before the files that are open.
+    /// Begins to read a file, which is read up to its end before the files that are open, unless it is one of
+    /// them. Returns whether it begins.
     ///
     /// # Errors
     ///
@@ -51,15 +60,59 @@ impl Stream {
         number: u32,
         text: Vec<u8>,
         has_sets: bool,
-    ) -> Result<(), AllocError> {
+    ) -> Result<bool, AllocError>
+        ensures told { IfOk result (λ begins. begins ≡ not (is_among number self.old.open.items)) }
+        ensures once { is_among number self.old.open.items ≡ true → OnOk result (self.new.open.items ≡ self.old.open.items) }
+    {
+        if self.is_open(number) {
+            return Ok(false);
+        }
         let file = OpenFile::new(self.alloc, number, text, has_sets);
         self.open.push(file)?;
-        Ok(())
+        Ok(true)
     }
 
-    /// Returns whether the file with this number is open.
-    pub fn is_open(&self, number: u32) -> bool {
-        self.open.iter().any(|file| file.number == number)
+    // Returns whether the file with this number is open.
+    fn is_open(&self, number: u32) -> bool
+        ensures { result ≡ is_among number self.now.open.items }
+    {
+        let mut rest = self.open.as_slice();
+        while let [first, after @ ..] = rest {
+            if first.number == number {
+                return true;
+            }
+            rest = after;
+        }
+        false
+    }
+
+    /// Returns whether lines are read as the load of one text reads them.
+    fn is_of_load(&self) -> bool {
+        matches!(self.manner, Manner::OfLoad(_))
+    }
+
+    /// Returns a name, a type or a path that is written so between quotes.
+    ///
+    /// # Errors
+    ///
+    /// [`AllocError`] if allocation fails.
+    pub fn name_text(&self, written: Vec<u8>) -> Result<Vec<u8>, AllocError> {
+        match self.manner {
+            Manner::OfBase => Ok(written),
+            Manner::OfLoad(_) => unescaped_by_load(self.alloc, false, written.as_slice()),
+        }
+    }
+
+    /// Returns a value that is written so between quotes.
+    ///
+    /// # Errors
+    ///
+    /// [`AllocError`] if allocation fails.
+    pub fn value_text(&self, written: &[u8]) -> Result<Vec<u8>, AllocError> {
+        match self.manner {
+            Manner::OfBase => unescaped(self.alloc, written),
+            Manner::OfLoad(_) => unescaped_by_load(self.alloc, true, written),
+        }
     }
 
     /// Returns how many files are open.
@@ -98,8 +151,8 @@ impl Stream {
         let mut is_reported = false;
         for byte in written.bytes.iter_mut() {
             let text: &[u8] = match *byte {
-                b'\r' => b"a carriage return without a line feed; put a line feed behind it",
-                0 => b"a byte that is 0; drop it",
+                b'\r' => LONE_RETURN,
+                0 => ZERO_BYTE,
                 _ => b"",
             };
             if !text.is_empty() {
@@ -130,13 +183,19 @@ impl Stream {
             };
             clear(written.bytes.as_mut_slice(), 0, end);
         }
+        if self.is_of_load() {
+            let count = before_comment(&written.bytes);
+            written.bytes.truncate(count);
+        }
         for _ in 0..u64::MAX {
             let front = blanks(&written.bytes);
             let Some((at, comment)) = first_comment(self.alloc, &written.bytes)? else {
                 break;
             };
             if comment == Comment::Own {
-                written.bytes.truncate(at);
+                if !self.is_of_load() {
+                    written.bytes.truncate(at);
+                }
                 break;
             }
             if has_sets && at != front {
@@ -220,11 +279,15 @@ impl Stream {
         }
         if let Some(text) = solid.strip_prefix(b"substitute")
             && matches!(text.first().copied(), Some(b' ' | b'\t' | b'"'))
+            && (!self.is_of_load() || text.trim_ascii().starts_with(b"\""))
         {
             self.substitute(place, text)?;
             return Ok(Line::new(self.alloc));
         }
-        let line = self.expander.expanded_line(code)?;
+        let line = match &self.manner {
+            Manner::OfBase => self.expander.expanded_line(code)?,
+            Manner::OfLoad(macros) => self.expander.line_of_load(macros, code)?,
+        };
         self.report_faults(place)?;
         Ok(line)
     }
@@ -268,7 +331,9 @@ impl Stream {
         let Some(mut written) = file.next_written(self.alloc)? else {
             return Ok(false);
         };
-        self.check_bytes(&mut written)?;
+        if !self.is_of_load() {
+            self.check_bytes(&mut written)?;
+        }
         let place = written.place;
         let is_in_comment = self.clear_comments(&mut written, has_sets, is_in_comment)?;
         let line = if has_sets {
@@ -306,6 +371,21 @@ impl Stream {
             }
         }
         Ok(None)
+    }
+
+    /// Goes to the next byte, and returns whether a value in JSON begins there. A word in brackets is one
+    /// for EPICS Base alone.
+    ///
+    /// # Errors
+    ///
+    /// [`AllocError`] if allocation fails.
+    pub fn is_at_json(&mut self) -> Result<bool, AllocError> {
+        let next = self.next_byte()?;
+        let is_word = match self.open.last() {
+            Some(file) => self.is_of_load() && file.is_at_whole_word(),
+            None => false,
+        };
+        Ok(next == Some(b'{') || (next == Some(b'[') && !is_word))
     }
 
     /// Returns whether a record begins with the line.

@@ -6,8 +6,9 @@ use crate::sources::Sources;
 use crate::statements::{alias_statement, next_heading, record_head, skipped_statement};
 use crate::substitutions::{Group, is_substitution_file, read_groups};
 use crate::words::Words;
+use ioc_dblex::Macros;
 use ioc_site::{Place, Reading, RecordText, SourceText, Statement, Word};
-use ioc_site_lines::{Definition, Keyword};
+use ioc_site_lines::{Definition, Keyword, Manner};
 use std::alloc::{AllocError, Global};
 
 /// How many files may be open within one another.
@@ -45,11 +46,11 @@ fn start_of(file: u32) -> Place {
     }
 }
 
-/// Returns whether the text is UTF-16, by its first two bytes.
+/// Returns whether the text is UTF-16, by its first bytes.
 fn is_utf16(text: &[u8]) -> bool {
     matches!(
         text,
-        [0xff, 0xfe, ..] | [0xfe, 0xff, ..] | [0, _, ..] | [_, 0, ..]
+        [0xff, 0xfe, ..] | [0xfe, 0xff, ..] | [0, _, 0, _, ..] | [_, 0, _, 0, ..]
     )
 }
 
@@ -57,10 +58,6 @@ impl Reader {
     /// Begins to read a file, which is named at this place.
     fn open(&mut self, file: ReadFile, place: Place, has_sets: bool) -> Result<(), AllocError> {
         let ReadFile { number, text } = file;
-        if self.words.stream.is_open(number) {
-            let text = b"the file is among those that include it; drop this include";
-            return self.words.report(place, &[text]);
-        }
         if self.words.stream.open_count() >= MOST_OPEN {
             let text = b"files include one another more than 32 deep; include fewer";
             return self.lose(place, &[text]);
@@ -73,7 +70,11 @@ impl Reader {
         {
             return self.report_wrong_file(number, text.as_slice(), word, remedy);
         }
-        self.words.stream.open_file(number, text, has_sets)
+        if !self.words.stream.open_file(number, text, has_sets)? {
+            let text = b"the file is among those that include it; drop this include";
+            self.words.report(place, &[text])?;
+        }
+        Ok(())
     }
 
     /// Reports that a text is of another kind of file, by its first word.
@@ -331,10 +332,40 @@ pub fn read_each<S: Sources>(
     sources: &mut S,
     requests: &[Request],
 ) -> Result<Reading, AllocError> {
+    read_in(alloc, sources, Manner::OfBase, requests)
+}
+
+/// Reads the file with this path as the load of its text alone does, with these macros. What that refuses
+/// and EPICS Base takes is read too, as files that are included.
+///
+/// # Errors
+///
+/// [`AllocError`] if allocation fails.
+pub fn read_text<S: Sources>(
+    alloc: Global,
+    sources: &mut S,
+    path: &[u8],
+    macros: Macros,
+) -> Result<Reading, AllocError> {
+    let request = Request {
+        paths: &[path],
+        macros: &[],
+        folders: &[],
+    };
+    read_in(alloc, sources, Manner::OfLoad(macros), &[request])
+}
+
+// Reads the files of these requests in this manner.
+fn read_in<S: Sources>(
+    alloc: Global,
+    sources: &mut S,
+    manner: Manner,
+    requests: &[Request],
+) -> Result<Reading, AllocError> {
     let mut reader = Reader {
         alloc,
         files: Files::new(alloc),
-        words: Words::new(alloc),
+        words: Words::new(alloc, manner),
         statements: Vec::new(alloc),
         texts: Vec::new(alloc),
         first_loss: None,

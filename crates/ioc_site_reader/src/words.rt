@@ -1,6 +1,6 @@
 //! What a statement is made of, and how reading goes on behind a mistake.
 use ioc_site::{Finding, Place, Word};
-use ioc_site_lines::{Json, Keyword, Kind, Stream, Token, joined, shown, unescaped};
+use ioc_site_lines::{Json, Keyword, Kind, Manner, Stream, Token, joined, shown};
 use std::alloc::{AllocError, Global};
 use std::mem;
 
@@ -35,14 +35,14 @@ pub struct Words {
 
 impl Words {
     /// Begins with no open file.
-    pub fn new(alloc: Global) -> Self {
+    pub fn new(alloc: Global, manner: Manner) -> Self {
         let last = Place {
             file: 0,
             line: 1,
             column: 1,
         };
         Words {
-            stream: Stream::new(alloc),
+            stream: Stream::new(alloc, manner),
             context: Vec::new(alloc),
             round: 0,
             last,
@@ -226,12 +226,8 @@ impl Words {
         Ok(false)
     }
 
-    /// Takes a word or a text between quotes. If there is none, that is reported.
-    ///
-    /// # Errors
-    ///
-    /// [`AllocError`] if allocation fails.
-    pub fn expect_text(&mut self, missing: &[u8]) -> Result<Option<Word>, AllocError> {
+    /// Takes a word or a text between quotes as it is written. If there is none, that is reported.
+    fn expect_written(&mut self, missing: &[u8]) -> Result<Option<Word>, AllocError> {
         self.stream.look()?;
         let is_text = match &self.stream.ahead {
             Some(token) => token.is_text(),
@@ -249,6 +245,28 @@ impl Words {
             place: token.place,
             quoted: token.kind == Kind::Quoted,
         }))
+    }
+
+    /// Takes a name, a type or a path: a word or a text between quotes. If there is none, that is reported.
+    ///
+    /// # Errors
+    ///
+    /// [`AllocError`] if allocation fails.
+    pub fn expect_text(&mut self, missing: &[u8]) -> Result<Option<Word>, AllocError> {
+        match self.expect_written(missing)? {
+            Some(
+                Word {
+                    text,
+                    place,
+                    quoted: true,
+                },
+            ) => Ok(Some(Word {
+                text: self.stream.name_text(text)?,
+                place,
+                quoted: true,
+            })),
+            other => Ok(other),
+        }
     }
 
     /// Takes the comma between two texts. One that is missing before the second text is reported, and
@@ -349,18 +367,23 @@ impl Words {
     ///
     /// [`AllocError`] if allocation fails.
     pub fn expect_value(&mut self) -> Result<Option<Word>, AllocError> {
-        let is_json = matches!(self.stream.next_byte()?, Some(b'{' | b'['));
-        if is_json && self.stream.ahead.is_none() {
+        if self.stream.is_at_json()? && self.stream.ahead.is_none() {
             return self.expect_json();
         }
-        let Some(word) = self.expect_text(b"the value")? else {
+        let Some(word) = self.expect_written(b"the value")? else {
             return Ok(None);
         };
         if !word.quoted {
-            return Ok(Some(word));
+            // A word that begins with a bracket is no value in JSON, as one between quotes isn't.
+            let quoted = word.text.starts_with(b"[");
+            return Ok(Some(Word {
+                text: word.text,
+                place: word.place,
+                quoted,
+            }));
         }
         Ok(Some(Word {
-            text: unescaped(self.stream.alloc, word.text.as_slice())?,
+            text: self.stream.value_text(word.text.as_slice())?,
             place: word.place,
             quoted: true,
         }))

@@ -1,0 +1,108 @@
+//! Where the load refuses a text in which nothing else is wrong.
+use ioc_site::{Finding, Place, Severity, SourceText};
+use ioc_values::{BadDbKind, DbFault};
+use std::alloc::{AllocError, Global};
+
+/// The byte order mark of UTF-8.
+const MARK: &[u8] = b"\xef\xbb\xbf";
+
+// What a load refuses: the byte of its line at which it begins, what it is, and what to do.
+#[derive(Clone, Copy)]
+struct Refused {
+    at: usize,
+    what: &'static str,
+    remedy: &'static str,
+}
+
+// What to do about what is taken of a site's files and not of a text alone.
+const BY_NAME: &str = "; name the file by -d, or load what --write OUT makes";
+
+// Returns the line with this number, from 1.
+fn line_of(text: &[u8], number: u64) -> &[u8] {
+    let mut left = number;
+    for line in text.split(|byte| *byte == b'\n') {
+        left = left.saturating_sub(1);
+        if left == 0 {
+            return line;
+        }
+    }
+    &[]
+}
+
+// Returns where a value in JSON begins on a line, if there is one: a bracket behind a comma.
+fn json_at(line: &[u8]) -> Option<usize> {
+    let mut is_behind_comma = false;
+    for (at, byte) in line.iter().enumerate() {
+        match *byte {
+            b'{' | b'[' if is_behind_comma => return Some(at),
+            b' ' | b'\t' => {}
+            other => is_behind_comma = other == b',',
+        }
+    }
+    None
+}
+
+// Returns what a load refuses on a line for this reason.
+fn refused_on(line: &[u8], kind: BadDbKind) -> Refused {
+    let solid = line.trim_ascii_start();
+    let front = line.len().saturating_sub(solid.len());
+    let dollar = line.iter().position(|byte| *byte == b'$');
+    let (at, what) = match kind {
+        _ if line.starts_with(MARK) => (0, "this byte order mark"),
+        _ if solid.starts_with(b"include") => (front, "this include"),
+        _ if solid.starts_with(b"substitute") => (front, "this substitute"),
+        BadDbKind::LeftOut => (front, "this statement"),
+        BadDbKind::Macro => (dollar.unwrap_or(front), "this macro"),
+        BadDbKind::TooMany => (0, "a text of this size"),
+        _ => match json_at(line) {
+            Some(at) if kind == BadDbKind::Syntax => (at, "this JSON"),
+            _ => (front, "this line"),
+        },
+    };
+    let remedy = match kind {
+        BadDbKind::TooMany => "; split it",
+        BadDbKind::Syntax | BadDbKind::Macro | BadDbKind::LeftOut => BY_NAME,
+        _ => "",
+    };
+    Refused { at, what, remedy }
+}
+
+/// Returns the error at the place where the load refuses a text for this fault.
+///
+/// # Errors
+///
+/// [`AllocError`] if allocation fails.
+pub fn refused_place(
+    alloc: Global,
+    source: &SourceText,
+    fault: DbFault,
+) -> Result<Finding, AllocError> {
+    let Refused { at, what, remedy } = refused_on(line_of(&source.text, fault.line), fault.kind);
+    let words = fault.kind.words();
+    let text = format!(in alloc; "the load refuses {what} ({words}){remedy}")?;
+    Ok(Finding {
+        severity: Severity::Error,
+        place: Place {
+            file: source.file,
+            line: u32::try_from(fault.line).unwrap_or(u32::MAX),
+            column: u32::try_from(at).unwrap_or(u32::MAX).saturating_add(1),
+        },
+        text: text.into_bytes(),
+    })
+}
+
+// Returns whether a finding is of a body that isn't closed, which stands where the body opens.
+fn is_of_open_body(finding: &Finding) -> bool {
+    finding.text.starts_with(b"the body of ") && finding.text.ends_with(b"'}' at its end")
+}
+
+/// Returns whether what is found says why a load refuses a file for this fault: whether there is an error on
+/// its line or before it. A body that isn't closed is refused at the end of the text alone.
+pub fn is_explained(findings: &[Finding], file: u32, fault: DbFault) -> bool {
+    findings.iter().any(|finding| {
+        finding.severity == Severity::Error
+            && finding.place.file == file
+            && u64::from(finding.place.line) <= fault.line
+            && (fault.kind == BadDbKind::OpenBody || !is_of_open_body(finding))
+    })
+}
