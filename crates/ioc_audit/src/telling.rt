@@ -54,6 +54,10 @@ fn add_difference(
     match difference {
         Difference::Place(place) => writeln!(text, "place {place} expected"),
         Difference::DeskCall(call) => writeln!(text, "call {call} of its desk expected"),
+        Difference::Notification(number) => writeln!(
+            text,
+            "an entry before has begun put with notification {number}"
+        ),
         Difference::Reply(entry) => {
             write!(text, "another reply: ")?;
             add_entry(alloc, text, entry)

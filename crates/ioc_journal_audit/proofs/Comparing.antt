@@ -1,14 +1,12 @@
 -- Whether an entry agrees, by what came of its call.
-use Rattle.std.proofs.Common.{◌≡◌, ℕ, Bool, true, false, List, length, refl, sym, ap, subst, ◌∙◌}
+use Rattle.std.proofs.Common.{◌≡◌, Bool, true, false, List, length, sym, ap, ◌∙◌}
 use Rattle.std.specs.Prelude.{◌==◌}
-use Rattle.std.specs.Bool.{Decides}
 use Rattle.std.proofs.lemmas.Bool.Decides.{Decides-eqb}
 use Rattle.ioc_device.specs.declared.Answer.{Answer}
 use Rattle.rec_types.specs.Record.{Record, record_rules}
 use Rattle.ioc_journal_file.specs.declared.line.Line.{Line}
-use Rattle.ioc_store.specs.declared.call.Call.{Call}
 use Rattle.ioc_store.specs.World.{World}
-use Rattle.ioc_store.specs.Given.{Accords, answers_of, calls_of, listed}
+use Rattle.ioc_store.specs.Given.{answers_of}
 use Rattle.ioc_journal_audit.specs.declared.auditor.Auditor.{Auditor}
 use Rattle.ioc_journal_audit.specs.declared.redo.Redone.{Redone}
 use Rattle.ioc_journal_audit.specs.PlayedMap.{world_of}
@@ -29,6 +27,7 @@ module _ (a b : Auditor) (line : Line) (made : Redone) (again : MakesAgain a lin
         world = again.world;
         place = again.place;
         desks = again.desks;
+        begun = again.begun;
       }
 
   pub other_reply : made.agrees ≡ false → Agrees record_rules (world_of a.map) (entry_of line) → ⊥

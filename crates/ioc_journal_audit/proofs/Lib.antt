@@ -1,4 +1,5 @@
 mod Counting
+mod Begun
 mod Following
 mod Cutting
 mod Played

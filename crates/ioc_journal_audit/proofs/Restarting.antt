@@ -16,7 +16,7 @@ use Rattle.rec_types.specs.RecordLaws.{record_lawful}
 use Rattle.ioc_events.specs.StepRules.{Replay, at_the_end}
 use Rattle.ioc_journal_audit.specs.declared.auditor.Auditor.{Auditor}
 use Rattle.ioc_journal_audit.specs.Audit.{HasAudited}
-use Rattle.ioc_journal_audit.specs.Numbers.{count_to, count_in}
+use Rattle.ioc_journal_audit.specs.Numbers.{count_to, count_in, AreBegun}
 use Rattle.ioc_journal_audit.specs.PlayedMap.{world_of}
 use Rattle.ioc_journal_audit.specs.Resuming.{AllBelow, IsSettledRecord, AllSettled, world_with, base_world, live_of, calls_of, start_of}
 
@@ -82,11 +82,12 @@ with_settled records live waiting = refl
 -- An auditor of a base is one that has audited no entry from there on.
 pub resumed : (a : Auditor) (place : ℕ) (records : List Record) (waiting waits : List Waiting) (live : List Live) (desks : List DeskCalls)
     → world_of a.map ≡ world_with records live waits → live ≡ live_of records waiting → waits ≡ waiting → count_to a.place ≡ place
-    → ((desk : ℕ) → count_in a.desks desk ≡ calls_of desks desk) → HasAudited (start_of place desks) (base_world records waiting) [] a
-resumed a place records waiting waits live desks is alive waited there counted =
+    → ((desk : ℕ) → count_in a.desks desk ≡ calls_of desks desk) → AreBegun a.begun [] → HasAudited (start_of place desks) (base_world records waiting) [] a
+resumed a place records waiting waits live desks is alive waited there counted begun =
     let same : world_of a.map ≡ base_world records waiting = is ∙ (λ i. world_with records (alive i) (waited i)) in
     record {
       legal = record { numbered = tt; replay = subst (λ (w : World Record). Replay record_rules w [] (world_of a.map)) same at_the_end };
       place = omega (arith, there);
       desks = λ desk. let e : count_in a.desks desk ≡ calls_of desks desk = counted desk in omega (arith, e);
+      begun = begun;
     }

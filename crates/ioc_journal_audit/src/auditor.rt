@@ -6,7 +6,7 @@ ghost use Rattle.rec_types.specs.Record.{record_rules};
 ghost use Rattle.ioc_process.specs.Rules.{IsSettled};
 ghost use Rattle.ioc_journal_audit.specs.PlayedMap.{world_of};
 
-use crate::counts::{DeskCounts, is_next, next_after};
+use crate::counts::{DeskCounts, NumbersBegun, is_next, next_after, number_begun};
 use crate::difference::Difference;
 use crate::laws::calls_leave_sound;
 use crate::played_map::PlayedMap;
@@ -27,6 +27,8 @@ pub struct Auditor {
     // The place of the last entry, if there was one.
     place: Option<u64>,
     desks: DeskCounts,
+    // The puts with notification that entries have begun.
+    begun: NumbersBegun,
     alloc: Global,
     ghost settled: { IsSettled record_rules (world_of map) },
     ghost empty: { frames.items ≡ [] },
@@ -37,6 +39,7 @@ impl Auditor {
     ghost use Rattle.std.specs.Prelude.{IfOk};
     ghost use Rattle.ioc_dbfile.specs.FirstWorld.{first_world};
     ghost use Rattle.ioc_journal_audit.specs.Numbering.{run_start};
+    ghost use Rattle.ioc_journal_audit.specs.Numbers.{AreBegun};
     ghost use Rattle.ioc_journal_audit.specs.Resuming.{world_with};
     ghost use Rattle.ioc_journal_audit.specs.Audit.{HasAudited, MakesAgain, Compares, IsNext, ChecksNext};
 
@@ -57,6 +60,7 @@ impl Auditor {
             frames,
             place: None,
             desks: DeskCounts::new(alloc),
+            begun: NumbersBegun::new(alloc),
             alloc,
         })
     }
@@ -82,6 +86,7 @@ impl Auditor {
             event.follow_ups.notifications.waiting.waiting) }
         ensures place { IfOk result (λ a. a.place ≡ place) }
         ensures desks { IfOk result (λ a. a.desks ≡ desks) }
+        ensures begun { IfOk result (λ a. AreBegun a.begun []) }
     {
         let map = PlayedMap::new(alloc, records, event);
         let frames = map.frames(alloc)?;
@@ -90,6 +95,7 @@ impl Auditor {
             frames,
             place,
             desks,
+            begun: NumbersBegun::new(alloc),
             alloc,
         })
     }
@@ -124,9 +130,10 @@ impl Auditor {
         Ok(Some(Difference::Reply(entry)))
     }
 
-    // Returns how the numbers of an entry differ from those of the next one, if they do.
-    fn misnumbered(&self, mark: &Mark) -> Option<Difference>
-        ensures { IsNext self.now mark.now result }
+    // Returns how the numbers of an entry differ from those of the next one, if they do, or that of the
+    // put with notification that it begins from those of all before it.
+    fn misnumbered(&self, mark: &Mark, begins: Option<u64>) -> Option<Difference>
+        ensures { IsNext self.now mark.now begins result }
     {
         if !is_next(mark.place, self.place) {
             return Some(Difference::Place(next_after(self.place)));
@@ -135,12 +142,16 @@ impl Auditor {
         if !is_next(mark.call, last) {
             return Some(Difference::DeskCall(next_after(last)));
         }
-        None
+        match begins {
+            Some(number) if self.begun.has(number) => Some(Difference::Notification(number)),
+            _ => None,
+        }
     }
 
     /// Makes the call of the next entry again, and compares its reply, the number of its answers,
-    /// its place and its call number. Returns how the entry differs, if it does; then the auditor
-    /// is of no more use.
+    /// its place, its call number, and the number of the put with notification that it begins, which
+    /// is another than those before. Returns how the entry differs, if it does; then the auditor is of
+    /// no more use.
     ///
     /// # Errors
     ///
@@ -151,13 +162,15 @@ impl Auditor {
         rules_are_calls::<Record>();
         replays_lead_to_one::<Record>();
         let mark = line.mark;
-        if let Some(difference) = self.misnumbered(&mark) {
+        let begins = number_begun(&line.call);
+        if let Some(difference) = self.misnumbered(&mark, begins) {
             return Ok(Some(difference));
         }
         if let Some(difference) = self.compare(line)? {
             return Ok(Some(difference));
         }
         self.desks.count(mark.desk, mark.call)?;
+        self.begun.add(begins)?;
         self.place = Some(mark.place);
         Ok(None)
     }

@@ -1,9 +1,12 @@
-//! The numbers of entries and of the calls of each desk.
-ghost use Rattle.std.specs.Prelude.{◌≡◌, ◌≤◌, ◌==◌, ◌+◌, ℕ, if◌then◌else◌, OnOk};
-ghost use Rattle.ioc_journal_audit.specs.Numbers.{count_to, count_in};
+//! The numbers of entries, of the calls of each desk, and of puts with notification.
+ghost use Rattle.std.specs.Prelude.{◌≡◌, ◌≤◌, ◌==◌, ◌+◌, ◌++◌, ◌∷◌, ℕ, List, [], if◌then◌else◌, OnOk};
+ghost use Rattle.std.specs.List.{cons_option};
+ghost use Rattle.ioc_journal_audit.specs.Numbers.{count_to, count_in, has_begun, AreBegun};
+ghost use Rattle.ioc_journal_audit.specs.Numbering as numbering;
 
+use ioc_events::{Call, Event};
 use std::alloc::{AllocError, Global};
-use std::collections::HashMap;
+use std::collections::{HashMap, HashSet};
 
 /// Returns whether a number is the next one, from 0 on, after the last one.
 pub fn is_next(number: u64, last: Option<u64>) -> bool
@@ -73,6 +76,64 @@ impl DeskCounts {
             ≡ (if desk == other then 1 else 0) + count_in self.old other) }
     {
         self.last.insert(desk, number)?;
+        Ok(())
+    }
+}
+
+/// Returns the number under which a call begins a put with notification, if it does.
+pub fn number_begun(made: &Call) -> Option<u64>
+    ensures { result ≡ numbering.number_begun made.now }
+{
+    match made {
+        Call::Event(Event::Notify { notification, .. }, _) => Some(notification.number()),
+        _ => None,
+    }
+}
+
+/// The numbers under which puts with notification have begun.
+#[derive(Drop)]
+pub struct NumbersBegun {
+    numbers: HashSet<u64>,
+}
+
+impl NumbersBegun {
+    /// None has begun.
+    pub fn new(alloc: Global) -> Self
+        ensures { AreBegun result [] }
+    {
+        NumbersBegun {
+            numbers: HashSet::new(alloc),
+        }
+    }
+
+    /// Returns whether one has begun under this number.
+    pub fn has(&self, number: u64) -> bool
+        ensures { result ≡ has_begun self.now number }
+    {
+        self.numbers.contains(&number)
+    }
+
+    /// Adds the number of one that begins, if one does.
+    ///
+    /// # Errors
+    ///
+    /// [`AllocError`] if allocation fails.
+    pub fn add(&mut self, begins: Option<u64>) -> Result<(), AllocError>
+        ensures { OnOk result ((numbers : List ℕ) → AreBegun self.old numbers
+            → AreBegun self.new (numbers ++ cons_option begins [])) }
+    {
+        match begins {
+            Some(number) => self.insert(number),
+            None => Ok(()),
+        }
+    }
+
+    // Adds a number.
+    fn insert(&mut self, number: u64) -> Result<(), AllocError>
+        ensures { OnOk result ((numbers : List ℕ) → AreBegun self.old numbers
+            → AreBegun self.new (numbers ++ number ∷ [])) }
+    {
+        self.numbers.insert(number)?;
         Ok(())
     }
 }

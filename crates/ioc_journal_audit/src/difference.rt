@@ -8,6 +8,8 @@ pub enum Difference {
     Place(u64),
     /// Its call number isn't the number of calls of its desk before it, which is this.
     DeskCall(u64),
+    /// It begins a put with notification under this number, as an entry before it does.
+    Notification(u64),
     /// Its reply isn't that of this entry, which the rules give.
     Reply(Line),
     /// Its answers aren't those of this entry: another number of them is used.

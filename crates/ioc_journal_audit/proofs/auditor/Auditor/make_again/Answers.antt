@@ -2,7 +2,7 @@ use Rattle.std.proofs.Common.{◌≡◌, refl, ap, subst, ◌∙◌}
 use Rattle.std.specs.Prelude.{vec_capacity}
 use Rattle.std.specs.Bool.{Decides}
 use Rattle.std.proofs.lemmas.Result.{IfOk-weaker}
-use Rattle.rec_types.specs.Record.{Record, record_rules}
+use Rattle.rec_types.specs.Record.{Record}
 use Rattle.ioc_events.specs.Calls.{Called}
 use Rattle.ioc_journal_audit.specs.PlayedMap.{world_of}
 use Rattle.ioc_journal_audit.proofs.Starting.{settled_begun, room_begun, sound_after, called_begun}
@@ -36,4 +36,5 @@ returns c =
       playing = redoes.playing ∙ c.begin_at.ensures.playing;
       place = refl;
       desks = refl;
+      begun = refl;
     }) c.redo.ensures.redoes

@@ -23,4 +23,5 @@ returns c =
       legal = record { numbered = tt; replay = subst (λ (w : World Record). Replay record_rules w [] (world_of c.new-map.result)) same at_the_end };
       place = refl;
       desks = c.new-2.ensures;
+      begun = c.new-3.ensures;
     }

@@ -18,3 +18,4 @@ returns c =
     c.in_ok-auditor.ensures.world (by_waiting ∙ ap (held_by_waiting base.waiting.items) by_records) waits
     (ap count_to c.in_ok-auditor.ensures.place ∙ c.place_before.ensures)
     (λ desk. ap (λ d. count_in d desk) c.in_ok-auditor.ensures.desks ∙ of_lines desk ∙ ap (λ ds. calls_of ds desk) c.as_slice-2.ensures.value)
+    c.in_ok-auditor.ensures.begun
