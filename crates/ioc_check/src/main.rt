@@ -85,25 +85,37 @@ fn tell(rt: &HostRuntime, printed: &Printed) -> Result<u8, Stop> {
 }
 
 // Runs words that ask for an expression.
-fn calculate_words(rt: &HostRuntime, program: &Program<'_>, all: &[String]) -> Result<u8, Stop> {
+fn calculate_words<'a>(
+    rt: &HostRuntime,
+    program: &Program<'a>,
+    all: &'a [String],
+) -> Result<u8, Stop> {
     let words = Words::from_words(rt.alloc(), program, all, false)?;
     let printed = calculated(rt.alloc(), &words, words.expression.unwrap_or(""))?;
     print(rt, &printed.output)?;
     tell(rt, &printed)
 }
 
-// Runs words that name databases.
-fn check_words(rt: &HostRuntime, program: &Program<'_>, all: &[String]) -> Result<u8, Stop> {
-    let alloc = rt.alloc();
-    let site = SiteWords::of(alloc, all)?;
-    let left = site.left(PROGRAM.name)?;
-    let words = Words::from_words(alloc, program, left.as_slice(), site.names_files())?;
-    let checked = check_databases(rt, &site, &words)?;
-    let printed = printed_of(alloc, &words, &checked)?;
-    print(rt, &printed.output)?;
-    if let (Some(path), Some(text)) = (words.output, &checked.database) {
-        save(rt, path, text.as_slice())?;
+// Writes the text of all records, if that is asked for.
+fn save_database(rt: &HostRuntime, words: &Words<'_>, checked: &Checked) -> Result<(), Stop> {
+    match (words.output, &checked.database) {
+        (Some(path), Some(text)) => save(rt, path, text.as_slice()),
+        _ => Ok(()),
     }
+}
+
+// Runs words that name databases, of which these are left beside those of a site's files.
+fn check_words<'a>(
+    rt: &HostRuntime,
+    program: &Program<'a>,
+    site: &SiteWords<'_>,
+    left: &'a [String],
+) -> Result<u8, Stop> {
+    let words = Words::from_words(rt.alloc(), program, left, site.names_files())?;
+    let checked = check_databases(rt, site, &words)?;
+    let printed = printed_of(rt.alloc(), &words, &checked)?;
+    print(rt, &printed.output)?;
+    save_database(rt, &words, &checked)?;
     tell(rt, &printed)
 }
 
@@ -116,10 +128,11 @@ fn work(rt: &HostRuntime) -> Result<u8, Stop> {
         ..PROGRAM
     };
     if names_expression(all.as_slice()) {
-        calculate_words(rt, &program, all.as_slice())
-    } else {
-        check_words(rt, &program, all.as_slice())
+        return calculate_words(rt, &program, all.as_slice());
     }
+    let site = SiteWords::of(rt.alloc(), all.as_slice())?;
+    let left = site.left(PROGRAM.name)?;
+    check_words(rt, &program, &site, left.as_slice())
 }
 
 fn main(rt: HostRuntime) -> ExitCode {

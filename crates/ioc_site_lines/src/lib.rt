@@ -17,7 +17,6 @@ mod stream;
 mod token;
 
 pub use defining::{Definitions, parse_definitions, split_bare};
-pub use escapes::unescaped;
 pub use findings::{Findings, joined, shown};
 pub use json::Json;
 pub use loading::Manner;
