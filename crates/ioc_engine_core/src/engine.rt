@@ -185,6 +185,7 @@ impl<K: RecordKind + Drop, B: SetsName<K, D>, D: Device> EngineCore<K, B, D> {
         history: usize,
     ) -> Result<Desk<K, B, D>, IocError>
         ensures new { IfOk result (λ d. (d.account.next ≡ 0) × (calls_by d.account.number (calls d.account.seen) ≡ [])) }
+        ensures history { IfOk result (λ d. d.buffers.history ≡ history) }
         ensures refused { IfErr result (λ error. (error ≡ Stopped) ⊎ ((error ≡ JournalFull) ⊎ (error ≡ NoMemory))) }
     {
         let buffers = EventBuffers::new(alloc, history)?;
