@@ -4,7 +4,8 @@ fail there.
 
 A run must end by itself within ten seconds, with the output of a run in which nothing fails and status 0, or with status 3 or 4 and a
 beginning of that output. What it writes to standard error plays no part. cc makes the library that refuses. As FAIL_WHAT it also knows
-`short`, by which each write takes one byte, and `none`, by which it takes none.
+`short`, by which each write takes one byte, `none`, by which it takes none, and `memory for good`, by which each growth of memory from one
+on is refused.
 
 Usage: failing.py PROGRAM [WORDS..]
 """
@@ -28,7 +29,10 @@ void *__libc_memalign(size_t, size_t);
 static atomic_long count;
 static int fails(const char *what) {
   const char *kind = getenv("FAIL_WHAT");
-  if (!kind || strcmp(what, kind) != 0 || ++count != atol(getenv("FAIL_AT"))) return 0;
+  int for_good = kind && !strcmp(what, "memory") && !strcmp(kind, "memory for good");
+  if (!kind || (strcmp(what, kind) != 0 && !for_good)) return 0;
+  long at = atol(getenv("FAIL_AT")), now = ++count;
+  if (now < at || (now > at && !for_good)) return 0;
   long file = syscall(SYS_open, getenv("FAIL_LOG"), 1);
   syscall(SYS_write, file, "failed", 6);
   syscall(SYS_close, file);

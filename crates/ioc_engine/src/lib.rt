@@ -80,7 +80,7 @@ pub use ioc_dbfile::DeviceName;
 /// places again: by default, and with [`Limits::of`], a quarter of `journal`. If the call is refused
 /// then, the checkpoint was made nevertheless. Places are counted only after a call that found at
 /// most one at hand, so `checkpoint_at` should be at least the number of desks. A call that finds no
-/// place waits for a checkpoint, but for a link change, which is refused with
+/// place waits for a checkpoint, or has its error, but for a link change, which is refused with
 /// [`IocError::JournalFull`]. If `checkpoint_at` is 0, checkpoints are made only by
 /// [`Engine::checkpoint`] and [`Engine::checkpoint_from`], and each call beyond the limit is refused
 /// so. [`Engine::start`] refuses limits out of their ranges with

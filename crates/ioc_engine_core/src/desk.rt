@@ -28,7 +28,8 @@ impl<K: RecordKind, B: SetsName<K, D>, D: Device> Desk<K, B, D> {
 
     /// Creates a desk with this account, and buffers of its own.
     pub fn new(alloc: Global, account: DeskAccount<K, B>, buffers: EventBuffers<K, D>) -> Self
-        ensures { result.account ≡ account }
+        ensures account { result.account ≡ account }
+        ensures buffers { result.buffers ≡ buffers }
     {
         Desk {
             account,

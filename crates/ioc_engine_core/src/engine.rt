@@ -1,5 +1,5 @@
 //! Calls on records by their numbers.
-ghost use Rattle.std.specs.Prelude.{◌≡◌, ◌<◌, ℕ, true, [], ◌∷◌, ◌⊎◌, IfOk, IfErr, OnOk, OnErr};
+ghost use Rattle.std.specs.Prelude.{◌≡◌, ◌<◌, ℕ, true, [], ◌∷◌, ◌⊎◌, Err, IfOk, IfErr, OnOk, OnErr};
 ghost use Rattle.ioc_values.specs.declared.error.IocError.TheVariants.{JournalFull, NoMemory, Stopped};
 ghost use Rattle.ioc_events.specs.Step.{names};
 ghost use Rattle.ioc_journal.specs.Line.{longer, Begins};
@@ -7,6 +7,7 @@ ghost use Rattle.ioc_set.specs.Doing.{is_ordinary};
 ghost use Rattle.ioc_store.specs.World.{Has};
 ghost use Rattle.ioc_set.specs.SetStore.{world_of};
 ghost use Rattle.ioc_journal.specs.Account.{IsAccount, calls, calls_by};
+ghost use Rattle.ioc_journal.specs.Places.{IsNoPlace};
 ghost use Rattle.ioc_journaled_set.specs.Puts.{HaveEnded};
 ghost use Rattle.std.specs.FinMap.{len};
 ghost use Rattle.ioc_engine_core.specs.Loading.{IsSpare};
@@ -138,22 +139,28 @@ impl<K: RecordKind + Drop, B: SetsName<K, D>, D: Device> EngineCore<K, B, D> {
         self.journal.gate().is_open() || self.may_begin_after_count(rt, alloc)
     }
 
-    // Returns whether a call that was refused is tried again: the journal had no place left, and calls
-    // make checkpoints. Waits for the checkpoint that another call makes, or makes one. If a set is
-    // busy, waits for it, and holds nothing meanwhile.
+    // Makes room for a call that was refused since the journal had no place left, if calls make
+    // checkpoints: waits for the checkpoint that another call makes, or makes one. If a set is busy,
+    // waits for it, and holds nothing meanwhile. The call is tried again then. If it was refused for
+    // another reason, or calls make no checkpoints, its refusal is the error, else that of the
+    // checkpoint.
     #[inline(never)]
-    pub(crate) fn is_tried_again<R: Wait>(&self, rt: &R, alloc: Global, refused: IocError) -> bool {
+    pub(crate) fn make_room<R: Wait>(
+        &self,
+        rt: &R,
+        alloc: Global,
+        refused: IocError,
+    ) -> Result<(), IocError>
+        ensures other { (refused ≡ JournalFull → ⊥) → result ≡ Err refused }
+        ensures error { IfErr result (λ error. (error ≡ refused) ⊎ IsNoPlace error) }
+    {
         if refused != IocError::JournalFull || !self.journal.makes_checkpoints() {
-            return false;
+            return Err(refused);
         }
-        match self.checkpoint_if_short(rt, alloc) {
-            Ok(Some(busy)) => {
-                busy.wait(rt);
-                true
-            }
-            Ok(None) => true,
-            Err(_refused) => false,
+        if let Some(busy) = self.checkpoint_if_short(rt, alloc)? {
+            busy.wait(rt);
         }
+        Ok(())
     }
 
     #[inline(never)]
@@ -178,6 +185,7 @@ impl<K: RecordKind + Drop, B: SetsName<K, D>, D: Device> EngineCore<K, B, D> {
         history: usize,
     ) -> Result<Desk<K, B, D>, IocError>
         ensures new { IfOk result (λ d. (d.account.next ≡ 0) × (calls_by d.account.number (calls d.account.seen) ≡ [])) }
+        ensures history { IfOk result (λ d. d.buffers.history ≡ history) }
         ensures refused { IfErr result (λ error. (error ≡ Stopped) ⊎ ((error ≡ JournalFull) ⊎ (error ≡ NoMemory))) }
     {
         let buffers = EventBuffers::new(alloc, history)?;
@@ -232,8 +240,8 @@ impl<K: RecordKind + Drop, B: SetsName<K, D>, D: Device> EngineCore<K, B, D> {
     /// [`IocError::Stopped`] if the engine was closed. [`IocError::NoRecord`] if there is no record
     /// with this number. [`IocError::NoField`] if the record has no such field. [`IocError::NoMod`]
     /// if the field can't be put. [`IocError::JournalFull`] if the journal has no place left and
-    /// calls make no checkpoints, or one fails.
-    /// [`IocError::NoMemory`] if allocation fails. Nothing has changed then. Any other refusal is a
+    /// calls make no checkpoints. [`IocError::NoMemory`] if allocation fails, also that of the
+    /// checkpoint that a call without a place waits for. Nothing has changed then. Any other refusal is a
     /// reply, which is added to the journal.
     #[inline(always)]
     pub fn serve<R: Wait, C: Clock>(
@@ -259,8 +267,7 @@ impl<K: RecordKind + Drop, B: SetsName<K, D>, D: Device> EngineCore<K, B, D> {
         for _ in rt.forever() {
             match self.try_serve(rt, desk, event, clock, ticket) {
                 Ok(told) => return Ok(told),
-                Err(refused) if self.is_tried_again(rt, desk.alloc, refused) => {}
-                Err(refused) => return Err(refused),
+                Err(refused) => self.make_room(rt, desk.alloc, refused)?,
             }
         }
         unreachable!()
@@ -344,8 +351,7 @@ impl<K: RecordKind + Drop, B: SetsName<K, D>, D: Device> EngineCore<K, B, D> {
         for _ in rt.forever() {
             match self.try_get(rt, desk, number, field, clock) {
                 Ok(told) => return Ok(told),
-                Err(refused) if self.is_tried_again(rt, desk.alloc, refused) => {}
-                Err(refused) => return Err(refused),
+                Err(refused) => self.make_room(rt, desk.alloc, refused)?,
             }
         }
         unreachable!()

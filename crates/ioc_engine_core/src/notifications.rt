@@ -55,8 +55,7 @@ impl<K: RecordKind + Drop, B: SetsName<K, D>, D: Device> EngineCore<K, B, D> {
         for _ in rt.forever() {
             match self.try_put_notify(rt, desk, &put, clock) {
                 Ok(told) => return Ok(told),
-                Err(refused) if self.is_tried_again(rt, desk.alloc, refused) => {}
-                Err(refused) => return Err(refused),
+                Err(refused) => self.make_room(rt, desk.alloc, refused)?,
             }
         }
         unreachable!()
@@ -130,8 +129,7 @@ impl<K: RecordKind + Drop, B: SetsName<K, D>, D: Device> EngineCore<K, B, D> {
         for _ in rt.forever() {
             match self.try_live(rt, desk, number, clock) {
                 Ok(told) => return Ok(told),
-                Err(refused) if self.is_tried_again(rt, desk.alloc, refused) => {}
-                Err(refused) => return Err(refused),
+                Err(refused) => self.make_room(rt, desk.alloc, refused)?,
             }
         }
         unreachable!()

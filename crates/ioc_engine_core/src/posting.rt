@@ -55,8 +55,7 @@ impl<K: RecordKind + Drop, B: SetsName<K, D>, D: Device> EngineCore<K, B, D> {
         for _ in rt.forever() {
             match self.journal.reserve(rt, alloc, desk) {
                 Ok(place) => return Ok(place),
-                Err(refused) if self.is_tried_again(rt, alloc, refused) => {}
-                Err(refused) => return Err(refused),
+                Err(refused) => self.make_room(rt, alloc, refused)?,
             }
         }
         unreachable!()
