@@ -5,5 +5,5 @@
 mod asks;
 mod device;
 
-pub use asks::{Asked, Asks, OutsideDevice, add_value};
+pub use asks::{AskTeller, Asked, Asks, OutsideDevice, OutsideRecord, add_value};
 pub use device::{CountingDevice, counting_devices};
