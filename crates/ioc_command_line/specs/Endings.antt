@@ -1,5 +1,5 @@
 -- How a program ends.
-use Rattle.std.specs.Prelude.{◌≡◌, ◌⊎◌, ℕ, ℤ, pos, int_eq, List, [], ◌∷◌, ◌++◌, codes, Bool, true, false, String, if◌then◌else◌, Option, Some, None, Result, Ok, Err}
+use Rattle.std.specs.Prelude.{◌≡◌, ◌⊎◌, ℕ, ℤ, pos, ◌==◌, List, [], ◌∷◌, ◌++◌, codes, Bool, true, false, String, if◌then◌else◌, Option, Some, None, Result, Ok, Err}
 use Rattle.std.specs.Borrow.{Bor}
 use Rattle.std.specs.Global.{Global}
 use Rattle.std.specs.String.{string_bytes}
@@ -34,7 +34,8 @@ reason_of _ = reason.Other
 -- Whether the code of an error says that no file is open (EBADF).
 abbrev pub is_closed : Option ℤ → Bool
 is_closed None = false
-is_closed (Some code) = int_eq code (pos 9)
+is_closed (Some (pos code)) = code == 9
+is_closed (Some _) = false
 
 -- The reason of the operating system for standard input, by the code and the kind of its error.
 abbrev pub input_reason_of : Option ℤ → ErrorKind → Reason
