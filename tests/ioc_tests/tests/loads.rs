@@ -149,24 +149,26 @@ fn loaded_texts(rt: HostRuntime) {
     }
 }
 
-// Of two records with one device name each has a device of its own then, and every other link leads where it did.
+static TWO_OF_A_DEVICE: [u8; 126] =
+    *b"record(bo,a){field(OUT,\"@card\")field(FLNK,c)}record(bi,b){field(INP,\"@card\")}record(longin,c){field(INP,\"b.VAL\")field(FLNK,x)}";
+
+// Each record has a device of its own, and every other link leads where it did.
+static OWN_FACTS: [Fact; 5] = [
+    LeadsHome(0, FieldNo::Own(OwnField::Out)),
+    Leads(0, FLNK, 2, VAL),
+    LeadsHome(1, INP),
+    Leads(2, INP, 1, VAL),
+    LeadsNowhere(2, FLNK),
+];
+
+static FIRST_FACTS: [Fact; 1] = [LeadsNowhere(1, INP)];
+
 #[test]
 fn devices_of_their_own(rt: HostRuntime) {
-    let text =
-        b"record(bo,a){field(OUT,\"@card\")field(FLNK,c)}record(bi,b){field(INP,\"@card\")}record(longin,c){field(INP,\"b.VAL\")field(FLNK,nowhere)}";
-    let facts = [
-        LeadsHome(0, FieldNo::Own(OwnField::Out)),
-        Leads(0, FLNK, 2, VAL),
-        LeadsHome(1, INP),
-        Leads(2, INP, 1, VAL),
-        LeadsNowhere(2, FLNK),
-    ];
-    assert!(rt; makes_own(rt.alloc(), text, &facts));
-    let facts = [
-        LeadsHome(0, FieldNo::Own(OwnField::Out)),
-        LeadsNowhere(1, INP),
-    ];
-    assert!(rt; !makes_own(rt.alloc(), text, &facts));
+    let text = &TWO_OF_A_DEVICE;
+    assert!(rt; makes(rt.alloc(), &[], text, Made::Facts(&FIRST_FACTS)));
+    assert!(rt; makes_own(rt.alloc(), text, &OWN_FACTS));
+    assert!(rt; !makes_own(rt.alloc(), text, &FIRST_FACTS));
 }
 
 // Texts that are refused, by the kind of the first fault.
