@@ -56,7 +56,8 @@ pub struct Engine<B: EngineName<D>, D: Device, C: Drop> {
 }
 
 impl<B: EngineName<D>, D: Device, C: Drop> Engine<B, D, C> {
-    /// Opens a desk, with the memory that its calls need. It has made no call yet.
+    /// Opens a desk, with the memory that its calls need. It has made no call yet. By its calls a lock
+    /// set keeps as many events as the limits of the engine allow.
     ///
     /// # Errors
     ///
@@ -64,6 +65,7 @@ impl<B: EngineName<D>, D: Device, C: Drop> Engine<B, D, C> {
     /// left for a desk. [`IocError::NoMemory`] if allocation fails.
     pub fn desk<R: Wait>(&self, rt: &R) -> Result<Desk<B, D>, IocError>
         ensures new { IfOk result (λ d. (d.account.next ≡ 0) × (calls_by d.account.number (calls d.account.seen) ≡ [])) }
+        ensures history { IfOk result (λ d. d.buffers.history ≡ self.now.limits.history) }
         ensures refused { IfErr result (λ error. (error ≡ Stopped) ⊎ ((error ≡ JournalFull) ⊎ (error ≡ NoMemory))) }
     {
         self.core.open_desk(rt, self.alloc, self.limits.history)

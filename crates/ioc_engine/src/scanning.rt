@@ -123,22 +123,6 @@ impl<B: EngineName<D>, D: Device, C: Clock + Drop> Engine<B, D, C> {
             .request_each(rt, desk, walked.as_slice(), &self.clock)
     }
 
-    // Requests a record, as `process` does.
-    pub(crate) fn request<R: Wait>(
-        &self,
-        rt: &R,
-        desk: &mut Desk<B, D>,
-        number: RecordNo,
-    ) -> Result<(), IocError>
-        ensures moved { desk.new.moved ≡ 0 }
-    {
-        desk.begin();
-        let mut own = None;
-        let told = self.core.request(rt, desk, number, &self.clock, &mut own);
-        desk.moved = 0;
-        told
-    }
-
     /// Posts an event (post_event): a request of each record with SCAN Event whose EVNT is this name
     /// waits on the callback queue of its priority, PRIO, until a desk that works takes it. Names
     /// are compared without spaces at both ends; the empty name and `0` name no event. A name has 39

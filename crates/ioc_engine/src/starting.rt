@@ -84,9 +84,6 @@ impl<B: EngineName<D>, D: Device, C: Clock + Drop> Engine<B, D, C> {
             return Ok(());
         }
         let mut desk = self.desk(rt)?;
-        for starter in starters {
-            self.request(rt, &mut desk, starter.number)?;
-        }
-        Ok(())
+        self.core.request_all(rt, &mut desk, starters, &self.clock)
     }
 }

@@ -1,8 +1,8 @@
 -- Desks that serve requests one after another.
-use Rattle.std.proofs.Common.{◌≡◌, ◌⊎◌, ℕ, Bool, true, false, List, [], ◌∷◌, ◌++◌, ◌+◌, length, Option, Some, None, Result, Ok, Err, refl, sym, ap, ◌∙◌, subst, append-nil, append_assoc, inl, inr, arith}
-use Rattle.std.proofs.lemmas.List.{length-append}
+use Rattle.std.proofs.Common.{◌≡◌, ◌⊎◌, ℕ, Bool, true, false, List, [], ◌∷◌, ◌++◌, ◌+◌, ◌-◌, ◌≤◌, length, take, drop, get_or, Option, Some, None, Result, Ok, Err, refl, sym, ap, ◌∙◌, subst, append-nil, append_assoc, inl, inr, arith}
+use Rattle.std.proofs.lemmas.List.{length-append, take_all}
 use Rattle.std.proofs.lemmas.List.Elements.{All-nil, All-append, All-push}
-use Rattle.std.specs.Prelude.{OnOk, OnErr, All, is_err}
+use Rattle.std.specs.Prelude.{OnOk, OnErr, All, is_err, map}
 use Rattle.ioc_device.specs.declared.Ask.{Ask}
 use Rattle.ioc_device.specs.declared.Answer.{Answer}
 use Rattle.ioc_record.specs.RecordRules.{RecordRules}
@@ -15,9 +15,10 @@ use Rattle.ioc_journal.specs.Line.{noted}
 use Rattle.ioc_journal.specs.Account.{DeskView, calls, calls_by, journalled}
 use Rattle.ioc_journal.specs.Counting.{is_request}
 use Rattle.ioc_journaled_set.specs.Holding.{entry_of_event}
+use Rattle.ioc_scan.specs.declared.position.Listed.{Listed}
 use Rattle.ioc_shared_queues.specs.declared.rank.Rank.{Rank}
 use Rattle.ioc_shared_queues.specs.Turns.{Rounds, Round, Runs, IsServed}
-use Rattle.ioc_engine_core.specs.Queued.{WasQueueServed}
+use Rattle.ioc_engine_core.specs.Queued.{WasQueueServed, AreRequested}
 use Rattle.ioc_engine_core.specs.Requested.{HasServed, HasServedSome}
 use Rattle.ioc_engine_core.proofs.SeenMore.{begins_on}
 
@@ -89,6 +90,21 @@ module _ {R : Type 0} (D : Type 0) (k : RecordRules R) (base : World R) (gives :
   pub served_or_none : {A E : Type 0} (r : Result A E) → OnOk r (WasQueueServed D k base gives clock_gives number before after come_to) → OnErr r (after ≡ before) → HasServedSome before after
   served_or_none (Ok x) was same = (1, served_one was)
   served_or_none (Err e) was same = some_same before before after (some_none before) same
+
+module _ {R : Type 0} (D : Type 0) (k : RecordRules R) (base : World R) (gives : D → Ask → ℕ → Answer → D → Type 0) (clock_gives : ℕ → Type 0) where
+  -- The first record was requested, and then the others.
+  pub requested_more : (x : Listed) (rest : List Listed) (before between after : DeskView) (come_to : World R) → 1 ≤ length rest → x ≡ get_or rest 0 x
+      → WasQueueServed D k base gives clock_gives x.number before between come_to
+      → AreRequested D k base gives clock_gives (map (λ l. l.number) (take (length rest - 1) (drop 1 rest))) between after
+      → AreRequested D k base gives clock_gives (map (λ l. l.number) rest) before after
+  requested_more x [] before between after come_to some is one left = absurd (omega (arith, some))
+  requested_more x (y ∷ ys) before between after come_to some is one left =
+      let others : take (length (y ∷ ys) - 1) ys ≡ ys = take_all _ ys (omega arith) in (
+        between,
+        come_to,
+        subst (λ (z : Listed). WasQueueServed D k base gives clock_gives z.number before between come_to) is one,
+        subst (λ (zs : List Listed). AreRequested D k base gives clock_gives (map (λ l. l.number) zs) between after) others left,
+      )
 
 -- A worker whose server serves each item as a request of its desk, or leaves the desk as it was.
 module _ {P S T : Type 0} (takes : P → Rank → T → P → Type 0) (finds_empty : P → Rank → P → Type 0)

@@ -1,9 +1,9 @@
 //! Requests that wait on the queues, and the desks by which they are served.
-ghost use Rattle.std.specs.Prelude.{◌≡◌, ◌≤◌, false, None, IfOk, IfErr, OnOk, OnErr};
+ghost use Rattle.std.specs.Prelude.{◌≡◌, ◌≤◌, false, None, map, IfOk, IfErr, OnOk, OnErr};
 ghost use Rattle.std.specs.Vec.{vec_capacity};
 ghost use Rattle.ioc_values.specs.declared.error.IocError.TheVariants.{NoMemory};
 ghost use Rattle.ioc_set.specs.SetStore.{world_of};
-ghost use Rattle.ioc_engine_core.specs.Queued.{WasQueueServed};
+ghost use Rattle.ioc_engine_core.specs.Queued.{WasQueueServed, AreRequested};
 ghost use Rattle.ioc_engine_core.specs.Requested.{HasServed, HasServedSome};
 
 use crate::clock::Clock;
@@ -117,6 +117,30 @@ impl<K: RecordKind + Drop, B: SetsName<K, D>, D: Device> EngineCore<K, B, D> {
     {
         let event = Event::Process { record: number };
         let (_reply, _receipt) = self.serve(rt, desk, &event, clock, ticket)?;
+        Ok(())
+    }
+
+    /// Requests each of these records by a desk, one after another, until a request is refused.
+    ///
+    /// # Errors
+    ///
+    /// As [`EngineCore::serve`], for the request that is refused.
+    pub fn request_all<R: Wait, C: Clock>(
+        &self,
+        rt: &R,
+        desk: &mut Desk<K, B, D>,
+        listed: &[Listed],
+        clock: &C,
+    ) -> Result<(), IocError>
+        ensures { OnOk result (AreRequested D K.rules B.base D.gives (C.gives clock.now) (map (λ l. l.number) listed.now)
+            desk.old.account desk.new.account) }
+    {
+        let mut rest = listed;
+        while let [item, others @ ..] = rest {
+            let mut own = None;
+            self.request(rt, desk, item.number, clock, &mut own)?;
+            rest = others;
+        }
         Ok(())
     }
 
