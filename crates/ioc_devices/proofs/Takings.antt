@@ -1,5 +1,5 @@
 -- Items that a lane takes one after another.
-use Rattle.std.proofs.Common.{◌≡◌, refl, List, [], ◌∷◌, ◌++◌}
+use Rattle.std.proofs.Common.{refl, List, [], ◌∷◌, ◌++◌}
 use Rattle.ioc_shared_queues.specs.declared.order.SeenChange.{SeenChange}
 use Rattle.ioc_shared_queues.specs.Seen.{Takes}
 use Rattle.ioc_devices.specs.Asking.{TakesAll}
