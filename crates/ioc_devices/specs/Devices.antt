@@ -15,10 +15,16 @@ abbrev pub counting_gives : CountingDevice → Ask → ℕ → Answer → Counti
 counting_gives old Read moment answer new = answer ≡ Done (Long new.reads)
 counting_gives old (Write value) moment answer new = (answer ≡ Done value) × (new ≡ old)
 
--- A device outside with this number, by the number of its last wait and what its lane has seen of the asks: it answers later exactly if what
--- it is asked was put behind them, with the number of its next wait. It answers a fault if no more asks can wait, and nothing is put then.
-abbrev pub outside_gives : ℕ → ℕ → List (SeenChange Asked) → Ask → Answer → ℕ → List (SeenChange Asked) → Type 0
-outside_gives device wait seen ask Later wait_then seen_then =
+-- A device outside, by the number of its last wait: it answers later, which is its next wait, or at once that it can't be asked.
+abbrev pub outside_gives : ℕ → Answer → ℕ → Type 0
+outside_gives wait Later wait_then = wait_then ≡ wait + 1
+outside_gives wait Fault wait_then = wait_then ≡ wait
+outside_gives wait (Done value) wait_then = ⊥
+
+-- A device outside with this number, by that of its last wait and what a lane has seen of the asks: it answers later exactly if what it is
+-- asked was put behind them, with the number of its next wait. It answers a fault if no more asks can wait, and nothing is put then.
+abbrev pub asks_by : ℕ → ℕ → List (SeenChange Asked) → Ask → Answer → ℕ → List (SeenChange Asked) → Type 0
+asks_by device wait seen ask Later wait_then seen_then =
     (wait_then ≡ wait + 1) × Puts seen (record { device = device; wait = wait + 1; ask = ask }) seen_then
-outside_gives device wait seen ask Fault wait_then seen_then = (wait_then ≡ wait) × (seen_then ≡ seen)
-outside_gives device wait seen ask (Done value) wait_then seen_then = ⊥
+asks_by device wait seen ask Fault wait_then seen_then = (wait_then ≡ wait) × (seen_then ≡ seen)
+asks_by device wait seen ask (Done value) wait_then seen_then = ⊥

@@ -1,6 +1,6 @@
 //! Devices outside the program, and what they are asked.
 ghost use Rattle.std.specs.Prelude.{◌≡◌, [], IfOk, OnOk};
-ghost use Rattle.ioc_devices.specs.Devices.{outside_gives};
+ghost use Rattle.ioc_devices.specs.Devices.{asks_by, outside_gives};
 ghost use Rattle.ioc_devices.specs.Asking.{TakesAll, Adds, IsValueText, IsAskText, IsAskLine, Tells, TellsAll};
 
 use ioc_commands::add_escaped_text;
@@ -60,18 +60,16 @@ pub struct Asks {
 pub struct OutsideDevice<'a, R: Wait> {
     rt: &'a R,
     asks: &'a Asks,
-    lane: QueueLane<Asked>,
     number: usize,
     // The number of its last wait.
     wait: u64,
-    ghost of: { lane.of ≡ asks.now.queue.id },
 }
 
 impl<R: Wait> OutsideDevice<'_, R> {
-    // Puts what the device is asked on the queue.
-    fn put_down(&mut self, ask: Ask) -> Answer
-        ensures number { self.new.number ≡ self.old.number }
-        ensures gives { outside_gives self.old.number self.old.wait self.old.lane.seen ask result self.new.wait self.new.lane.seen }
+    // Puts what the device is asked on the queue, by this lane of it.
+    fn put_by(&mut self, lane: &mut QueueLane<Asked>, ask: Ask) -> Answer
+        requires { lane.old.of ≡ self.old.asks.now.queue.id }
+        ensures gives { asks_by self.old.number self.old.wait lane.old.seen ask result self.new.wait lane.new.seen }
     {
         let Some(wait) = self.wait.checked_add(1) else {
             return Answer::Fault;
@@ -81,7 +79,7 @@ impl<R: Wait> OutsideDevice<'_, R> {
             wait,
             ask,
         };
-        let put = self.asks.queue.put(self.rt, &mut self.lane, asked);
+        let put = self.asks.queue.put(self.rt, lane, asked);
         if put.is_err() {
             return Answer::Fault;
         }
@@ -89,11 +87,18 @@ impl<R: Wait> OutsideDevice<'_, R> {
         self.asks.alarm.unpark();
         Answer::Later
     }
+
+    // Puts what the device is asked on the queue.
+    fn put_down(&mut self, ask: Ask) -> Answer
+        ensures { outside_gives self.old.wait result self.new.wait }
+    {
+        let mut lane = self.asks.queue.lane();
+        self.put_by(&mut lane, ask)
+    }
 }
 
 impl<R: Wait> Device for OutsideDevice<'_, R> {
-    ghost gives = { λ old ask _ answer new. (new.number ≡ old.number)
-        × outside_gives old.number old.wait old.lane.seen ask answer new.wait new.lane.seen };
+    ghost gives = { λ old _ _ answer new. outside_gives old.wait answer new.wait };
 
     fn read(&mut self, _moment: u64) -> Answer {
         self.put_down(Ask::Read)
@@ -256,12 +261,11 @@ impl Asks {
     // Returns the device with this number.
     fn device<'a, R: Wait>(&'a self, rt: &'a R, number: usize) -> OutsideDevice<'a, R>
         ensures number { result.number ≡ number }
-        ensures new { (result.wait ≡ 0) × (result.lane.seen ≡ []) }
+        ensures new { result.wait ≡ 0 }
     {
         OutsideDevice {
             rt,
             asks: self,
-            lane: self.queue.lane(),
             number,
             wait: 0,
         }
