@@ -153,10 +153,13 @@ impl<B: EngineName<D>, D: Device, C: Clock + Drop> Engine<B, D, C> {
         let mut own = None;
         let told = self.core.serve(rt, desk, event, clock, &mut own);
         desk.moved = 0;
-        if told.is_err() {
-            desk.buffers.ended_everywhere.clear();
+        match told {
+            Ok((reply, receipt, _spent)) => Ok((reply, receipt)),
+            Err(refused) => {
+                desk.buffers.ended_everywhere.clear();
+                Err(refused)
+            }
         }
-        told
     }
 
     /// Requests a record to be processed (dbProcess), at the time of the clock. The reply is the

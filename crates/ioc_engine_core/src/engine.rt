@@ -1,5 +1,8 @@
 //! Calls on records by their numbers.
 ghost use Rattle.std.specs.Prelude.{◌≡◌, ◌<◌, ℕ, true, [], ◌∷◌, ◌⊎◌, Err, IfOk, IfErr, OnOk, OnErr};
+ghost use Rattle.ioc_journal.specs.Tickets.{spent_by};
+ghost use Rattle.ioc_journal.specs.Counting.{is_request};
+ghost use Rattle.ioc_events.specs.declared.event.Call.TheVariants as call;
 ghost use Rattle.ioc_values.specs.declared.error.IocError.TheVariants.{JournalFull, NoMemory, Stopped};
 ghost use Rattle.ioc_events.specs.Step.{names};
 ghost use Rattle.ioc_journal.specs.Line.{longer, Begins};
@@ -19,7 +22,7 @@ use crate::spare_parts::SpareParts;
 use ioc_device::Device;
 use ioc_events::{Event, Reply};
 use ioc_fields::FieldNo;
-use ioc_journal::{EngineCounts, Receipt, RequestTickets, SharedJournal};
+use ioc_journal::{EngineCounts, Receipt, RequestTickets, SharedJournal, SpentTicket};
 use ioc_journaled_set::{JournalAccess, JournaledSet, Served, SetsName, SharedNotifications};
 use ioc_ledger::{TallyShare, Ticket};
 use ioc_names::RecordNo;
@@ -251,7 +254,7 @@ impl<K: RecordKind + Drop, B: SetsName<K, D>, D: Device> EngineCore<K, B, D> {
         event: &Event,
         clock: &C,
         ticket: &mut Option<Ticket<RequestTickets<K, B>>>,
-    ) -> Result<(Reply, Receipt<K, B>), IocError>
+    ) -> Result<(Reply, Receipt<K, B>, Option<SpentTicket<K, B>>), IocError>
         requires ordinary { is_ordinary event.now ≡ true }
         ensures served { IfOk result (λ x. (moment : ℕ) × C.gives clock.now moment
             × WasServed D K.rules B.base D.gives (target_of event.now) desk.old.account
@@ -262,7 +265,8 @@ impl<K: RecordKind + Drop, B: SetsName<K, D>, D: Device> EngineCore<K, B, D> {
         ensures refused { IfErr result (CallIsRefused D K.rules B.base self.now (target_of event.now) event.now) }
         ensures err { OnErr result (desk.new.account ≡ desk.old.account) }
         ensures ticket { OnErr result (ticket.new ≡ ticket.old) }
-        ensures spent { OnOk result (ticket.new ≡ None) }
+        ensures gone { OnOk result (ticket.new ≡ None) }
+        ensures spent { IfOk result (λ x. x.2 ≡ spent_by (is_request (call.Event event.now x.0)) ticket.old) }
     {
         for _ in rt.forever() {
             match self.try_serve(rt, desk, event, clock, ticket) {
@@ -282,7 +286,7 @@ impl<K: RecordKind + Drop, B: SetsName<K, D>, D: Device> EngineCore<K, B, D> {
         event: &Event,
         clock: &C,
         ticket: &mut Option<Ticket<RequestTickets<K, B>>>,
-    ) -> Result<(Reply, Receipt<K, B>), IocError>
+    ) -> Result<(Reply, Receipt<K, B>, Option<SpentTicket<K, B>>), IocError>
         requires ordinary { is_ordinary event.now ≡ true }
         ensures served { IfOk result (λ x. (moment : ℕ) × C.gives clock.now moment
             × WasServed D K.rules B.base D.gives (target_of event.now) desk.old.account
@@ -293,7 +297,8 @@ impl<K: RecordKind + Drop, B: SetsName<K, D>, D: Device> EngineCore<K, B, D> {
         ensures refused { IfErr result (CallIsRefused D K.rules B.base self.now (target_of event.now) event.now) }
         ensures err { OnErr result (desk.new.account ≡ desk.old.account) }
         ensures ticket { OnErr result (ticket.new ≡ ticket.old) }
-        ensures spent { OnOk result (ticket.new ≡ None) }
+        ensures gone { OnOk result (ticket.new ≡ None) }
+        ensures spent { IfOk result (λ x. x.2 ≡ spent_by (is_request (call.Event event.now x.0)) ticket.old) }
     {
         if !self.may_begin(rt, desk.alloc) {
             return Err(IocError::Stopped);
@@ -307,6 +312,7 @@ impl<K: RecordKind + Drop, B: SetsName<K, D>, D: Device> EngineCore<K, B, D> {
             reply,
             receipt,
             tickets,
+            spent,
         } = held.serve(
             &access,
             &self.puts,
@@ -322,7 +328,7 @@ impl<K: RecordKind + Drop, B: SetsName<K, D>, D: Device> EngineCore<K, B, D> {
         }
         drop(held);
         self.do_sent(rt, &desk.buffers, &mut desk.walked, tickets);
-        Ok((reply, receipt))
+        Ok((reply, receipt, spent))
     }
 
     /// Returns the text of a field, at the time that the clock gives while the set's lock is held.

@@ -101,6 +101,7 @@ impl<K: RecordKind + Drop, B: SetsName<K, D>, D: Device> EngineCore<K, B, D> {
             reply,
             receipt,
             tickets,
+            spent: _,
         } = told?;
         self.do_sent(rt, &desk.buffers, &mut desk.walked, tickets);
         Ok((reply, receipt))

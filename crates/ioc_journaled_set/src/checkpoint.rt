@@ -166,7 +166,7 @@ fn give_entries<K: RecordKind + Drop, B: SetsName<K, D>, D: Device, R: Wait>(
     requires waiting { base.waiting.items ≡ flat_map (λ h. h.set.waiting) sets.old }
     ensures sets { map (λ h. h.set) sets.new ≡ map (λ h. h.set) sets.old }
     ensures desk { HasSeenMore desk.old desk.new }
-    ensures given { IfOk result (λ excerpt. IsGiven from (calls desk.new.seen) excerpt.first excerpt.entries.items) }
+    ensures given { IfOk result (λ excerpt. IsGiven from (calls desk.new.seen) excerpt.first excerpt.kept_from excerpt.entries.items) }
     ensures refused { IfErr result IsNoPlace }
 {
     let rt = access.rt;
@@ -260,7 +260,7 @@ pub fn checkpoint_giving<K: RecordKind + Drop, B: SetsName<K, D>, D: Device, R: 
     requires known { (n : ℕ) → Has B.base n → n < count }
     ensures same { map (λ h. folded h.set) sets.new ≡ map (λ h. folded h.set) sets.old }
     ensures desk { HasSeenMore desk.old desk.new }
-    ensures given { IfOk result (λ o. IfSome o (λ excerpt. IsGiven from (calls desk.new.seen) excerpt.first excerpt.entries.items)) }
+    ensures given { IfOk result (λ o. IfSome o (λ excerpt. IsGiven from (calls desk.new.seen) excerpt.first excerpt.kept_from excerpt.entries.items)) }
     ensures refused { IfErr result IsNoPlace }
 {
     let Some(base) = base_of(access.alloc, sets, count)? else {

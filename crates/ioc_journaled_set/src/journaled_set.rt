@@ -1,5 +1,8 @@
 //! Sets whose events are added to the journal.
 ghost use Rattle.std.specs.Prelude.{◌≡◌, ◌⊎◌, ℕ, true, [], None, Some, Err, IfOk, IfErr, OnOk, OnErr, Contains};
+ghost use Rattle.ioc_journal.specs.Tickets.{spent_by};
+ghost use Rattle.ioc_journal.specs.Counting.{is_request};
+ghost use Rattle.ioc_events.specs.declared.event.Call.TheVariants as call;
 ghost use Rattle.std.specs.Option.{IfSome};
 ghost use Rattle.crossbeam_utils.specs.Seq.{cell_view};
 ghost use Rattle.ioc_events.specs.Step.{names, shown};
@@ -209,7 +212,8 @@ impl<K: RecordKind + Drop, B: SetsName<K, D>, D: Device> JournaledSet<K, B, D> {
         ensures refused { IfErr result IsNoPlace }
         ensures err { OnErr result ((self.new ≡ self.old) × (desk.new ≡ desk.old)) }
         ensures ticket { OnErr result (ticket.new ≡ ticket.old) }
-        ensures spent { OnOk result (ticket.new ≡ None) }
+        ensures gone { OnOk result (ticket.new ≡ None) }
+        ensures spent { IfOk result (λ x. x.spent ≡ spent_by (is_request (call.Event event.now x.reply)) ticket.old) }
     {
         calls_have_laws::<K>();
         sets_stay_without_puts::<K, D>();
@@ -250,6 +254,7 @@ impl<K: RecordKind + Drop, B: SetsName<K, D>, D: Device> JournaledSet<K, B, D> {
             reply,
             receipt: appended.receipt,
             tickets: appended.tickets,
+            spent: appended.spent,
         })
     }
 
@@ -281,7 +286,8 @@ impl<K: RecordKind + Drop, B: SetsName<K, D>, D: Device> JournaledSet<K, B, D> {
         ensures refused { IfErr result IsNoPlace }
         ensures err { OnErr result ((self.new ≡ self.old) × (desk.new ≡ desk.old)) }
         ensures ticket { OnErr result (ticket.new ≡ ticket.old) }
-        ensures spent { OnOk result (ticket.new ≡ None) }
+        ensures gone { OnOk result (ticket.new ≡ None) }
+        ensures spent { IfOk result (λ x. x.spent ≡ spent_by (is_request (call.Event event.now x.reply)) ticket.old) }
     {
         calls_have_laws::<K>();
         lines_tell_holders();
@@ -306,6 +312,7 @@ impl<K: RecordKind + Drop, B: SetsName<K, D>, D: Device> JournaledSet<K, B, D> {
             reply,
             receipt: appended.receipt,
             tickets: appended.tickets,
+            spent: appended.spent,
         })
     }
 
@@ -341,7 +348,8 @@ impl<K: RecordKind + Drop, B: SetsName<K, D>, D: Device> JournaledSet<K, B, D> {
         ensures refused { IfErr result (IsNoCall K.rules self.old.set event.now) }
         ensures err { OnErr result ((self.new ≡ self.old) × (desk.new ≡ desk.old)) }
         ensures ticket { OnErr result (ticket.new ≡ ticket.old) }
-        ensures spent { OnOk result (ticket.new ≡ None) }
+        ensures gone { OnOk result (ticket.new ≡ None) }
+        ensures spent { IfOk result (λ x. x.spent ≡ spent_by (is_request (call.Event event.now x.reply)) ticket.old) }
     {
         self.test_call(event)?;
         if self.watched.is_some() {
@@ -376,7 +384,8 @@ impl<K: RecordKind + Drop, B: SetsName<K, D>, D: Device> JournaledSet<K, B, D> {
         ensures refused { IfErr result IsNoPlace }
         ensures err { OnErr result ((self.new ≡ self.old) × (desk.new ≡ desk.old)) }
         ensures ticket { OnErr result (ticket.new ≡ ticket.old) }
-        ensures spent { OnOk result (ticket.new ≡ None) }
+        ensures gone { OnOk result (ticket.new ≡ None) }
+        ensures spent { IfOk result (λ x. x.spent ≡ spent_by (is_request (call.Event event.now x.reply)) ticket.old) }
     {
         if self.set.none_is_live() {
             return self.serve_alone(access, desk, buffers, event, moment, ticket);

@@ -10,7 +10,7 @@ ghost use Rattle.ioc_set.specs.Sound.{IsSound};
 use crate::journal_access::JournalAccess;
 use ioc_device::Device;
 use ioc_events::{Call, Entry, Event, KeptAnswers, Reply};
-use ioc_journal::{DeskAccount, JournalName, Place, Receipt, RequestTickets};
+use ioc_journal::{DeskAccount, JournalName, Place, Receipt, RequestTickets, SpentTicket};
 use ioc_ledger::Tickets;
 use ioc_notify::Live;
 use ioc_record::RecordKind;
@@ -41,6 +41,8 @@ pub struct Served<K: RecordKind, B: JournalName<K>> {
     pub receipt: Receipt<K, B>,
     /// A ticket for each once request that the event has sent.
     pub tickets: Tickets<RequestTickets<K, B>>,
+    /// The ticket that was spent, if it is a request that came with one.
+    pub spent: Option<SpentTicket<K, B>>,
 }
 
 /// Performs an event on a set, and returns the reply and the answers of devices, in memory of their
