@@ -50,7 +50,7 @@ pub use ioc_device::{Answer, Ask, Device};
 pub use ioc_engine_core::{Clock, FieldSeen, FixedClock};
 pub use ioc_events::{Call, Entry, Event, KeptAnswers, Reply};
 pub use ioc_journal::{Excerpt, JournalBase, JournalEntry, KeptFrom, TicketTally};
-pub use ioc_journaled_set::RecordCopies;
+pub use ioc_journaled_set::{NoMoreWatched, NowWatched, RecordCopies};
 pub use ioc_ledger::{Outcome, Tally};
 pub use ioc_menus::Scan;
 pub use ioc_names::RecordNo;

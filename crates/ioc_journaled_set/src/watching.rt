@@ -1,5 +1,5 @@
 //! Watched records of journaled sets. Each is marked, or is what it was after the calls up to which it was told last.
-ghost use Rattle.std.specs.Prelude.{◌≡◌, ◌≤◌, ◌+◌, ◌++◌, ◌∷◌, ℕ, [], length, true, None, map, if◌then◌else◌, Contains, IfOk};
+ghost use Rattle.std.specs.Prelude.{◌≡◌, ◌≤◌, ◌+◌, ◌++◌, ◌∷◌, ℕ, [], length, true, false, None, map, if◌then◌else◌, Contains, IfOk, MatchOption};
 ghost use Rattle.ioc_journal.specs.Tickets.{spent_by};
 ghost use Rattle.ioc_journal.specs.Counting.{is_request};
 ghost use Rattle.ioc_events.specs.declared.event.Call.TheVariants as call;
@@ -20,6 +20,7 @@ ghost use Rattle.ioc_journaled_set.specs.Puts.{BeginsUnder, HaveEnded};
 ghost use Rattle.ioc_journaled_set.specs.Watching.{watched_numbers, IsSameSet, WatchesOn, WatchesThose};
 ghost use Rattle.ioc_journaled_set.specs.Holding.{held_view, is_on_record, numbers_of, watching, Serves};
 
+use crate::watch_signs::{NoMoreWatched, NowWatched};
 use crate::journal_access::JournalAccess;
 use crate::journaled_set::JournaledSet;
 use crate::running::Served;
@@ -73,17 +74,34 @@ impl<K: RecordKind + Drop, B: SetsName<K, D>, D: Device> JournaledSet<K, B, D> {
         }
     }
 
+    /// Returns the sign that a record is watched, if it is.
+    pub fn watched_sign(&self, number: RecordNo) -> Option<NowWatched<B>>
+        ensures { MatchOption result (list_any (is_number number) self.now.watched ≡ false)
+            (λ sign. (sign ≡ number) × (list_any (is_number number) self.now.watched ≡ true)) }
+    {
+        if self.is_watched(number) {
+            return Some(NowWatched::new(number));
+        }
+        None
+    }
+
     /// Watches a record of the set from now on. It is marked, since it wasn't told yet.
     ///
     /// # Errors
     ///
     /// [`AllocError`] if allocation fails; nothing has changed then.
-    pub fn watch(&mut self, alloc: Global, cell: &Cell, number: RecordNo) -> Result<(), AllocError>
+    pub fn watch(
+        &mut self,
+        alloc: Global,
+        cell: &Cell,
+        number: RecordNo,
+    ) -> Result<NowWatched<B>, AllocError>
         requires table { cell.now.table.shared.table_id ≡ B.table }
         requires there { Contains (numbers_of self.old) number }
         ensures ok { OnOk result (self.new ≡ watching self.old.set self.old.seen (self.old.watched
             ++ newly_watched number self.old.seen ∷ [])) }
         ensures err { OnErr result (self.new ≡ self.old) }
+        ensures sign { IfOk result (λ sign. sign ≡ number) }
     {
         let Some(mut pass) = self.pass.take() else {
             unreachable!();
@@ -91,14 +109,16 @@ impl<K: RecordKind + Drop, B: SetsName<K, D>, D: Device> JournaledSet<K, B, D> {
         let told = pass::copy(cell, &mut pass);
         self.pass = Some(pass);
         add_to(alloc, &mut self.watched, number, told)?;
-        Ok(())
+        Ok(NowWatched::new(number))
     }
 
     /// Watches a record no more.
-    pub fn unwatch(&mut self, number: RecordNo)
-        ensures { self.new ≡ watching self.old.set self.old.seen (unwatched number self.old.watched) }
+    pub fn unwatch(&mut self, number: RecordNo) -> NoMoreWatched<B>
+        ensures set { self.new ≡ watching self.old.set self.old.seen (unwatched number self.old.watched) }
+        ensures sign { result ≡ number }
     {
         remove_from(&mut self.watched, number);
+        NoMoreWatched::new(number)
     }
 
     /// Takes the mark off a record of the set, if it is watched: whoever calls this has shown what it is now.
