@@ -183,12 +183,15 @@ fn give_entries<K: RecordKind + Drop, B: SetsName<K, D>, D: Device, R: Wait>(
     Ok(excerpt)
 }
 
-// Clears the histories of these sets.
-fn fold_all<K: RecordKind + Drop, B: SetsName<K, D>, D: Device>(sets: &mut [JournaledSet<K, B, D>])
+// Clears the histories of these sets, and gives their memory back.
+fn fold_all<K: RecordKind + Drop, B: SetsName<K, D>, D: Device>(
+    alloc: Global,
+    sets: &mut [JournaledSet<K, B, D>],
+)
     ensures { map (λ h. h.set) sets.new ≡ map (λ h. folded h.set) sets.old }
 {
     for place in 0..sets.len() {
-        sets[place].fold();
+        sets[place].fold(alloc);
     }
 }
 
@@ -238,7 +241,7 @@ pub fn checkpoint_on<K: RecordKind + Drop, B: SetsName<K, D>, D: Device, R: Wait
     if !drop_entries(rt, shared, sets, base) {
         return Err(IocError::JournalFull);
     }
-    fold_all(sets);
+    fold_all(alloc, sets);
     Ok(true)
 }
 
@@ -267,6 +270,6 @@ pub fn checkpoint_giving<K: RecordKind + Drop, B: SetsName<K, D>, D: Device, R: 
         return Ok(None);
     };
     let excerpt = give_entries(access, desk, sets, base, from)?;
-    fold_all(sets);
+    fold_all(access.alloc, sets);
     Ok(Some(excerpt))
 }

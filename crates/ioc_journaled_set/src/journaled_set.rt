@@ -97,13 +97,13 @@ impl<K: RecordKind, B: SetsName<K, D>, D: Device> JournaledSet<K, B, D> {
         }
     }
 
-    /// Clears the set's history.
-    pub fn fold(&mut self)
+    /// Clears the set's history, and gives its memory back.
+    pub fn fold(&mut self, alloc: Global)
         ensures set { self.new.set ≡ folded self.old.set }
         ensures seen { self.new.seen ≡ self.old.seen }
         ensures watched { self.new.watched ≡ self.old.watched }
     {
-        self.set.fold();
+        self.set.fold(alloc);
     }
 
     /// Returns the set, the pass that owns the keys of its records, and its share of the engine's

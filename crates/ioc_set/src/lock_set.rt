@@ -336,8 +336,8 @@ impl<K: RecordKind, D> LockSet<K, D> {
         self.puts.room_with(&other.puts, alloc)
     }
 
-    /// Clears the history.
-    pub fn fold(&mut self)
+    /// Clears the history, and gives its memory back.
+    pub fn fold(&mut self, alloc: Global)
         ensures { self.new ≡ folded self.old }
     {
         held_records_are_sound::<K, D>();
@@ -349,6 +349,7 @@ impl<K: RecordKind, D> LockSet<K, D> {
             &mut self.base_tally,
             &mut self.history,
         );
+        self.history = Vec::new(alloc);
     }
 
     /// Returns the text of the device link of a record of this set, in INP or OUT; empty if it has
