@@ -111,7 +111,7 @@ impl<B: EngineName<D>, D: Device, C: Drop> Engine<B, D, C> {
     /// Ends the engine, once all its calls are finished, since it takes the engine by value. It
     /// allocates nothing, so an engine can be stopped even if memory is short.
     pub fn stop<R: Wait>(self, rt: &R) -> Report<B, D>
-        ensures end { IsEnd record_rules B.base (IsDeviceOf D.gives B.devices) self.core result.core.journal.filled
+        ensures end { IsEnd record_rules B.base (IsDeviceOf D.gives B.devices) self.core.count result.core.journal.filled
             result.core.sets.items }
         ensures tickets { AreTicketed record_rules B.base result.core.journal.filled result.core.tickets }
         ensures tally { counts_in result.core.sets.items ≡ counts_of record_rules B.base result.core.journal.filled }

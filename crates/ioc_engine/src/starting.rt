@@ -35,7 +35,7 @@ impl<B: EngineName<D>, D: Device, C: Clock + Drop> Engine<B, D, C> {
         limits: Limits,
     ) -> Result<Self, IocError>
         requires named { IsNamedBy B.table B.base B.devices B.places B.tickets B.counts seed }
-        ensures records { IfOk result (λ e. e.core ≡ length seed.records.items) }
+        ensures records { IfOk result (λ e. e.core.count ≡ length seed.records.items) }
         ensures names { IfOk result (λ e. e.lookup ≡ seed.lookup) }
         ensures kept_limits { IfOk result (λ e. e.limits ≡ limits) }
         ensures limits { OnOk result (AreAllowed limits) }

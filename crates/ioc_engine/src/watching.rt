@@ -28,7 +28,7 @@ impl<B: EngineName<D>, D: Device, C: Drop> Engine<B, D, C> {
     /// [`IocError::Stopped`] if the engine was closed. [`IocError::NoRecord`] if there is no record
     /// with this number. [`IocError::NoMemory`] if allocation fails. Nothing is watched that wasn't then.
     pub fn watch<R: Wait>(&self, rt: &R, number: RecordNo) -> Result<(), IocError>
-        ensures refused { IfErr result (WatchIsRefused self.now.core number) }
+        ensures refused { IfErr result (WatchIsRefused self.now.core.count number) }
     {
         self.core.watch(rt, self.alloc, number)
     }
@@ -39,7 +39,7 @@ impl<B: EngineName<D>, D: Device, C: Drop> Engine<B, D, C> {
     ///
     /// [`IocError::NoRecord`] if there is no record with this number.
     pub fn unwatch<R: Wait>(&self, rt: &R, number: RecordNo) -> Result<(), IocError>
-        ensures refused { IfErr result (UnwatchIsRefused self.now.core number) }
+        ensures refused { IfErr result (UnwatchIsRefused self.now.core.count number) }
     {
         self.core.unwatch(rt, number)
     }

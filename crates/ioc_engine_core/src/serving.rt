@@ -40,8 +40,8 @@ impl<'e, K: RecordKind + Drop, B: SetsName<K, D>, D: Device, C: Clock> Serve<Que
     ghost use Rattle.std.specs.Prelude.{◌≡◌};
     ghost use Rattle.ioc_set.specs.SetStore.{world_of};
 
-    ghost serves = { λ a r b. WasQueueServed D K.rules B.base D.gives (C.gives a.clock.now) r.«record» a.desk.account b.desk.account
-        (world_of b.desk.buffers.store) };
+    ghost serves = { λ a r b. WasQueueServed D K.rules B.base D.gives a.core.now.history (C.gives a.clock.now) r.«record» a.desk.account
+        b.desk.account (world_of b.desk.buffers.store) };
 
     ghost refuses = { λ a r b. b.desk.account ≡ a.desk.account };
 
@@ -109,8 +109,8 @@ impl<K: RecordKind + Drop, B: SetsName<K, D>, D: Device> EngineCore<K, B, D> {
         clock: &C,
         ticket: &mut Option<Ticket<RequestTickets<K, B>>>,
     ) -> Result<(), IocError>
-        ensures served { OnOk result (WasQueueServed D K.rules B.base D.gives (C.gives clock.now) number desk.old.account desk.new.account
-            (world_of desk.new.buffers.store)) }
+        ensures served { OnOk result (WasQueueServed D K.rules B.base D.gives self.now.history (C.gives clock.now) number desk.old.account
+            desk.new.account (world_of desk.new.buffers.store)) }
         ensures err { OnErr result (desk.new.account ≡ desk.old.account) }
         ensures ticket { OnErr result (ticket.new ≡ ticket.old) }
         ensures spent { OnOk result (ticket.new ≡ None) }
@@ -132,7 +132,7 @@ impl<K: RecordKind + Drop, B: SetsName<K, D>, D: Device> EngineCore<K, B, D> {
         listed: &[Listed],
         clock: &C,
     ) -> Result<(), IocError>
-        ensures { OnOk result (AreRequested D K.rules B.base D.gives (C.gives clock.now) (map (λ l. l.number) listed.now)
+        ensures { OnOk result (AreRequested D K.rules B.base D.gives self.now.history (C.gives clock.now) (map (λ l. l.number) listed.now)
             desk.old.account desk.new.account) }
     {
         let mut rest = listed;

@@ -21,7 +21,7 @@ impl<K: RecordKind + Drop, B: SetsName<K, D>, D: Device> EngineCore<K, B, D> {
     /// with this number. [`IocError::NoMemory`] if allocation fails. It is watched no more than before
     /// then.
     pub fn watch<R: Wait>(&self, rt: &R, alloc: Global, number: RecordNo) -> Result<(), IocError>
-        ensures refused { IfErr result (WatchIsRefused self.now number) }
+        ensures refused { IfErr result (WatchIsRefused self.now.count number) }
     {
         if self.is_closed() {
             return Err(IocError::Stopped);
@@ -47,7 +47,7 @@ impl<K: RecordKind + Drop, B: SetsName<K, D>, D: Device> EngineCore<K, B, D> {
     ///
     /// [`IocError::NoRecord`] if there is no record with this number.
     pub fn unwatch<R: Wait>(&self, rt: &R, number: RecordNo) -> Result<(), IocError>
-        ensures refused { IfErr result (UnwatchIsRefused self.now number) }
+        ensures refused { IfErr result (UnwatchIsRefused self.now.count number) }
     {
         let mut held = self.sets.lock_set(rt, number)?;
         held.unwatch(number);

@@ -9,7 +9,7 @@ ghost use Rattle.ioc_journal.specs.Covering.{Holds};
 ghost use Rattle.ioc_journal.specs.Legal.{map_of};
 ghost use Rattle.ioc_set.specs.SetState.{NoneIsLive, folded, now_of};
 ghost use Rattle.ioc_set.specs.NoCalls.{no_call};
-ghost use Rattle.ioc_set.specs.Doing.{is_ordinary, IsShort};
+ghost use Rattle.ioc_set.specs.Doing.{is_ordinary};
 ghost use Rattle.ioc_journal.specs.Places.{IsNoPlace};
 ghost use Rattle.ioc_set.specs.SetStore.{world_of};
 ghost use Rattle.ioc_journal.specs.Account.{number_begun, HasSeenMore, IsAccount};
@@ -199,9 +199,8 @@ impl<K: RecordKind + Drop, B: SetsName<K, D>, D: Device> JournaledSet<K, B, D> {
         requires is_call { no_call K.rules (now_of self.old.set) event.now ≡ None }
         requires none { NoneIsLive self.old.set }
         requires unwatched { self.old.watched ≡ [] }
-        ensures short { OnOk result (IsShort buffers.old.history self.new.set) }
-        ensures serves { IfOk result (λ x. Serves K.rules D.gives B.base self.old desk.old moment event.now x.reply self.new desk.new
-            (world_of buffers.new.store)) }
+        ensures serves { IfOk result (λ x. Serves K.rules D.gives B.base access.now.history self.old desk.old moment event.now
+            x.reply self.new desk.new (world_of buffers.new.store)) }
         ensures receipt { IfOk result (λ x. x.receipt ≡ desk.new.seen) }
         ensures tickets { IfOk result (λ x. AreTicketsFor K.rules B.base desk.new.seen (world_of buffers.new.store).outbox x.tickets) }
         ensures ended { OnOk result (HaveEnded K.rules B.base (world_of buffers.new.store).ended desk.new.seen
@@ -222,6 +221,7 @@ impl<K: RecordKind + Drop, B: SetsName<K, D>, D: Device> JournaledSet<K, B, D> {
             access.alloc,
             event,
             moment,
+            access.history,
         ) {
             Ok(done) => done,
             Err(_refused) => {
@@ -270,9 +270,8 @@ impl<K: RecordKind + Drop, B: SetsName<K, D>, D: Device> JournaledSet<K, B, D> {
         requires there { (n : ℕ) → Contains (names event.now) n → Contains (numbers_of self.old) n }
         requires is_call { no_call K.rules (now_of self.old.set) event.now ≡ None }
         requires unwatched { self.old.watched ≡ [] }
-        ensures short { OnOk result (IsShort buffers.old.history self.new.set) }
-        ensures serves { IfOk result (λ x. Serves K.rules D.gives B.base self.old desk.old moment event.now x.reply self.new desk.new
-            (world_of buffers.new.store)) }
+        ensures serves { IfOk result (λ x. Serves K.rules D.gives B.base access.now.history self.old desk.old moment event.now
+            x.reply self.new desk.new (world_of buffers.new.store)) }
         ensures begins { OnOk result (IfSome (number_begun event.now) (λ number. BeginsUnder K.rules B.base number desk.new.seen)) }
         ensures receipt { IfOk result (λ x. x.receipt ≡ desk.new.seen) }
         ensures tickets { IfOk result (λ x. AreTicketsFor K.rules B.base desk.new.seen (world_of buffers.new.store).outbox x.tickets) }
@@ -332,8 +331,8 @@ impl<K: RecordKind + Drop, B: SetsName<K, D>, D: Device> JournaledSet<K, B, D> {
     ) -> Result<Served<K, B>, IocError>
         requires ordinary { is_ordinary event.now ≡ true }
         requires there { (n : ℕ) → Contains (names event.now) n → Contains (numbers_of self.old) n }
-        ensures serves { IfOk result (λ x. Serves K.rules D.gives B.base self.old desk.old moment event.now x.reply self.new desk.new
-            (world_of buffers.new.store)) }
+        ensures serves { IfOk result (λ x. Serves K.rules D.gives B.base access.now.history self.old desk.old moment event.now
+            x.reply self.new desk.new (world_of buffers.new.store)) }
         ensures receipt { IfOk result (λ x. x.receipt ≡ desk.new.seen) }
         ensures tickets { IfOk result (λ x. AreTicketsFor K.rules B.base desk.new.seen (world_of buffers.new.store).outbox x.tickets) }
         ensures ended { OnOk result (HaveEnded K.rules B.base (world_of buffers.new.store).ended desk.new.seen
@@ -366,9 +365,8 @@ impl<K: RecordKind + Drop, B: SetsName<K, D>, D: Device> JournaledSet<K, B, D> {
         requires there { (n : ℕ) → Contains (names event.now) n → Contains (numbers_of self.old) n }
         requires is_call { no_call K.rules (now_of self.old.set) event.now ≡ None }
         requires unwatched { self.old.watched ≡ [] }
-        ensures short { OnOk result (IsShort buffers.old.history self.new.set) }
-        ensures serves { IfOk result (λ x. Serves K.rules D.gives B.base self.old desk.old moment event.now x.reply self.new desk.new
-            (world_of buffers.new.store)) }
+        ensures serves { IfOk result (λ x. Serves K.rules D.gives B.base access.now.history self.old desk.old moment event.now
+            x.reply self.new desk.new (world_of buffers.new.store)) }
         ensures receipt { IfOk result (λ x. x.receipt ≡ desk.new.seen) }
         ensures tickets { IfOk result (λ x. AreTicketsFor K.rules B.base desk.new.seen (world_of buffers.new.store).outbox x.tickets) }
         ensures ended { OnOk result (HaveEnded K.rules B.base (world_of buffers.new.store).ended desk.new.seen

@@ -15,7 +15,7 @@ ghost use Rattle.ioc_watched.specs.Watched.{AreFresh, StayWatched, is_number, to
 ghost use Rattle.ioc_journaled_set.specs.Sent.{AreTicketsFor};
 ghost use Rattle.ioc_journaled_set.specs.Puts.{BeginsUnder, HaveEnded};
 ghost use Rattle.ioc_journaled_set.specs.Watching.{watched_numbers, IsSameSet, WatchesOn, WatchesThose};
-ghost use Rattle.ioc_journaled_set.specs.Holding.{held_view, is_on_record, numbers_of, watching, Serves};
+ghost use Rattle.ioc_journaled_set.specs.Holding.{held_view, is_on_record, kept_at_most, numbers_of, watching, Serves};
 
 use crate::journal_access::JournalAccess;
 use crate::journaled_set::JournaledSet;
@@ -34,7 +34,6 @@ use ioc_values::IocError;
 use ioc_watched::kept_list::{add_to, remove_from, tell_in};
 use ioc_watched::{WatchList, Watched};
 use std::alloc::{AllocError, Global};
-use std::mem;
 use std::sync::{Mutex, Wait};
 
 /// The room for the watched records of a set after a link change.
@@ -215,8 +214,26 @@ impl<K: RecordKind + Drop, B: SetsName<K, D>, D: Device> JournaledSet<K, B, D> {
         self.keep_watched(Some(watched));
     }
 
-    // Performs a request, a put or a completion on a set with watched records. The set keeps no event before it in its history, so
-    // that the base tells what the event may have changed.
+    // Returns the access by which an event is done on the set. If records of the set are watched, it keeps no event before it in its
+    // history, so that the base tells what the event may have changed.
+    fn access_for<'a, R>(&self, access: &JournalAccess<'a, K, B, R>) -> JournalAccess<'a, K, B, R>
+        ensures { result.history ≡ kept_at_most access.now.history self.now.watched }
+    {
+        let history = if self.watched_count() == 0 {
+            access.history
+        } else {
+            0
+        };
+        JournalAccess {
+            rt: access.rt,
+            alloc: access.alloc,
+            journal: access.journal,
+            marks: access.marks,
+            history,
+        }
+    }
+
+    // Performs a request, a put or a completion on a set with watched records.
     #[inline(never)]
     pub(crate) fn serve_watched<R: Wait>(
         &mut self,
@@ -231,8 +248,8 @@ impl<K: RecordKind + Drop, B: SetsName<K, D>, D: Device> JournaledSet<K, B, D> {
         requires ordinary { is_ordinary event.now ≡ true }
         requires there { (n : ℕ) → Contains (names event.now) n → Contains (numbers_of self.old) n }
         requires is_call { no_call K.rules (now_of self.old.set) event.now ≡ None }
-        ensures serves { IfOk result (λ x. Serves K.rules D.gives B.base self.old desk.old moment event.now x.reply self.new desk.new
-            (world_of buffers.new.store)) }
+        ensures serves { IfOk result (λ x. Serves K.rules D.gives B.base access.now.history self.old desk.old moment event.now
+            x.reply self.new desk.new (world_of buffers.new.store)) }
         ensures receipt { IfOk result (λ x. x.receipt ≡ desk.new.seen) }
         ensures tickets { IfOk result (λ x. AreTicketsFor K.rules B.base desk.new.seen (world_of buffers.new.store).outbox x.tickets) }
         ensures ended { OnOk result (HaveEnded K.rules B.base (world_of buffers.new.store).ended desk.new.seen
@@ -244,10 +261,9 @@ impl<K: RecordKind + Drop, B: SetsName<K, D>, D: Device> JournaledSet<K, B, D> {
     {
         histories_begin_before::<K, D>();
         self.set.is_sound();
+        let alone = self.access_for(access);
         let list = self.take_watched();
-        let history = mem::replace(&mut buffers.history, 0);
-        let served = self.serve_unwatched(access, puts, desk, buffers, event, moment, ticket);
-        buffers.history = history;
+        let served = self.serve_unwatched(&alone, puts, desk, buffers, event, moment, ticket);
         match served {
             Ok(done) => {
                 self.keep_changed(access, list);
@@ -276,8 +292,8 @@ impl<K: RecordKind + Drop, B: SetsName<K, D>, D: Device> JournaledSet<K, B, D> {
         requires on_record { is_on_record event.now ≡ true }
         requires there { (n : ℕ) → Contains (names event.now) n → Contains (numbers_of self.old) n }
         requires is_call { no_call K.rules (now_of self.old.set) event.now ≡ None }
-        ensures serves { IfOk result (λ x. Serves K.rules D.gives B.base self.old desk.old moment event.now x.reply self.new desk.new
-            (world_of buffers.new.store)) }
+        ensures serves { IfOk result (λ x. Serves K.rules D.gives B.base access.now.history self.old desk.old moment event.now
+            x.reply self.new desk.new (world_of buffers.new.store)) }
         ensures begins { OnOk result (IfSome (number_begun event.now) (λ number. BeginsUnder K.rules B.base number desk.new.seen)) }
         ensures receipt { IfOk result (λ x. x.receipt ≡ desk.new.seen) }
         ensures tickets { IfOk result (λ x. AreTicketsFor K.rules B.base desk.new.seen (world_of buffers.new.store).outbox x.tickets) }
@@ -293,10 +309,9 @@ impl<K: RecordKind + Drop, B: SetsName<K, D>, D: Device> JournaledSet<K, B, D> {
         }
         histories_begin_before::<K, D>();
         self.set.is_sound();
+        let alone = self.access_for(access);
         let list = self.take_watched();
-        let history = mem::replace(&mut buffers.history, 0);
-        let served = self.serve_counted(access, puts, desk, buffers, event, moment, ticket);
-        buffers.history = history;
+        let served = self.serve_counted(&alone, puts, desk, buffers, event, moment, ticket);
         match served {
             Ok(done) => {
                 self.keep_changed(access, list);
