@@ -36,3 +36,17 @@ pub record Agrees (entry : ℕ → ListEntry) (last : ℕ) (at : Position → Op
 
 abbrev pub Agree : List ListEntry → ℕ → BTreeMap Position Listed → Type 0
 Agree entries last members = Agrees (entry_of entries) last (get order_of.ghosts.cmp members)
+
+-- Holds if each position has no other record than the one that is there by the entries, and has
+-- that one if its number is below `indexed`. No two records on lists have one order number, and
+-- none is above the last one assigned.
+pub record Indexed (entry : ℕ → ListEntry) (last indexed : ℕ) (at : Position → Option Listed) : Type 0 where
+  pub there : (k : Position) (x : Listed) → at k ≡ Some x → StandsAt entry k x
+  pub found : (k : Position) (x : Listed) → StandsAt entry k x → x.number < indexed → at k ≡ Some x
+  pub alone : (m n : ℕ) (p q : Placement) → (entry m).place ≡ Some p → (entry n).place ≡ Some q → (entry m).order ≡ (entry n).order → m ≡ n
+  pub given : (n : ℕ) → (entry n).order ≤ last
+  pub fits : last < 2 ^ 64
+  pub phases : (n : ℕ) (p : Placement) → (entry n).place ≡ Some p → IsPhase p.phase
+
+abbrev pub AreIndexed : List ListEntry → ℕ → ℕ → BTreeMap Position Listed → Type 0
+AreIndexed entries last indexed members = Indexed (entry_of entries) last indexed (get order_of.ghosts.cmp members)
