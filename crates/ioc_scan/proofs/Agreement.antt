@@ -11,7 +11,7 @@ use Rattle.ioc_scan.specs.declared.position.Position.{Position}
 use Rattle.ioc_scan.specs.declared.position.Listed.{Listed}
 use Rattle.ioc_scan.specs.declared.position.ListEntry.{ListEntry}
 use Rattle.ioc_scan.specs.Positions.{position, listed, new_entry, entry_of}
-use Rattle.ioc_scan.specs.Members.{is_at_place, listed_at, IsPhase, StandsAt, Agrees, Indexed}
+use Rattle.ioc_scan.specs.Members.{is_at_place, listed_at, IsPhase, StandsAt, Indexed, HasAll}
 use Rattle.ioc_scan.proofs.Ordered.{exact, itself}
 
 some_place : (o : Option Placement) (order : ℕ) (k : Position) → is_at_place o order k ≡ true → (p : Placement) × (o ≡ Some p) × (k ≡ position p order)
@@ -285,17 +285,9 @@ no_place [] n p e = cc
 no_place (v ∷ es) zero p e = omega arith
 no_place (v ∷ es) (suc n) p e = let l = no_place es n p e in omega arith
 
--- Once all records are indexed, the tree and the entries agree.
-pub all_indexed : (es : List ListEntry) (last upto : ℕ) (g : Position → Option Listed) → length es ≤ upto → Indexed (entry_of es) last upto g → Agrees (entry_of es) last g
-all_indexed es last upto g l indexed = record {
-  stands = λ k x. (
-    (λ e. indexed.there k x e),
-    (λ st. let low = no_place es x.number (record { list = k.list; phase = k.phase; priority = x.priority }) st.0 in indexed.found k x st (omega arith)),
-  );
-  given = indexed.given;
-  fits = indexed.fits;
-  phases = indexed.phases;
-}
+-- Once all records are indexed, each list has all of its own.
+pub has_all : (es : List ListEntry) (upto : ℕ) (list : ListName) → length es ≤ upto → HasAll es upto list
+has_all es upto list l = λ n p e on. let low = no_place es n p e in omega arith
 
 -- An element read from the list is the entry of that record.
 pub read_entry : (es : List ListEntry) (e : ListEntry) (i r : ℕ) → i ≡ r → r < length es → e ≡ get_or es i e → e ≡ entry_of es r

@@ -1,14 +1,16 @@
 //! The scan lists of a database.
-ghost use Rattle.std.specs.Prelude.{◌≡◌, ◌↔◌, ◌⊎◌, ℕ, ◌<◌, ◌≤◌, ◌-◌, ◌^◌, ◌++◌, cond, Some, None, IfOk, IfSome, OnOk, OnErr};
+ghost use Rattle.std.specs.Prelude.{◌≡◌, ◌↔◌, ◌⊎◌, ℕ, ◌<◌, ◌≤◌, ◌-◌, ◌^◌, ◌++◌, false, cond, Some, None, IfOk, IfSome, OnOk, OnErr};
 ghost use Rattle.std.specs.Prelude.{IsTrue, length, vec_len};
 ghost use Rattle.std.specs.BTreeMap.{BTreeMap, IsOrdered, get};
 ghost use Rattle.std.specs.Ordering.{eq_by_cmp};
 ghost use Rattle.ioc_scan.specs.contracts.position.PositionOrd.TheImpl as order_of;
+ghost use Rattle.ioc_scan.specs.declared.list_name.ListName.{ListName};
+ghost use Rattle.ioc_scan.specs.declared.list_name.Placement.{Placement};
 ghost use Rattle.ioc_scan.specs.declared.position.Position.{Position};
 ghost use Rattle.ioc_scan.specs.Scanned.{new_lists, placed, changed, InPhaseOrder};
 ghost use Rattle.ioc_scan.specs.Standing.{standing};
 ghost use Rattle.ioc_scan.specs.Walked.{walked};
-ghost use Rattle.ioc_scan.specs.Members.{is_at_place, listed_at, IsPhase, AreIndexed};
+ghost use Rattle.ioc_scan.specs.Members.{is_at_place, listed_at, IsPhase, AreIndexed, HasAll};
 
 use crate::list_name::{ListName, Placement};
 use crate::position::{ListEntry, Listed, Position};
@@ -137,13 +139,56 @@ impl ScanLists {
         ensures walked { OnOk result (into.new.items ≡ walked self.old list.now) }
         ensures same { self.new ≡ self.old }
     {
-        index_all(
+        index_list(
             &mut self.members,
             self.entries.as_slice(),
             &mut self.indexed,
+            list,
         )?;
         into.clear();
         copy_list(&self.members, list, into)
+    }
+}
+
+// Adds the records from this number on to the members of their lists. If allocation fails, that is
+// an error only if one of those that are left is on this list.
+fn index_list(
+    members: &mut BTreeMap<Position, Listed>,
+    entries: &[ListEntry],
+    indexed: &mut usize,
+    list: &ListName,
+) -> Result<(), AllocError>
+    ensures kept { (last : ℕ) → AreIndexed entries.now last indexed.old members.old → AreIndexed entries.now last indexed.new members.new }
+    ensures all { OnOk result (HasAll entries.now indexed.new list.now) }
+{
+    match index_all(members, entries, indexed) {
+        Ok(()) => Ok(()),
+        Err(error) if is_any_on(entries, *indexed, list) => Err(error),
+        Err(_) => Ok(()),
+    }
+}
+
+// Returns whether a record from this number on is on the list.
+fn is_any_on(entries: &[ListEntry], from: usize, list: &ListName) -> bool
+    ensures { result ≡ false → HasAll entries.now from list.now }
+{
+    let mut number = from;
+    while number < entries.len() {
+        if is_on(&entries[number].place, list) {
+            return true;
+        }
+        number += 1;
+    }
+    false
+}
+
+// Returns whether a place is on the list.
+fn is_on(place: &Option<Placement>, list: &ListName) -> bool
+    ensures { result ≡ false → (p : Placement) → place.now ≡ Some p → p.list ≡ list.now → ⊥ }
+{
+    match place {
+        Some(place) => place.list == *list,
+        None => false,
     }
 }
 
@@ -154,7 +199,7 @@ fn index_all(
     indexed: &mut usize,
 ) -> Result<(), AllocError>
     ensures kept { (last : ℕ) → AreIndexed entries.now last indexed.old members.old → AreIndexed entries.now last indexed.new members.new }
-    ensures all { OnOk result (length entries.now ≤ indexed.new) }
+    ensures all { OnOk result ((list : ListName) → HasAll entries.now indexed.new list) }
 {
     while *indexed < entries.len() {
         let entry = &entries[*indexed];
