@@ -39,7 +39,7 @@ use std::sync::Wait;
 /// reply, [`Reply::Refused`], which has its place there.
 ///
 /// ```rust
-/// let engine = Engine::<B, _, _>::start(rt, alloc, seed, CountingClock::new(), Limits::default())?;
+/// let Started { engine, .. } = Engine::<B, _, _>::start(rt, alloc, seed, CountingClock::new(), Limits::default())?;
 /// let mut desk = engine.desk(rt)?;
 /// engine.set_link(rt, &mut desk, engine.channel(b"copy.INP")?, b"level PP MS")?;
 /// engine.process(rt, &mut desk, engine.record(b"copy")?)?;

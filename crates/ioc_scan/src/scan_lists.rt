@@ -203,12 +203,7 @@ fn index_all(
 {
     while *indexed < entries.len() {
         let entry = &entries[*indexed];
-        put_on(
-            members,
-            RecordNo::new(*indexed),
-            &entry.place,
-            entry.order,
-        )?;
+        put_on(members, RecordNo::new(*indexed), &entry.place, entry.order)?;
         *indexed += 1;
     }
     Ok(())

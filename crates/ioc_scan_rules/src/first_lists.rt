@@ -13,12 +13,7 @@ use std::alloc::{AllocError, Global};
 
 // Adds a record to its list, if it has one.
 #[inline(never)]
-fn add_record<K: RecordKind>(
-    lists: &mut ScanLists,
-    number: RecordNo,
-    item: &K,
-    occasion: Occasion,
-)
+fn add_record<K: RecordKind>(lists: &mut ScanLists, number: RecordNo, item: &K, occasion: Occasion)
     requires known { number < length lists.old.entries }
     requires room { lists.old.last < 2 ^ 64 - 1 }
     ensures { lists.new ≡ added lists.old number (place_of K.rules occasion item.now) }

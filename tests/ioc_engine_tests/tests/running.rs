@@ -13,7 +13,7 @@ use crate::tests::workers::{one_worker, pushers_and_workers, sleepers, two_worke
 use ioc_engine::{
     Call, Clock, CountingClock, Device, DeviceName, Engine, EngineName, Event, FieldText, Input,
     IocError, JournalEntry, Limits, LoadError, Macros, Numbered, Outcome, Receipt, Reply, Report,
-    Seed, StoppedRecord, Tally, TicketTally, load, with_numbers,
+    Seed, Started, StoppedRecord, Tally, TicketTally, load, with_numbers,
 };
 use ioc_fields::{FieldNo, OwnField};
 use ioc_record::text_of;
@@ -354,7 +354,8 @@ fn run<B: EngineName<D> + Send + Sync, D: Device + Send + Sync, R: Threads + Wai
     requires named { IsNamedBy B.table B.base B.devices B.places B.tickets B.counts seed }
 {
     let clock = clock_of(work);
-    let Ok(engine) = Engine::<B, D, Timer>::start(rt, alloc, seed, clock, limits) else {
+    let Ok(Started { engine, .. }) = Engine::<B, D, Timer>::start(rt, alloc, seed, clock, limits)
+    else {
         return None;
     };
     match work {
