@@ -191,8 +191,8 @@ impl<B: EngineName<D>, D: Device> Report<B, D> {
         self.core.dropped
     }
 
-    /// Returns the number of items that events have sent and that couldn't be done, because allocation
-    /// failed for a scan list, or a list has no place left in its order.
+    /// Returns the number of items that events have sent and that couldn't be done: posted events for
+    /// whose list allocation failed, and changes of scan lists past the last number of their order.
     pub fn items_undone(&self) -> u64
         ensures { result ≡ self.now.core.undone }
     {
