@@ -55,7 +55,7 @@ fn overtake<B: EngineName<D>, D: Device, C: Clock + Drop, R: Wait>(
     let mut desk = engine.desk(rt)?;
     for _ in 0..u32::MAX {
         let (shown, _receipt) = engine.get(rt, &mut desk, scan)?;
-        if shown.is_text("1 second") {
+        if shown.as_slice() == b"1 second".as_slice() {
             break;
         }
     }
