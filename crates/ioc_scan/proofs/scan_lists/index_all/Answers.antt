@@ -1,4 +1,4 @@
-use Rattle.std.proofs.Common.{◌≡◌, ℕ, cond, ◌∙◌, ap}
+use Rattle.std.proofs.Common.{ℕ, cond, ◌∙◌, ap}
 use Rattle.std.proofs.lemmas.List.{get_or_default}
 use Rattle.std.specs.BTreeMap.{get}
 use Rattle.ioc_scan.specs.contracts.position.PositionOrd.TheImpl as order_of

@@ -1,4 +1,4 @@
-use Rattle.std.proofs.Common.{◌≡◌, ◌+◌, ◌<◌, refl, sym, ap, ◌∙◌, subst, length, set, arith}
+use Rattle.std.proofs.Common.{◌≡◌, ◌+◌, ◌<◌, refl, sym, ap, subst, length, set, arith}
 use Rattle.std.specs.BTreeMap.{get}
 use Rattle.ioc_scan.specs.contracts.position.PositionOrd.TheImpl as order_of
 use Rattle.ioc_scan.specs.declared.position.ListEntry.{ListEntry}
