@@ -3,6 +3,7 @@ use crate::closing::{closer_of, find_sign, quote_behind};
 use crate::findings::joined;
 use crate::line::Line;
 use crate::macros::{Definition, Macros, Value};
+use ioc_dblex::macros::is_macro_name;
 use std::alloc::{AllocError, Global};
 
 /// How deep macros may lie within one another.
@@ -73,11 +74,13 @@ impl<'a> Part<'a> {
 /// Replaces macros, line by line.
 #[derive(Drop)]
 pub struct Expander {
-    pub(crate) alloc: Global,
+    alloc: Global,
     /// The definitions that hold.
     pub macros: Macros,
     /// What is wrong with the macros of the last line.
     pub faults: Vec<Fault>,
+    /// Whether the file is loaded alone. A backslash before a macro has no meaning then.
+    pub is_alone: bool,
     /// How many bytes lines may still have. A use of a macro counts as one.
     left: u64,
 }
@@ -89,6 +92,7 @@ impl Expander {
             alloc,
             macros: Macros::new(alloc),
             faults: Vec::new(alloc),
+            is_alone: false,
             left: most_bytes,
         }
     }
@@ -116,14 +120,14 @@ impl Expander {
     }
 
     /// Notes a mistake.
-    pub(crate) fn fail(&mut self, column: u32, parts: &[&[u8]]) -> Result<(), AllocError> {
+    fn fail(&mut self, column: u32, parts: &[&[u8]]) -> Result<(), AllocError> {
         let text = joined(self.alloc, parts)?;
         self.faults.push(Fault { column, text })?;
         Ok(())
     }
 
     /// Appends a byte.
-    pub(crate) fn add(&mut self, line: &mut Line, byte: u8, column: u32) -> Result<(), AllocError> {
+    fn add(&mut self, line: &mut Line, byte: u8, column: u32) -> Result<(), AllocError> {
         if self.left == 0 {
             return Ok(());
         }
@@ -132,7 +136,7 @@ impl Expander {
     }
 
     /// Appends a text that comes from one column.
-    pub(crate) fn add_text(
+    fn add_text(
         &mut self,
         line: &mut Line,
         text: &[u8],
@@ -160,7 +164,7 @@ impl Expander {
                 [b'$', b'(' | b'{', ..] if quote != Some(b'\'') => {
                     next = self.expand_use(part, at, levels, line)?;
                 }
-                [b'\\', escaped, ..] => {
+                [b'\\', escaped, ..] if !(self.is_alone && is_own && *escaped == b'$') => {
                     if is_own {
                         self.add(line, b'\\', part.shown(at))?;
                     }
@@ -290,6 +294,9 @@ impl Expander {
             column,
             shown,
         } = wanted;
+        if self.is_alone && !is_macro_name(name) {
+            return self.keep_use(name, column, shown, line);
+        }
         match self.macros.value_of(name)? {
             Value::Text(text, number) => {
                 let part = Part {
@@ -326,10 +333,13 @@ impl Expander {
         shown: u32,
         line: &mut Line,
     ) -> Result<(), AllocError> {
-        self.fail(
-            column,
-            &[b"macro ", name, b" has no value: give ", name, b"=.."],
-        )?;
+        let remedy = b"': a name has letters, digits and '_' alone; write another one";
+        if self.is_alone && !is_macro_name(name) {
+            self.fail(column, &[b"macro '", name, remedy])?;
+        } else {
+            let parts = [b"macro ", name, b" has no value: give ", name, b"=.."];
+            self.fail(column, &parts)?;
+        }
         self.add_text(line, b"$(", shown)?;
         self.add_text(line, name, shown)?;
         self.add_text(line, b")", shown)

@@ -22,6 +22,23 @@ impl Definition {
             value: value.to_vec(alloc)?,
         })
     }
+
+    /// Makes a definition of a copy of a name and of a value that has no macros, quotes and backslashes of its
+    /// own: each of its bytes stands for itself.
+    ///
+    /// # Errors
+    ///
+    /// [`AllocError`] if allocation fails.
+    pub fn literal(alloc: Global, name: &[u8], value: &[u8]) -> Result<Self, AllocError> {
+        let mut escaped = Vec::new(alloc);
+        for byte in value {
+            if b"\\\"'$".contains(byte) {
+                escaped.push(b'\\')?;
+            }
+            escaped.push(*byte)?;
+        }
+        Definition::new(alloc, name, escaped.as_slice())
+    }
 }
 
 /// A definition that holds.

@@ -10,7 +10,6 @@ use crate::findings::Findings;
 use crate::json::Json;
 use crate::lexing::blanks;
 use crate::line::Line;
-use crate::loading::{Manner, before_comment};
 use crate::macros::Definition;
 use crate::opened::{LONE_RETURN, OpenFile, WrittenLine, ZERO_BYTE};
 use crate::token::Token;
@@ -27,7 +26,6 @@ const MOST_BYTES: u64 = 1 << 26;
 pub struct Stream {
     /// What allocates.
     pub alloc: Global,
-    manner: Manner,
     open: Vec<OpenFile>,
     pub(crate) expander: Expander,
     /// What is found so far.
@@ -38,10 +36,9 @@ pub struct Stream {
 
 impl Stream {
     /// Begins with no open file.
-    pub fn new(alloc: Global, manner: Manner) -> Self {
+    pub fn new(alloc: Global) -> Self {
         Stream {
             alloc,
-            manner,
             open: Vec::new(alloc),
             expander: Expander::new(alloc, MOST_BYTES),
             findings: Findings::new(alloc),
@@ -86,9 +83,15 @@ impl Stream {
         false
     }
 
-    /// Returns whether lines are read as the load of one text reads them.
-    fn is_of_load(&self) -> bool {
-        matches!(self.manner, Manner::OfLoad(_))
+    /// Sets whether the files that are opened from now on are loaded alone: what a backslash and a bracket
+    /// mean there is what they mean to the load of one text.
+    pub fn set_alone(&mut self, is_alone: bool) {
+        self.expander.is_alone = is_alone;
+    }
+
+    /// Returns whether the file is loaded alone.
+    fn is_alone(&self) -> bool {
+        self.expander.is_alone
     }
 
     /// Returns a name, a type or a path that is written so between quotes.
@@ -97,9 +100,10 @@ impl Stream {
     ///
     /// [`AllocError`] if allocation fails.
     pub fn name_text(&self, written: Vec<u8>) -> Result<Vec<u8>, AllocError> {
-        match self.manner {
-            Manner::OfBase => Ok(written),
-            Manner::OfLoad(_) => unescaped_by_load(self.alloc, false, written.as_slice()),
+        if self.is_alone() {
+            unescaped_by_load(self.alloc, false, written.as_slice())
+        } else {
+            Ok(written)
         }
     }
 
@@ -109,9 +113,10 @@ impl Stream {
     ///
     /// [`AllocError`] if allocation fails.
     pub fn value_text(&self, written: &[u8]) -> Result<Vec<u8>, AllocError> {
-        match self.manner {
-            Manner::OfBase => unescaped(self.alloc, written),
-            Manner::OfLoad(_) => unescaped_by_load(self.alloc, true, written),
+        if self.is_alone() {
+            unescaped_by_load(self.alloc, true, written)
+        } else {
+            unescaped(self.alloc, written)
         }
     }
 
@@ -183,19 +188,13 @@ impl Stream {
             };
             clear(written.bytes.as_mut_slice(), 0, end);
         }
-        if self.is_of_load() {
-            let count = before_comment(&written.bytes);
-            written.bytes.truncate(count);
-        }
         for _ in 0..u64::MAX {
             let front = blanks(&written.bytes);
             let Some((at, comment)) = first_comment(self.alloc, &written.bytes)? else {
                 break;
             };
             if comment == Comment::Own {
-                if !self.is_of_load() {
-                    written.bytes.truncate(at);
-                }
+                written.bytes.truncate(at);
                 break;
             }
             if has_sets && at != front {
@@ -279,15 +278,12 @@ impl Stream {
         }
         if let Some(text) = solid.strip_prefix(b"substitute")
             && matches!(text.first().copied(), Some(b' ' | b'\t' | b'"'))
-            && (!self.is_of_load() || text.trim_ascii().starts_with(b"\""))
+            && (!self.is_alone() || text.trim_ascii().starts_with(b"\""))
         {
             self.substitute(place, text)?;
             return Ok(Line::new(self.alloc));
         }
-        let line = match &self.manner {
-            Manner::OfBase => self.expander.expanded_line(code)?,
-            Manner::OfLoad(macros) => self.expander.line_of_load(macros, code)?,
-        };
+        let line = self.expander.expanded_line(code)?;
         self.report_faults(place)?;
         Ok(line)
     }
@@ -331,7 +327,7 @@ impl Stream {
         let Some(mut written) = file.next_written(self.alloc)? else {
             return Ok(false);
         };
-        if !self.is_of_load() {
+        if !self.is_alone() {
             self.check_bytes(&mut written)?;
         }
         let place = written.place;
@@ -382,7 +378,7 @@ impl Stream {
     pub fn is_at_json(&mut self) -> Result<bool, AllocError> {
         let next = self.next_byte()?;
         let is_word = match self.open.last() {
-            Some(file) => self.is_of_load() && file.is_at_whole_word(),
+            Some(file) => self.is_alone() && file.is_at_whole_word(),
             None => false,
         };
         Ok(next == Some(b'{') || (next == Some(b'[') && !is_word))

@@ -6,9 +6,8 @@ use crate::sources::Sources;
 use crate::statements::{alias_statement, next_heading, record_head, skipped_statement};
 use crate::substitutions::{Group, is_substitution_file, read_groups};
 use crate::words::Words;
-use ioc_dblex::Macros;
 use ioc_site::{Place, Reading, RecordText, SourceText, Statement, Word};
-use ioc_site_lines::{Definition, Keyword, Manner};
+use ioc_site_lines::{Definition, Keyword};
 use std::alloc::{AllocError, Global};
 
 /// How many files may be open within one another.
@@ -24,6 +23,8 @@ pub struct Request<'a> {
     pub macros: &'a [Definition],
     /// The folders in which a file is sought that isn't beside the one that names it.
     pub folders: &'a [&'a [u8]],
+    /// Whether the file is loaded alone.
+    pub is_alone: bool,
 }
 
 /// Reads files.
@@ -292,6 +293,7 @@ impl Reader {
         sources: &mut S,
         request: Request,
     ) -> Result<(), AllocError> {
+        self.words.stream.set_alone(request.is_alone);
         self.files.clear_folders();
         for folder in request.folders {
             self.files.add_folders(folder)?;
@@ -332,40 +334,10 @@ pub fn read_each<S: Sources>(
     sources: &mut S,
     requests: &[Request],
 ) -> Result<Reading, AllocError> {
-    read_in(alloc, sources, Manner::OfBase, requests)
-}
-
-/// Reads the file with this path as the load of its text alone does, with these macros. What that refuses
-/// and EPICS Base takes is read too, as files that are included.
-///
-/// # Errors
-///
-/// [`AllocError`] if allocation fails.
-pub fn read_text<S: Sources>(
-    alloc: Global,
-    sources: &mut S,
-    path: &[u8],
-    macros: Macros,
-) -> Result<Reading, AllocError> {
-    let request = Request {
-        paths: &[path],
-        macros: &[],
-        folders: &[],
-    };
-    read_in(alloc, sources, Manner::OfLoad(macros), &[request])
-}
-
-// Reads the files of these requests in this manner.
-fn read_in<S: Sources>(
-    alloc: Global,
-    sources: &mut S,
-    manner: Manner,
-    requests: &[Request],
-) -> Result<Reading, AllocError> {
     let mut reader = Reader {
         alloc,
         files: Files::new(alloc),
-        words: Words::new(alloc, manner),
+        words: Words::new(alloc),
         statements: Vec::new(alloc),
         texts: Vec::new(alloc),
         first_loss: None,

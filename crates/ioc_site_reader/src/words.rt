@@ -1,6 +1,6 @@
 //! What a statement is made of, and how reading goes on behind a mistake.
 use ioc_site::{Finding, Place, Word};
-use ioc_site_lines::{Json, Keyword, Kind, Manner, Stream, Token, joined, shown};
+use ioc_site_lines::{Json, Keyword, Kind, Stream, Token, joined, shown};
 use std::alloc::{AllocError, Global};
 use std::mem;
 
@@ -35,14 +35,14 @@ pub struct Words {
 
 impl Words {
     /// Begins with no open file.
-    pub fn new(alloc: Global, manner: Manner) -> Self {
+    pub fn new(alloc: Global) -> Self {
         let last = Place {
             file: 0,
             line: 1,
             column: 1,
         };
         Words {
-            stream: Stream::new(alloc, manner),
+            stream: Stream::new(alloc),
             context: Vec::new(alloc),
             round: 0,
             last,
