@@ -68,7 +68,11 @@ fn refused_on(line: &[u8], kind: BadDbKind) -> Refused {
 }
 
 // Returns the error at the place where the load refuses a text for this fault.
-fn refused_place(alloc: Global, source: &SourceText, fault: DbFault) -> Result<Finding, AllocError> {
+fn refused_place(
+    alloc: Global,
+    source: &SourceText,
+    fault: DbFault,
+) -> Result<Finding, AllocError> {
     let Refused { at, what, remedy } = refused_on(line_of(&source.text, fault.line), fault.kind);
     let words = fault.kind.words();
     let text = format!(in alloc; "the load refuses {what} ({words}){remedy}")?;
@@ -114,8 +118,7 @@ fn is_explanation(source: &SourceText, fault: DbFault, error: &Finding) -> bool 
 
 // Returns whether an error stands where the load has passed.
 fn is_passed(source: &SourceText, fault: DbFault, error: &Finding) -> bool {
-    let is_before =
-        error.place.file == source.file && u64::from(error.place.line) < fault.line;
+    let is_before = error.place.file == source.file && u64::from(error.place.line) < fault.line;
     is_before && !is_explanation(source, fault, error)
 }
 

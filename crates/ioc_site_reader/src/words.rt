@@ -77,15 +77,17 @@ impl Words {
         wanted: &str,
         near: &str,
     ) -> Result<(), AllocError> {
-        let mut text = Vec::new(self.stream.alloc);
-        text.push(b'\'')?;
-        text.extend_from_slice(token.text.as_slice())?;
-        text.extend_from_slice(b"' is no ")?;
-        text.extend_from_slice(wanted.as_bytes())?;
-        text.extend_from_slice(b"; did you mean ")?;
-        text.extend_from_slice(near.as_bytes())?;
-        text.push(b'?')?;
-        self.stream.findings.report_text(token.place, text)
+        let (wanted, near) = (wanted.as_bytes(), near.as_bytes());
+        let parts = [
+            b"'".as_slice(),
+            token.bytes(),
+            b"' is no ",
+            wanted,
+            b"; did you mean ",
+            near,
+            b"?",
+        ];
+        self.report(token.place, &parts)
     }
 
     /// Returns what was found.
@@ -135,7 +137,7 @@ impl Words {
             Kind::Sign(b')') => self.round = self.round.saturating_sub(1),
             _ => {}
         }
-        self.show(token.kind, token.text.as_slice())?;
+        self.show(token.kind, token.bytes())?;
         Ok(Some(token))
     }
 
@@ -383,7 +385,7 @@ impl Words {
             }));
         }
         Ok(Some(Word {
-            text: self.stream.value_text(word.text.as_slice())?,
+            text: self.stream.value_text(word.text)?,
             place: word.place,
             quoted: true,
         }))
