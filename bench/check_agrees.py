@@ -34,9 +34,6 @@ SET = re.compile(rb"\d+ records?: (.*)\n")
 OPEN_BODY = re.compile(rb"the body of .*, which opens on line \d+, isn't closed; put '}' at its end")
 # A sign that is missing is told behind the token before it, and by the load at the token after it, on another line perhaps.
 MISSING = re.compile(rb".* is missing behind .*; put .* there")
-# Bytes that are no token, and a text that isn't closed, are told before the statement that they break off, of which the load may have refused
-# a word.
-NO_TOKEN = re.compile(rb"'.*' can't stand outside quotes; put the text in double quotes|the text that begins here isn't closed; .*")
 BLANK = re.compile(rb"\s*(#.*)?")
 TOKEN = re.compile(rb'"(?:\\.|[^"\\\n])*"|[\w\-+:.\[\]<>;]+|[^\w\s]|\s+')
 QUOTED_OR_COMMENT = re.compile(rb'"(?:\\.|[^"\\\n])*"|#[^\n]*')
@@ -206,8 +203,6 @@ def are_on_one_line(text, errors, refused):
     told = int(refused[1])
     between = text.split(b"\n")[line:told - 1]
     is_missing = MISSING.fullmatch(words) and line < told and all(map(BLANK.fullmatch, between))
-    before = text.split(b"\n")[told:line - 1]
-    is_missing = is_missing or (NO_TOKEN.fullmatch(words) and told < line and all(map(BLANK.fullmatch, before)))
     return line == told or is_missing or (not errors and refused[2] == b"body not closed")
 
 

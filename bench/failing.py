@@ -4,8 +4,8 @@ fail there.
 
 A run must end by itself within ten seconds, with the output of a run in which nothing fails and status 0, or with status 3 or 4 and a
 beginning of that output. What it writes to standard error plays no part. cc makes the library that refuses. As FAIL_WHAT it also knows
-`short`, by which each write takes one byte, `none`, by which it takes none, and `memory for good`, by which each growth of memory from one
-on is refused.
+`short`, by which each write takes one byte, `none`, by which it takes none, and `memory until a write`, by which each growth of memory from
+one on is refused until the program has written.
 
 Usage: failing.py PROGRAM [WORDS..]
 """
@@ -26,13 +26,13 @@ LIBRARY = r"""
 void *__libc_malloc(size_t);
 void *__libc_realloc(void *, size_t);
 void *__libc_memalign(size_t, size_t);
-static atomic_long count;
+static atomic_long count, written;
 static int fails(const char *what) {
   const char *kind = getenv("FAIL_WHAT");
-  int for_good = kind && !strcmp(what, "memory") && !strcmp(kind, "memory for good");
-  if (!kind || (strcmp(what, kind) != 0 && !for_good)) return 0;
+  int until = kind && !strcmp(what, "memory") && !strcmp(kind, "memory until a write");
+  if (!kind || (strcmp(what, kind) != 0 && !until) || (until && written)) return 0;
   long at = atol(getenv("FAIL_AT")), now = ++count;
-  if (now < at || (now > at && !for_good)) return 0;
+  if (now < at || (now > at && !until)) return 0;
   long file = syscall(SYS_open, getenv("FAIL_LOG"), 1);
   syscall(SYS_write, file, "failed", 6);
   syscall(SYS_close, file);
@@ -55,6 +55,7 @@ ssize_t read(int file, void *into, size_t size) {
 }
 ssize_t write(int file, const void *from, size_t size) {
   const char *kind = getenv("FAIL_WHAT");
+  ++written;
   if (fails("write")) { errno = EIO; return -1; }
   if (kind && !strcmp(kind, "none")) return 0;
   if (kind && !strcmp(kind, "short") && size > 1) size = 1;

@@ -21,7 +21,9 @@ use crate::rounds::in_threads;
 use crate::serving::served;
 use crate::work::{Job, Work};
 use ioc_command_line::{Ending, Reason, Stop, given, show};
-use ioc_engine::{Engine, EngineName, FixedClock, IocError, LoadError, Macros, Seed, load};
+use ioc_engine::{
+    Engine, EngineName, FixedClock, IocError, LoadError, Macros, Seed, Started, load,
+};
 use std::alloc::Global;
 use std::env::{self, Args};
 use std::io::{self, Eprint, Print};
@@ -66,7 +68,13 @@ fn carry_out<B: EngineName<Sensor> + Send + Sync, R: Clock + Input + Threads + W
 ) -> Result<Measured, IocError>
     requires named { IsNamedBy B.table B.base B.devices B.places B.tickets B.counts seed }
 {
-    let engine = Engine::<B, _, _>::start(rt, alloc, seed, FixedClock(1), job.limits())?;
+    let Started { engine, .. } = Engine::<B, _, _>::start(
+        rt,
+        alloc,
+        seed,
+        FixedClock(1),
+        job.limits(),
+    )?;
     let begun = Instant::now(rt);
     let rounds = match job.work {
         Work::Hold => hold(rt, alloc),

@@ -6,7 +6,7 @@ ghost use Rattle.ioc_engine.specs.Named.{IsNamedBy};
 
 use ioc_engine::{
     Answer, CountingClock, Desk, Device, DeviceName, Engine, EngineName, FieldText, Finished,
-    IocError, Limits, LoadError, Macros, Scan, Seed, Value, load,
+    IocError, Limits, LoadError, Macros, Scan, Seed, Started, Value, load,
 };
 use std::alloc::Global;
 use std::marker::Brand;
@@ -168,7 +168,7 @@ fn work<B: EngineName<Station> + Send + Sync, R: Threads + Wait + Sync>(
     requires named { IsNamedBy B.table B.base B.devices B.places B.tickets B.counts seed }
 {
     let clock = CountingClock::new();
-    let engine = Clocked::<B>::start(rt, alloc, seed, clock, Limits::default())?;
+    let Started { engine, .. } = Clocked::<B>::start(rt, alloc, seed, clock, Limits::default())?;
     let (first, second) = (engine.desk(rt)?, engine.desk(rt)?);
     let third = engine.desk(rt)?;
     let workers = || thread::join(

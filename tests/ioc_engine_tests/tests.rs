@@ -4,6 +4,7 @@ mod calling;
 mod calls;
 mod eight;
 mod moments;
+mod overtaken;
 mod replayed;
 mod running;
 mod scanned;

@@ -12,7 +12,7 @@ use crate::streams::Streams;
 use crate::task::{Task, fault_of};
 use ioc_devices::Asks;
 use ioc_engine::{
-    Clock, Database, Desk, Device, DeviceName, Engine, EngineName, Limits, RecordNo, Seed,
+    Clock, Database, Desk, Device, DeviceName, Engine, EngineName, Limits, RecordNo, Seed, Started,
 };
 use ioc_files::ReplaceFiles;
 use ioc_journal_lines::Header;
@@ -287,7 +287,7 @@ fn work<
     requires named { IsNamedBy B.table B.base B.devices B.places B.tickets B.counts seed }
 {
     let limits = limits(streams.journal().is_some(), task.is_endless());
-    let Ok(engine) = Engine::<B, D, C>::start(rt, alloc, seed, clock, limits) else {
+    let Ok(Started { engine, .. }) = Engine::<B, D, C>::start(rt, alloc, seed, clock, limits) else {
         return Err(RunFault::Start);
     };
     let ran = in_threads(rt, alloc, &engine, workers, task, streams);

@@ -279,7 +279,10 @@ impl<'a, W: Write + Drop, J: Write + Drop> Streams<'a, W, J> {
         match written.watches.remove(number, word) {
             Removal::NotWatched => Err(LineFault::Refused(IocError::NoField)),
             Removal::OneOfMany => Ok(()),
-            Removal::LastOfRecord => Ok(engine.unwatch(rt, number)?),
+            Removal::LastOfRecord => {
+                engine.unwatch(rt, number)?;
+                Ok(())
+            }
         }
     }
 

@@ -7,7 +7,7 @@ use ioc_site_database::{
     Disk, JudgedSite, SiteWords, Verdict, WayOut, add_skipped, judged_site, judged_text, read_site,
     with_adaption,
 };
-use ioc_site_reader::{is_substitution_file, read_text};
+use ioc_site_reader::{Request, is_substitution_file, read_each};
 use ioc_site_rules::{add_picture, add_sets, check};
 use std::alloc::{Alloc, AllocError, Global};
 use std::fs::Files;
@@ -40,7 +40,7 @@ fn shown(alloc: Global, words: &Words<'_>, reading: &Reading) -> Result<Vec<u8>,
     Ok(out)
 }
 
-// Checks one file as the load of its text alone reads it.
+// Checks one file that is loaded alone.
 fn checked_text<R: Files + Alloc<A = Global>>(
     rt: &R,
     words: &Words<'_>,
@@ -48,7 +48,14 @@ fn checked_text<R: Files + Alloc<A = Global>>(
 ) -> Result<Checked, Stop> {
     let alloc = rt.alloc();
     let macros = words.macros(alloc)?;
-    let reading = read_text(alloc, &mut Disk(rt), path.as_bytes(), words.macros(alloc)?)?;
+    let definitions = words.literals(alloc, &macros)?;
+    let request = Request {
+        paths: &[path.as_bytes()],
+        macros: definitions.as_slice(),
+        folders: &[],
+        is_alone: true,
+    };
+    let reading = read_each(alloc, &mut Disk(rt), &[request])?;
     let shown = shown(alloc, words, &reading)?;
     let mut checked = check(alloc, &reading)?;
     add_skipped(

@@ -1,7 +1,7 @@
 //! The command line of the program.
 use clap::{Arg, ArgAction, ArgMatches, Command};
 use ioc_command_line::{Program, Stop, UsageFault, defined, parse};
-use ioc_dblex::Macros;
+use ioc_dblex::{Macros, split_at_byte};
 use ioc_site_database::LeftOutTypes;
 use ioc_site_reader::{Definition, parse_definitions};
 use std::alloc::{AllocError, Global};
@@ -210,6 +210,24 @@ impl<'a> Words<'a> {
         defined(alloc, self.macros.as_slice(), &mut macros)?;
         defined(alloc, self.definitions.as_slice(), &mut macros)?;
         Ok(macros)
+    }
+
+    /// Returns the definitions of these macros, which the words define, for a reader of files.
+    ///
+    /// # Errors
+    ///
+    /// [`AllocError`] if allocation fails.
+    pub fn literals(&self, alloc: Global, macros: &Macros) -> Result<Vec<Definition>, AllocError> {
+        let mut all = Vec::new(alloc);
+        for word in self.macros.iter().chain(self.definitions.iter()) {
+            for piece in word.as_bytes().split(|byte| *byte == b',') {
+                let (name, _) = split_at_byte(b'=', piece);
+                if let Some(value) = macros.value_of(name) {
+                    all.push(Definition::literal(alloc, name, value)?)?;
+                }
+            }
+        }
+        Ok(all)
     }
 
     /// Returns the words that define macros, but for those of `-m`, each behind a byte 0.

@@ -9,7 +9,7 @@ use std::alloc::{AllocError, Global};
 
 /// Returns the byte that a backslash and this byte escape in field values only.
 #[tactic(auto, unfolding(crate::specs::Escapes::control_of))]
-fn control_of(b: u8) -> Option<u8>
+pub fn control_of(b: u8) -> Option<u8>
     ensures { result ≡ control_of b }
 {
     match b {

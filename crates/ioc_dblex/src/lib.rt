@@ -24,8 +24,8 @@ pub mod token;
 pub mod token_lines;
 pub mod tokens;
 
-pub use bytes::{escapes, skip_gap};
-pub use escaped_text::{TokenText, read_escapes, unescaped};
+pub use bytes::{escapes, skip_gap, split_quoted, split_word};
+pub use escaped_text::{TokenText, control_of, read_escapes, unescaped};
 pub use expansion::{MAX_BYTES, expand};
 pub use lexer::{behind_sign, is_fault, token_at};
 pub use macros::Macros;

@@ -124,13 +124,13 @@ module _ (base : World Record) (c : Channel) where
     pub told-has : {desk desk_then : DeskView} {at_moment : ℕ} {text : List ℕ} → WasTold D record_rules base n desk at_moment c.field text desk_then → HasField base c
     told-has {text = text} was = get-has was.held was.here was.before text was.tells.answer
 
-    pub served-can : {gives : D → Ask → ℕ → Answer → D → Type 0} {desk desk_then : DeskView} {at_moment : ℕ} {given : Input} {reply : Reply} {come_to : World Record}
-        → WasServed D record_rules base gives n desk at_moment (Put n c.field given) reply desk_then come_to → CanBePut base c
-    served-can {gives} {desk} {desk_then} {at_moment} {given} was = can-put (sym (put-why was.held was.here was.before given) ∙ was.serves.is_call)
+    pub served-can : {gives : D → Ask → ℕ → Answer → D → Type 0} {limit : ℕ} {desk desk_then : DeskView} {at_moment : ℕ} {given : Input} {reply : Reply} {come_to : World Record}
+        → WasServed D record_rules base gives limit n desk at_moment (Put n c.field given) reply desk_then come_to → CanBePut base c
+    served-can {gives} {limit} {desk} {desk_then} {at_moment} {given} was = can-put (sym (put-why was.held was.here was.before given) ∙ was.serves.is_call)
 
-    pub begun-can : {gives : D → Ask → ℕ → Answer → D → Type 0} {desk desk_then : DeskView} {at_moment : ℕ} {given : Input} {reply : Reply} {come_to : World Record}
-        → WasBegun D record_rules base gives n desk at_moment c.field given reply desk_then come_to → CanBePut base c
-    begun-can {gives} {desk} {desk_then} {at_moment} {given} was = can-put (sym (notify-why was.held was.here was.before was.begins.number given) ∙ was.begins.serves.is_call)
+    pub begun-can : {gives : D → Ask → ℕ → Answer → D → Type 0} {limit : ℕ} {desk desk_then : DeskView} {at_moment : ℕ} {given : Input} {reply : Reply} {come_to : World Record}
+        → WasBegun D record_rules base gives limit n desk at_moment c.field given reply desk_then come_to → CanBePut base c
+    begun-can {gives} {limit} {desk} {desk_then} {at_moment} {given} was = can-put (sym (notify-why was.held was.here was.before was.begins.number given) ∙ was.begins.serves.is_call)
 
     -- The error of a get that was refused, and that of a put.
     pub refused-get : (count : ℕ) (error : IocError) → GetIsRefused D record_rules base count n c.field error → IsGetError base c error

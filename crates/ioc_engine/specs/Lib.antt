@@ -3,6 +3,7 @@ pub mod Named
 pub mod Numbers
 pub mod Relinking
 pub mod Binding
+pub mod Started
 pub mod Stopped
 pub mod Types
 pub mod Refusals

@@ -1,7 +1,7 @@
 //! Checkpoints of an engine.
-ghost use Rattle.std.specs.Prelude.{◌≡◌, ◌≤◌, ◌⊎◌, [], take, drop, IfOk, IfErr};
+ghost use Rattle.std.specs.Prelude.{◌≡◌, ◌⊎◌, [], take, drop, IfOk, IfErr};
 ghost use Rattle.ioc_values.specs.declared.error.IocError.TheVariants.{Stopped};
-ghost use Rattle.ioc_journal.specs.Account.{calls, HasSeenMore, IsGiven};
+ghost use Rattle.ioc_journal.specs.Account.{calls, HasSeenMore, IsGiven, BeginsWhere};
 ghost use Rattle.ioc_journal.specs.Places.{IsNoPlace};
 
 use crate::desk::Desk;
@@ -46,7 +46,7 @@ impl<B: EngineName<D>, D: Device, C: Drop> Engine<B, D, C> {
         from: u64,
     ) -> Result<Excerpt, IocError>
         ensures desk { HasSeenMore desk.old.account desk.new.account }
-        ensures given { IfOk result (λ excerpt. IsGiven from (calls desk.new.account.seen) excerpt.first excerpt.entries.items) }
+        ensures given { IfOk result (λ excerpt. IsGiven from (calls desk.new.account.seen) excerpt.first excerpt.kept_from excerpt.entries.items) }
         ensures refused { IfErr result (λ error. (error ≡ Stopped) ⊎ IsNoPlace error) }
         ensures ended { desk.new.buffers.ended_everywhere.items ≡ [] }
         ensures moved { desk.new.moved ≡ 0 }
@@ -72,7 +72,7 @@ impl<B: EngineName<D>, D: Device, C: Drop> Engine<B, D, C> {
     ) -> Result<Excerpt, AllocError>
         ensures desk { HasSeenMore desk.old.account desk.new.account }
         ensures copies { IfOk result (λ excerpt. excerpt.entries.items ≡ take most (drop excerpt.first (calls desk.new.account.seen))) }
-        ensures from { IfOk result (λ excerpt. from ≤ excerpt.first) }
+        ensures first { IfOk result (λ excerpt. BeginsWhere from excerpt.first excerpt.kept_from) }
         ensures ended { desk.new.buffers.ended_everywhere.items ≡ [] }
         ensures moved { desk.new.moved ≡ 0 }
     {

@@ -8,7 +8,7 @@ use std::time::{self, SystemTime};
 ///
 /// ```rust
 /// let clock = SystemClock::new(&rt);
-/// let engine = Engine::<B, _, _>::start(rt, alloc, seed, clock, Limits::default())?;
+/// let Started { engine, .. } = Engine::<B, _, _>::start(rt, alloc, seed, clock, Limits::default())?;
 /// ```
 #[derive(Drop)]
 pub struct SystemClock<R: time::Clock> {
@@ -38,7 +38,7 @@ impl<R: time::Clock> Clock for SystemClock<R> {
 /// it don't read the same number, so that calls have different time stamps.
 ///
 /// ```rust
-/// let engine = Engine::<B, _, _>::start(rt, alloc, seed, CountingClock::new(), Limits::default())?;
+/// let Started { engine, .. } = Engine::<B, _, _>::start(rt, alloc, seed, CountingClock::new(), Limits::default())?;
 /// ```
 #[derive(Drop)]
 pub struct CountingClock {

@@ -39,7 +39,7 @@ use std::sync::Wait;
 /// reply, [`Reply::Refused`], which has its place there.
 ///
 /// ```rust
-/// let engine = Engine::<B, _, _>::start(rt, alloc, seed, CountingClock::new(), Limits::default())?;
+/// let Started { engine, .. } = Engine::<B, _, _>::start(rt, alloc, seed, CountingClock::new(), Limits::default())?;
 /// let mut desk = engine.desk(rt)?;
 /// engine.set_link(rt, &mut desk, engine.channel(b"copy.INP")?, b"level PP MS")?;
 /// engine.process(rt, &mut desk, engine.record(b"copy")?)?;
@@ -52,12 +52,12 @@ pub struct Engine<B: EngineName<D>, D: Device, C: Drop> {
     pub(crate) clock: C,
     pub(crate) alloc: Global,
     pub(crate) limits: Limits,
-    pub ghost counted: { length lookup.types.items ≡ core },
+    pub ghost counted: { length lookup.types.items ≡ core.count },
+    pub ghost limited: { core.history ≡ limits.history },
 }
 
 impl<B: EngineName<D>, D: Device, C: Drop> Engine<B, D, C> {
-    /// Opens a desk, with the memory that its calls need. It has made no call yet. By its calls a lock
-    /// set keeps as many events as the limits of the engine allow.
+    /// Opens a desk, with the memory that its calls need. It has made no call yet.
     ///
     /// # Errors
     ///
@@ -65,10 +65,9 @@ impl<B: EngineName<D>, D: Device, C: Drop> Engine<B, D, C> {
     /// left for a desk. [`IocError::NoMemory`] if allocation fails.
     pub fn desk<R: Wait>(&self, rt: &R) -> Result<Desk<B, D>, IocError>
         ensures new { IfOk result (λ d. (d.account.next ≡ 0) × (calls_by d.account.number (calls d.account.seen) ≡ [])) }
-        ensures history { IfOk result (λ d. d.buffers.history ≡ self.now.limits.history) }
         ensures refused { IfErr result (λ error. (error ≡ Stopped) ⊎ ((error ≡ JournalFull) ⊎ (error ≡ NoMemory))) }
     {
-        self.core.open_desk(rt, self.alloc, self.limits.history)
+        self.core.open_desk(rt, self.alloc)
     }
 
     /// Closes the engine: no call begins from then on, and desks that serve requests
@@ -103,7 +102,7 @@ impl<B: EngineName<D>, D: Device, C: Drop> Engine<B, D, C> {
     /// or field.
     pub fn channel(&self, text: &[u8]) -> Result<Channel, IocError>
         ensures channel { result ≡ channel_of self.now.lookup.names self.now.lookup.types.items text.now }
-        ensures known { IfOk result (IsOfEngine B.base self.now.core) }
+        ensures known { IfOk result (IsOfEngine B.base self.now.core.count) }
     {
         self.lookup.get().channel(text)
     }
@@ -139,12 +138,12 @@ impl<B: EngineName<D>, D: Device, C: Clock + Drop> Engine<B, D, C> {
     ) -> Result<(Reply, Receipt<B>), IocError>
         requires ordinary { is_ordinary event.now ≡ true }
         ensures done { IfOk result (λ x. (moment : ℕ) × T.gives clock.now moment
-            × WasServed D record_rules B.base D.gives (target_of event.now)
+            × WasServed D record_rules B.base D.gives self.now.core.history (target_of event.now)
             desk.old.account moment event.now x.0 desk.new.account (world_of desk.new.buffers.store)) }
         ensures receipt { IfOk result (λ x. x.1 ≡ desk.new.account.seen) }
         ensures ended { OnOk result (HaveEnded record_rules B.base (world_of desk.new.buffers.store).ended desk.new.account.seen
             desk.new.buffers.ended_everywhere.items) }
-        ensures refused { IfErr result (CallIsRefused D record_rules B.base self.now.core (target_of event.now) event.now) }
+        ensures refused { IfErr result (CallIsRefused D record_rules B.base self.now.core.count (target_of event.now) event.now) }
         ensures err { OnErr result (desk.new.account ≡ desk.old.account) }
         ensures none { OnErr result (desk.new.buffers.ended_everywhere.items ≡ []) }
         ensures moved { desk.new.moved ≡ 0 }
@@ -153,10 +152,13 @@ impl<B: EngineName<D>, D: Device, C: Clock + Drop> Engine<B, D, C> {
         let mut own = None;
         let told = self.core.serve(rt, desk, event, clock, &mut own);
         desk.moved = 0;
-        if told.is_err() {
-            desk.buffers.ended_everywhere.clear();
+        match told {
+            Ok((reply, receipt, _spent)) => Ok((reply, receipt)),
+            Err(refused) => {
+                desk.buffers.ended_everywhere.clear();
+                Err(refused)
+            }
         }
-        told
     }
 
     /// Requests a record to be processed (dbProcess), at the time of the clock. The reply is the
@@ -173,12 +175,13 @@ impl<B: EngineName<D>, D: Device, C: Clock + Drop> Engine<B, D, C> {
         desk: &mut Desk<B, D>,
         number: RecordNo,
     ) -> Result<(Reply, Receipt<B>), IocError>
-        ensures done { IfOk result (λ x. (moment : ℕ) × C.gives self.now.clock moment × WasServed D record_rules B.base D.gives number
-            desk.old.account moment (Process number) x.0 desk.new.account (world_of desk.new.buffers.store)) }
+        ensures done { IfOk result (λ x. (moment : ℕ) × C.gives self.now.clock moment × WasServed D record_rules B.base D.gives
+            self.now.core.history number desk.old.account moment (Process number) x.0 desk.new.account
+            (world_of desk.new.buffers.store)) }
         ensures receipt { IfOk result (λ x. x.1 ≡ desk.new.account.seen) }
         ensures ended { OnOk result (HaveEnded record_rules B.base (world_of desk.new.buffers.store).ended desk.new.account.seen
             desk.new.buffers.ended_everywhere.items) }
-        ensures refused { IfErr result (CallIsRefused D record_rules B.base self.now.core number (Process number)) }
+        ensures refused { IfErr result (CallIsRefused D record_rules B.base self.now.core.count number (Process number)) }
         ensures err { OnErr result (desk.new.account ≡ desk.old.account) }
         ensures none { OnErr result (desk.new.buffers.ended_everywhere.items ≡ []) }
         ensures moved { desk.new.moved ≡ 0 }
@@ -200,12 +203,12 @@ impl<B: EngineName<D>, D: Device, C: Clock + Drop> Engine<B, D, C> {
         number: RecordNo,
         moment: u64,
     ) -> Result<(Reply, Receipt<B>), IocError>
-        ensures done { IfOk result (λ x. WasServed D record_rules B.base D.gives number desk.old.account moment (Process number) x.0
-            desk.new.account (world_of desk.new.buffers.store)) }
+        ensures done { IfOk result (λ x. WasServed D record_rules B.base D.gives self.now.core.history number desk.old.account moment
+            (Process number) x.0 desk.new.account (world_of desk.new.buffers.store)) }
         ensures receipt { IfOk result (λ x. x.1 ≡ desk.new.account.seen) }
         ensures ended { OnOk result (HaveEnded record_rules B.base (world_of desk.new.buffers.store).ended desk.new.account.seen
             desk.new.buffers.ended_everywhere.items) }
-        ensures refused { IfErr result (CallIsRefused D record_rules B.base self.now.core number (Process number)) }
+        ensures refused { IfErr result (CallIsRefused D record_rules B.base self.now.core.count number (Process number)) }
         ensures err { OnErr result (desk.new.account ≡ desk.old.account) }
         ensures none { OnErr result (desk.new.buffers.ended_everywhere.items ≡ []) }
         ensures moved { desk.new.moved ≡ 0 }
@@ -233,12 +236,12 @@ impl<B: EngineName<D>, D: Device, C: Clock + Drop> Engine<B, D, C> {
         given: Input,
     ) -> Result<(Reply, Receipt<B>), IocError>
         ensures done { IfOk result (λ x. (moment : ℕ) × C.gives self.now.clock moment × WasServed D record_rules B.base D.gives
-            channel.number desk.old.account moment (Put channel.number channel.field given) x.0 desk.new.account
+            self.now.core.history channel.number desk.old.account moment (Put channel.number channel.field given) x.0 desk.new.account
             (world_of desk.new.buffers.store)) }
         ensures receipt { IfOk result (λ x. x.1 ≡ desk.new.account.seen) }
         ensures ended { OnOk result (HaveEnded record_rules B.base (world_of desk.new.buffers.store).ended desk.new.account.seen
             desk.new.buffers.ended_everywhere.items) }
-        ensures refused { IfErr result (CallIsRefused D record_rules B.base self.now.core channel.number
+        ensures refused { IfErr result (CallIsRefused D record_rules B.base self.now.core.count channel.number
             (Put channel.number channel.field given)) }
         ensures refused_by_type { IfErr result (IsPutError B.base channel) }
         ensures can_be_put { OnOk result (CanBePut B.base channel) }
@@ -272,12 +275,13 @@ impl<B: EngineName<D>, D: Device, C: Clock + Drop> Engine<B, D, C> {
         wait: u64,
         finished: Finished,
     ) -> Result<(Reply, Receipt<B>), IocError>
-        ensures done { IfOk result (λ x. (moment : ℕ) × C.gives self.now.clock moment × WasServed D record_rules B.base D.gives number
-            desk.old.account moment (Complete number wait finished) x.0 desk.new.account (world_of desk.new.buffers.store)) }
+        ensures done { IfOk result (λ x. (moment : ℕ) × C.gives self.now.clock moment × WasServed D record_rules B.base D.gives
+            self.now.core.history number desk.old.account moment (Complete number wait finished) x.0 desk.new.account
+            (world_of desk.new.buffers.store)) }
         ensures receipt { IfOk result (λ x. x.1 ≡ desk.new.account.seen) }
         ensures ended { OnOk result (HaveEnded record_rules B.base (world_of desk.new.buffers.store).ended desk.new.account.seen
             desk.new.buffers.ended_everywhere.items) }
-        ensures refused { IfErr result (CallIsRefused D record_rules B.base self.now.core number (Complete number wait finished)) }
+        ensures refused { IfErr result (CallIsRefused D record_rules B.base self.now.core.count number (Complete number wait finished)) }
         ensures err { OnErr result (desk.new.account ≡ desk.old.account) }
         ensures none { OnErr result (desk.new.buffers.ended_everywhere.items ≡ []) }
         ensures moved { desk.new.moved ≡ 0 }
@@ -305,7 +309,7 @@ impl<B: EngineName<D>, D: Device, C: Clock + Drop> Engine<B, D, C> {
             channel.number desk.old.account moment channel.field x.0 desk.new.account) }
         ensures receipt { IfOk result (λ x. x.1 ≡ desk.new.account.seen) }
         ensures ended { desk.new.buffers.ended_everywhere.items ≡ [] }
-        ensures refused { IfErr result (GetIsRefused D record_rules B.base self.now.core channel.number channel.field) }
+        ensures refused { IfErr result (GetIsRefused D record_rules B.base self.now.core.count channel.number channel.field) }
         ensures refused_by_type { IfErr result (IsGetError B.base channel) }
         ensures has_field { OnOk result (HasField B.base channel) }
         ensures err { OnErr result (desk.new.account ≡ desk.old.account) }

@@ -9,6 +9,7 @@ use crate::desk::Desk;
 use crate::engine::Engine;
 use crate::engine_name::EngineName;
 use crate::seed::Seed;
+use crate::starting::Started;
 use ioc_device::Device;
 use ioc_engine_core::Clock;
 use ioc_journal::Limits;
@@ -79,7 +80,7 @@ fn lend<
     ensures refused { IfErr result (λ error. ((error ≡ BadValue) × (AreAllowed limits → ⊥))
         ⊎ ((error ≡ NoMemory) ⊎ ((error ≡ JournalFull) ⊎ (error ≡ Stopped)))) }
 {
-    let engine = Engine::<B, D, C>::start(rt, alloc, seed, clock, limits)?;
+    let Started { engine, .. } = Engine::<B, D, C>::start(rt, alloc, seed, clock, limits)?;
     let mut desk = engine.desk(rt)?;
     Ok(work.work(rt, &engine, &mut desk))
 }

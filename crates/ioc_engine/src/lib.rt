@@ -49,8 +49,8 @@ pub use ioc_dbfile::{Database, Macros, load};
 pub use ioc_device::{Answer, Ask, Device};
 pub use ioc_engine_core::{Clock, FieldSeen, FixedClock};
 pub use ioc_events::{Call, Entry, Event, KeptAnswers, Reply};
-pub use ioc_journal::{Excerpt, JournalBase, JournalEntry, TicketTally};
-pub use ioc_journaled_set::RecordCopies;
+pub use ioc_journal::{Excerpt, JournalBase, JournalEntry, KeptFrom, TicketTally};
+pub use ioc_journaled_set::{NoMoreWatched, NowWatched, RecordCopies};
 pub use ioc_ledger::{Outcome, Tally};
 pub use ioc_menus::Scan;
 pub use ioc_names::RecordNo;
@@ -62,6 +62,7 @@ pub use numbered::{Numbered, numbers_stay, with_numbers};
 pub use rec_types::Record;
 pub use report::{Report, StoppedRecord};
 pub use seed::Seed;
+pub use starting::Started;
 
 /// The name of a device: what follows the `@` in a link. It has 119 bytes at most, as in a link,
 /// and [`DeviceName::cut`] leaves the rest off. Two names are the same if they have the same bytes.
@@ -89,7 +90,7 @@ pub use ioc_dbfile::DeviceName;
 /// ```rust
 /// // A call makes a checkpoint first if fewer than 250,000 places are free.
 /// let limits = Limits::of(1_000_000);
-/// let engine = Engine::<B, _, _>::start(rt, alloc, seed, CountingClock::new(), limits)?;
+/// let Started { engine, .. } = Engine::<B, _, _>::start(rt, alloc, seed, CountingClock::new(), limits)?;
 /// ```
 pub use ioc_journal::Limits;
 

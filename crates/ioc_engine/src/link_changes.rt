@@ -72,7 +72,7 @@ impl<B: EngineName<D>, D: Device, C: Clock + Drop> Engine<B, D, C> {
             change.field change.link desk.old.account moment c.reply c.moved desk.new.account (world_of desk.new.buffers.store)) }
         ensures receipt { IfOk result (λ c. c.receipt ≡ desk.new.account.seen) }
         ensures ended { desk.new.buffers.ended_everywhere.items ≡ [] }
-        ensures refused { IfErr result (LinkWasRefused D record_rules B.base self.now.core change.number change.field change.link) }
+        ensures refused { IfErr result (LinkWasRefused D record_rules B.base self.now.core.count change.number change.field change.link) }
         ensures err { OnErr result (desk.new.account ≡ desk.old.account) }
         ensures moved { desk.new.moved ≡ 0 }
     {
@@ -116,7 +116,7 @@ impl<B: EngineName<D>, D: Device, C: Clock + Drop> Engine<B, D, C> {
         ensures unmoved { OnErr result (desk.new.moved ≡ 0) }
         ensures refused { IfErr result (λ error. (error ≡ Stopped) ⊎ (IsBadText self.now.lookup.types.items channel text.now error
             ⊎ ((error ≡ NoMemory) ⊎ ((link : Link) × IsTextOf self.now.lookup.types.items channel text.now link
-            × LinkWasRefused D record_rules B.base self.now.core channel.number channel.field
+            × LinkWasRefused D record_rules B.base self.now.core.count channel.number channel.field
             (field_of_link self.now.lookup.names self.now.lookup.types.items (owner_for self.now.lookup.owners channel.number)
             channel.number link)
             error)))) }

@@ -45,7 +45,7 @@ impl<B: EngineName<D>, D: Device, C: Drop> Engine<B, D, C> {
         ensures desk { HasSeenMore desk.old.account desk.new.account }
         ensures ended { desk.new.buffers.ended_everywhere.items ≡ [] }
         ensures moved { desk.new.moved ≡ 0 }
-        ensures refused { IfErr result (LookIsRefused D record_rules B.base self.now.core number fields.now) }
+        ensures refused { IfErr result (LookIsRefused D record_rules B.base self.now.core.count number fields.now) }
     {
         let told = self.core.look(rt, desk, number, fields);
         desk.begin();

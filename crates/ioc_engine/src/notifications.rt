@@ -35,12 +35,13 @@ impl<B: EngineName<D>, D: Device, C: Clock + Drop> Engine<B, D, C> {
         given: Input,
     ) -> Result<(Reply, Receipt<B>), IocError>
         ensures begun { IfOk result (λ x. (moment : ℕ) × C.gives self.now.clock moment × WasBegun D record_rules B.base D.gives
-            channel.number desk.old.account moment channel.field given x.0 desk.new.account (world_of desk.new.buffers.store)) }
+            self.now.core.history channel.number desk.old.account moment channel.field given x.0 desk.new.account
+            (world_of desk.new.buffers.store)) }
         ensures receipt { IfOk result (λ x. x.1 ≡ desk.new.account.seen) }
         ensures ended { OnOk result (HaveEnded record_rules B.base (world_of desk.new.buffers.store).ended desk.new.account.seen
             desk.new.buffers.ended_everywhere.items) }
         ensures refused { IfErr result (λ error. ((error ≡ QueueFull) × NoneMayBegin record_rules B.base)
-            ⊎ CallIsRefused D record_rules B.base self.now.core channel.number (Put channel.number channel.field given) error) }
+            ⊎ CallIsRefused D record_rules B.base self.now.core.count channel.number (Put channel.number channel.field given) error) }
         ensures refused_by_type { IfErr result (IsPutError B.base channel) }
         ensures can_be_put { OnOk result (CanBePut B.base channel) }
         ensures err { OnErr result (desk.new.account ≡ desk.old.account) }
@@ -76,12 +77,13 @@ impl<B: EngineName<D>, D: Device, C: Clock + Drop> Engine<B, D, C> {
         given: Input,
     ) -> Result<(Reply, Receipt<B>), IocError>
         ensures begun { IfOk result (λ x. (moment : ℕ) × C.gives self.now.clock moment × WasBegun D record_rules B.base D.gives
-            channel.number desk.old.account moment channel.field given x.0 desk.new.account (world_of desk.new.buffers.store)) }
+            self.now.core.history channel.number desk.old.account moment channel.field given x.0 desk.new.account
+            (world_of desk.new.buffers.store)) }
         ensures receipt { IfOk result (λ x. x.1 ≡ desk.new.account.seen) }
         ensures ended { OnOk result (HaveEnded record_rules B.base (world_of desk.new.buffers.store).ended desk.new.account.seen
             desk.new.buffers.ended_everywhere.items) }
         ensures refused { IfErr result (λ error. ((error ≡ QueueFull) × NoneMayBegin record_rules B.base)
-            ⊎ CallIsRefused D record_rules B.base self.now.core channel.number (Put channel.number channel.field given) error) }
+            ⊎ CallIsRefused D record_rules B.base self.now.core.count channel.number (Put channel.number channel.field given) error) }
         ensures refused_by_type { IfErr result (IsPutError B.base channel) }
         ensures can_be_put { OnOk result (CanBePut B.base channel) }
         ensures err { OnErr result (desk.new.account ≡ desk.old.account) }
@@ -135,7 +137,7 @@ impl<B: EngineName<D>, D: Device, C: Clock + Drop> Engine<B, D, C> {
         number: NotifyId,
     ) -> Result<(Reply, Receipt<B>), IocError>
         ensures canceled { IfOk result (λ x. (moment : ℕ) × C.gives self.now.clock moment
-            × WasCancelled D record_rules B.base number desk.old.account moment x.0 desk.new.account) }
+            × WasCancelled D record_rules B.base number desk.old.account moment x.0 desk.new.account self.now.core.history) }
         ensures receipt { IfOk result (λ x. x.1 ≡ desk.new.account.seen) }
         ensures ended { desk.new.buffers.ended_everywhere.items ≡ [] }
         ensures refused { IfErr result (λ error. (error ≡ Stopped) ⊎ IsNoPlace error) }

@@ -31,7 +31,7 @@ impl<B: EngineName<D>, D: Device, C: Drop> Engine<B, D, C> {
         ensures seen { IfOk result (λ all. All (λ v. IsPartSeen D record_rules B.base desk.old.account.seen desk.new.account.seen v.items)
             all.items) }
         ensures desk { HasSeenMore desk.old.account desk.new.account }
-        ensures each { IfOk result (λ all. (q : ℕ) → q < self.now.core → Any (λ v. Contains v.items q) all.items) }
+        ensures each { IfOk result (λ all. (q : ℕ) → q < self.now.core.count → Any (λ v. Contains v.items q) all.items) }
         ensures refused { IfErr result (λ error. (error ≡ Stopped) ⊎ (error ≡ NoMemory)) }
         ensures ended { desk.new.buffers.ended_everywhere.items ≡ [] }
         ensures moved { desk.new.moved ≡ 0 }

@@ -111,7 +111,7 @@ impl<B: EngineName<D>, D: Device, C: Drop> Engine<B, D, C> {
     /// Ends the engine, once all its calls are finished, since it takes the engine by value. It
     /// allocates nothing, so an engine can be stopped even if memory is short.
     pub fn stop<R: Wait>(self, rt: &R) -> Report<B, D>
-        ensures end { IsEnd record_rules B.base (IsDeviceOf D.gives B.devices) self.core result.core.journal.filled
+        ensures end { IsEnd record_rules B.base (IsDeviceOf D.gives B.devices) self.core.count result.core.journal.filled
             result.core.sets.items }
         ensures tickets { AreTicketed record_rules B.base result.core.journal.filled result.core.tickets }
         ensures tally { counts_in result.core.sets.items ≡ counts_of record_rules B.base result.core.journal.filled }
@@ -191,8 +191,8 @@ impl<B: EngineName<D>, D: Device> Report<B, D> {
         self.core.dropped
     }
 
-    /// Returns the number of items that events have sent and that couldn't be done, because allocation
-    /// failed for a scan list, or a list has no place left in its order.
+    /// Returns the number of items that events have sent and that couldn't be done: posted events for
+    /// whose list allocation failed, and changes of scan lists past the last number of their order.
     pub fn items_undone(&self) -> u64
         ensures { result ≡ self.now.core.undone }
     {

@@ -64,9 +64,9 @@ some_same a b c x same = subst (λ (d : DeskView). HasServedSome a d) (sym same)
 some_on : (a b c : DeskView) → HasServedSome a b → HasServedSome b c → HasServedSome a c
 some_on a b c x y = (x.0 + y.0, served_on x.0 y.0 a b c x.1 y.1)
 
-module _ {R : Type 0} (D : Type 0) (k : RecordRules R) (base : World R) (gives : D → Ask → ℕ → Answer → D → Type 0) (clock_gives : ℕ → Type 0) (number : ℕ) (before after : DeskView) (come_to : World R) where
+module _ {R : Type 0} (D : Type 0) (k : RecordRules R) (base : World R) (gives : D → Ask → ℕ → Answer → D → Type 0) (limit : ℕ) (clock_gives : ℕ → Type 0) (number : ℕ) (before after : DeskView) (come_to : World R) where
   -- A request that was taken from a queue or from a scan list.
-  pub served_one : WasQueueServed D k base gives clock_gives number before after come_to → HasServed 1 before after
+  pub served_one : WasQueueServed D k base gives limit clock_gives number before after come_to → HasServed 1 before after
   served_one was =
       let done = was.3.serves.does in
       let made = was.3.serves.call in
@@ -82,28 +82,28 @@ module _ {R : Type 0} (D : Type 0) (k : RecordRules R) (base : World R) (gives :
       }
 
   -- A request that was served.
-  pub served_if_ok : {A E : Type 0} (r : Result A E) → OnOk r (WasQueueServed D k base gives clock_gives number before after come_to) → is_err r ≡ false → HasServed 1 before after
+  pub served_if_ok : {A E : Type 0} (r : Result A E) → OnOk r (WasQueueServed D k base gives limit clock_gives number before after come_to) → is_err r ≡ false → HasServed 1 before after
   served_if_ok (Ok x) was served = served_one was
   served_if_ok (Err e) was served = absurd (let no : true ≡ false = served in cc)
 
   -- A request that was served, or refused.
-  pub served_or_none : {A E : Type 0} (r : Result A E) → OnOk r (WasQueueServed D k base gives clock_gives number before after come_to) → OnErr r (after ≡ before) → HasServedSome before after
+  pub served_or_none : {A E : Type 0} (r : Result A E) → OnOk r (WasQueueServed D k base gives limit clock_gives number before after come_to) → OnErr r (after ≡ before) → HasServedSome before after
   served_or_none (Ok x) was same = (1, served_one was)
   served_or_none (Err e) was same = some_same before before after (some_none before) same
 
-module _ {R : Type 0} (D : Type 0) (k : RecordRules R) (base : World R) (gives : D → Ask → ℕ → Answer → D → Type 0) (clock_gives : ℕ → Type 0) where
+module _ {R : Type 0} (D : Type 0) (k : RecordRules R) (base : World R) (gives : D → Ask → ℕ → Answer → D → Type 0) (limit : ℕ) (clock_gives : ℕ → Type 0) where
   -- The first record was requested, and then the others.
   pub requested_more : (x : Listed) (rest : List Listed) (before between after : DeskView) (come_to : World R) → 1 ≤ length rest → x ≡ get_or rest 0 x
-      → WasQueueServed D k base gives clock_gives x.number before between come_to
-      → AreRequested D k base gives clock_gives (map (λ l. l.number) (take (length rest - 1) (drop 1 rest))) between after
-      → AreRequested D k base gives clock_gives (map (λ l. l.number) rest) before after
+      → WasQueueServed D k base gives limit clock_gives x.number before between come_to
+      → AreRequested D k base gives limit clock_gives (map (λ l. l.number) (take (length rest - 1) (drop 1 rest))) between after
+      → AreRequested D k base gives limit clock_gives (map (λ l. l.number) rest) before after
   requested_more x [] before between after come_to some is one left = absurd (omega (arith, some))
   requested_more x (y ∷ ys) before between after come_to some is one left =
       let others : take (length (y ∷ ys) - 1) ys ≡ ys = take_all _ ys (omega arith) in (
         between,
         come_to,
-        subst (λ (z : Listed). WasQueueServed D k base gives clock_gives z.number before between come_to) is one,
-        subst (λ (zs : List Listed). AreRequested D k base gives clock_gives (map (λ l. l.number) zs) between after) others left,
+        subst (λ (z : Listed). WasQueueServed D k base gives limit clock_gives z.number before between come_to) is one,
+        subst (λ (zs : List Listed). AreRequested D k base gives limit clock_gives (map (λ l. l.number) zs) between after) others left,
       )
 
 -- A worker whose server serves each item as a request of its desk, or leaves the desk as it was.

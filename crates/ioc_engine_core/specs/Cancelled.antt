@@ -13,15 +13,16 @@ use Rattle.ioc_journaled_set.specs.GivingUp.{GaveUpOn}
 
 module _ {R : Type 0} (D : Type 0) (k : RecordRules R) (base : World R) (number : ℕ) (desk : DeskView) (moment : ℕ) (reply : Reply) (desk_then : DeskView) where
   -- The put with notification was canceled on all sets with its records, which were sound before
-  -- and are sound afterwards.
-  pub record WasGivenUp : Type 0 where
+  -- and are sound afterwards. Each keeps as many events as this limit of the engine says at most, or
+  -- one.
+  pub record WasGivenUp (limit : ℕ) : Type 0 where
     pub puts : PutsView
     pub puts_then : PutsView
     pub before : List (HeldView R D)
     pub after : List (HeldView R D)
     pub sound : All (IsSoundlyHeld k base) before
     pub answer : reply ≡ Plain
-    pub gave_up : GaveUpOn k base moment number desk before puts desk_then after puts_then
+    pub gave_up : GaveUpOn k base limit moment number desk before puts desk_then after puts_then
     pub sound_then : All (IsSoundlyHeld k base) after
 
   -- The put with notification wasn't live.
@@ -32,5 +33,5 @@ module _ {R : Type 0} (D : Type 0) (k : RecordRules R) (base : World R) (number 
     pub stale : WasStale k base puts desk moment number puts_then desk_then
 
   -- A cancel of a desk: the put with notification was canceled, or wasn't live.
-  abbrev pub WasCancelled : Type 0
-  WasCancelled = WasGivenUp ⊎ WasNotLive
+  abbrev pub WasCancelled : ℕ → Type 0
+  WasCancelled limit = WasGivenUp limit ⊎ WasNotLive

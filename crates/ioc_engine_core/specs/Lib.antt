@@ -9,3 +9,4 @@ pub mod Queueing
 pub mod Queued
 pub mod Looked
 pub mod Requested
+pub mod EngineView

@@ -11,13 +11,13 @@ use Rattle.ioc_journal.specs.Account.{DeskView}
 use Rattle.ioc_engine_core.specs.Served.{WasServed}
 
 -- A request of this record was done by a desk as one call, at a time that the clock may give.
-abbrev pub WasQueueServed : {R : Type 0} → (D : Type 0) → RecordRules R → World R → (D → Ask → ℕ → Answer → D → Type 0) → (ℕ → Type 0) → ℕ → DeskView → DeskView → World R → Type 0
-WasQueueServed D k base gives clock_gives number desk desk_then come_to =
-    (moment : ℕ) × (reply : Reply) × clock_gives moment × WasServed D k base gives number desk moment (Process number) reply desk_then come_to
+abbrev pub WasQueueServed : {R : Type 0} → (D : Type 0) → RecordRules R → World R → (D → Ask → ℕ → Answer → D → Type 0) → ℕ → (ℕ → Type 0) → ℕ → DeskView → DeskView → World R → Type 0
+WasQueueServed D k base gives limit clock_gives number desk desk_then come_to =
+    (moment : ℕ) × (reply : Reply) × clock_gives moment × WasServed D k base gives limit number desk moment (Process number) reply desk_then come_to
 
-module _ {R : Type 0} (D : Type 0) (k : RecordRules R) (base : World R) (gives : D → Ask → ℕ → Answer → D → Type 0) (clock_gives : ℕ → Type 0) where
+module _ {R : Type 0} (D : Type 0) (k : RecordRules R) (base : World R) (gives : D → Ask → ℕ → Answer → D → Type 0) (limit : ℕ) (clock_gives : ℕ → Type 0) where
   -- These records were requested one after another, each by one call of the desk, which made no other.
   abbrev pub AreRequested : List ℕ → DeskView → DeskView → Type 0
   AreRequested [] desk desk_then = desk_then ≡ desk
   AreRequested (number ∷ numbers) desk desk_then =
-      (between : DeskView) × (come_to : World R) × WasQueueServed D k base gives clock_gives number desk between come_to × AreRequested numbers between desk_then
+      (between : DeskView) × (come_to : World R) × WasQueueServed D k base gives limit clock_gives number desk between come_to × AreRequested numbers between desk_then

@@ -65,21 +65,21 @@ module _ {R : Type 0} (D : Type 0) (k : RecordRules R) (base : World R) where
     pub after : IsSoundlyHeld k base held_then
 
   -- An event of a desk was done on the set of the record, which was sound before and is sound
-  -- afterwards.
-  pub record WasServed (gives : D → Ask → ℕ → Answer → D → Type 0) (number : ℕ) (desk : DeskView) (at_moment : ℕ) (done : Event) (reply : Reply) (desk_then : DeskView) (come_to : World R) : Type 0 where
+  -- afterwards. The set keeps as many events as this limit of the engine says at most, or one.
+  pub record WasServed (gives : D → Ask → ℕ → Answer → D → Type 0) (limit number : ℕ) (desk : DeskView) (at_moment : ℕ) (done : Event) (reply : Reply) (desk_then : DeskView) (come_to : World R) : Type 0 where
     pub held : HeldView R D
     pub held_then : HeldView R D
     pub here : Contains (numbers_of held) number
     pub before : IsSoundlyHeld k base held
-    pub serves : Serves k gives base held desk at_moment done reply held_then desk_then come_to
+    pub serves : Serves k gives base limit held desk at_moment done reply held_then desk_then come_to
     pub after : IsSoundlyHeld k base held_then
 
   -- A put with notification of a desk began on the set of the record, which was sound before and is
-  -- sound afterwards.
-  pub record WasBegun (gives : D → Ask → ℕ → Answer → D → Type 0) (number : ℕ) (desk : DeskView) (at_moment : ℕ) (field : FieldNo) (given : Input) (reply : Reply) (desk_then : DeskView) (come_to : World R) : Type 0 where
+  -- sound afterwards. The set keeps as many events as this limit of the engine says at most, or one.
+  pub record WasBegun (gives : D → Ask → ℕ → Answer → D → Type 0) (limit number : ℕ) (desk : DeskView) (at_moment : ℕ) (field : FieldNo) (given : Input) (reply : Reply) (desk_then : DeskView) (come_to : World R) : Type 0 where
     pub held : HeldView R D
     pub held_then : HeldView R D
     pub here : Contains (numbers_of held) number
     pub before : IsSoundlyHeld k base held
-    pub begins : Begins k gives base held desk at_moment number field given reply held_then desk_then come_to
+    pub begins : Begins k gives base limit held desk at_moment number field given reply held_then desk_then come_to
     pub after : IsSoundlyHeld k base held_then

@@ -73,7 +73,7 @@ impl<K: RecordKind + Drop, B: SetsName<K, D>, D: Device> EngineCore<K, B, D> {
         moment: u64,
     ) -> Result<(Option<Receipt<K, B>>, Option<BusySet<'_, K, B, D>>), IocError>
         ensures gave_up { IfOk result (λ x. IfSome x.0 (λ _. WasGivenUp D K.rules B.base number desk.old.account moment Plain
-            desk.new.account)) }
+            desk.new.account self.now.history)) }
         ensures receipt { IfOk result (λ x. IfSome x.0 (λ receipt. receipt ≡ desk.new.account.seen)) }
         ensures ended { IfOk result (λ x. IfSome x.0 (λ _. desk.new.buffers.ended_everywhere.items ≡ [])) }
         ensures missing { IfOk result (λ x. IfNone x.0 (desk.new.account ≡ desk.old.account)) }
@@ -124,7 +124,7 @@ impl<K: RecordKind + Drop, B: SetsName<K, D>, D: Device> EngineCore<K, B, D> {
     ) -> Result<(Reply, Receipt<K, B>), IocError>
         ensures cancelled { IfOk result (λ x. (moment : ℕ) × C.gives clock.now moment
             × WasCancelled D K.rules B.base number desk.old.account
-            moment x.0 desk.new.account) }
+            moment x.0 desk.new.account self.now.history) }
         ensures receipt { IfOk result (λ x. x.1 ≡ desk.new.account.seen) }
         ensures ended { OnOk result (desk.new.buffers.ended_everywhere.items ≡ []) }
         ensures refused { IfErr result (λ error. (error ≡ Stopped) ⊎ IsNoPlace error) }
@@ -149,7 +149,7 @@ impl<K: RecordKind + Drop, B: SetsName<K, D>, D: Device> EngineCore<K, B, D> {
     ) -> Result<(Reply, Receipt<K, B>), IocError>
         ensures cancelled { IfOk result (λ x. (moment : ℕ) × C.gives clock.now moment
             × WasCancelled D K.rules B.base number desk.old.account
-            moment x.0 desk.new.account) }
+            moment x.0 desk.new.account self.now.history) }
         ensures receipt { IfOk result (λ x. x.1 ≡ desk.new.account.seen) }
         ensures ended { OnOk result (desk.new.buffers.ended_everywhere.items ≡ []) }
         ensures refused { IfErr result (λ error. (error ≡ Stopped) ⊎ IsNoPlace error) }

@@ -1,7 +1,7 @@
 //! Checkpoints of the journal.
-ghost use Rattle.std.specs.Prelude.{◌≡◌, ◌≤◌, ◌⊎◌, take, drop, IfOk, IfErr, IfSome};
+ghost use Rattle.std.specs.Prelude.{◌≡◌, ◌⊎◌, take, drop, IfOk, IfErr, IfSome};
 ghost use Rattle.ioc_values.specs.declared.error.IocError.TheVariants.{Stopped};
-ghost use Rattle.ioc_journal.specs.Account.{calls, HasSeenMore, IsGiven};
+ghost use Rattle.ioc_journal.specs.Account.{calls, HasSeenMore, IsGiven, BeginsWhere};
 ghost use Rattle.ioc_journal.specs.Places.{IsNoPlace};
 
 use crate::desk::Desk;
@@ -58,7 +58,7 @@ impl<K: RecordKind + Drop, B: SetsName<K, D>, D: Device> EngineCore<K, B, D> {
         from: u64,
     ) -> Result<Excerpt, IocError>
         ensures desk { HasSeenMore desk.old.account desk.new.account }
-        ensures given { IfOk result (λ excerpt. IsGiven from (calls desk.new.account.seen) excerpt.first excerpt.entries.items) }
+        ensures given { IfOk result (λ excerpt. IsGiven from (calls desk.new.account.seen) excerpt.first excerpt.kept_from excerpt.entries.items) }
         ensures refused { IfErr result (λ error. (error ≡ Stopped) ⊎ IsNoPlace error) }
     {
         if self.is_closed() {
@@ -87,7 +87,7 @@ impl<K: RecordKind + Drop, B: SetsName<K, D>, D: Device> EngineCore<K, B, D> {
     ) -> Result<(Option<Excerpt>, Option<BusySet<'_, K, B, D>>), IocError>
         ensures desk { HasSeenMore desk.old.account desk.new.account }
         ensures given { IfOk result (λ x. IfSome x.0 (λ excerpt. IsGiven from
-            (calls desk.new.account.seen) excerpt.first excerpt.entries.items)) }
+            (calls desk.new.account.seen) excerpt.first excerpt.kept_from excerpt.entries.items)) }
         ensures refused { IfErr result IsNoPlace }
     {
         let mut taken = self.sets.take_all(rt, desk.alloc)?;
@@ -116,7 +116,7 @@ impl<K: RecordKind + Drop, B: SetsName<K, D>, D: Device> EngineCore<K, B, D> {
     ) -> Result<Excerpt, AllocError>
         ensures desk { HasSeenMore desk.old.account desk.new.account }
         ensures copies { IfOk result (λ excerpt. excerpt.entries.items ≡ take most (drop excerpt.first (calls desk.new.account.seen))) }
-        ensures from { IfOk result (λ excerpt. from ≤ excerpt.first) }
+        ensures first { IfOk result (λ excerpt. BeginsWhere from excerpt.first excerpt.kept_from) }
     {
         self.journal
             .copy_from(rt, desk.alloc, &mut desk.account, from, most)

@@ -35,7 +35,7 @@ pub trait Clock {
 /// ```rust
 /// // 2001-09-09 01:46:40 UTC.
 /// let clock = FixedClock(1_000_000_000_000_000_000);
-/// let engine = Engine::<B, _, _>::start(rt, alloc, seed, clock, Limits::default())?;
+/// let Started { engine, .. } = Engine::<B, _, _>::start(rt, alloc, seed, clock, Limits::default())?;
 /// ```
 #[derive(Clone, Copy, PartialEq, Eq, Debug)]
 pub struct FixedClock(pub u64);

@@ -1,5 +1,8 @@
 //! Calls on records by their numbers.
 ghost use Rattle.std.specs.Prelude.{◌≡◌, ◌<◌, ℕ, true, [], ◌∷◌, ◌⊎◌, Err, IfOk, IfErr, OnOk, OnErr};
+ghost use Rattle.ioc_journal.specs.Tickets.{spent_by};
+ghost use Rattle.ioc_journal.specs.Counting.{is_request};
+ghost use Rattle.ioc_events.specs.declared.event.Call.TheVariants as call;
 ghost use Rattle.ioc_values.specs.declared.error.IocError.TheVariants.{JournalFull, NoMemory, Stopped};
 ghost use Rattle.ioc_events.specs.Step.{names};
 ghost use Rattle.ioc_journal.specs.Line.{longer, Begins};
@@ -19,7 +22,7 @@ use crate::spare_parts::SpareParts;
 use ioc_device::Device;
 use ioc_events::{Event, Reply};
 use ioc_fields::FieldNo;
-use ioc_journal::{EngineCounts, Receipt, RequestTickets, SharedJournal};
+use ioc_journal::{EngineCounts, Receipt, RequestTickets, SharedJournal, SpentTicket};
 use ioc_journaled_set::{JournalAccess, JournaledSet, Served, SetsName, SharedNotifications};
 use ioc_ledger::{TallyShare, Ticket};
 use ioc_names::RecordNo;
@@ -42,7 +45,8 @@ pub type QueuedRequest<K, B> = RecordRequest<RequestTickets<K, B>>;
 pub(crate) type BusySet<'a, K, B, D> = Busy<'a, JournaledSet<K, B, D>>;
 
 /// The records of a database in their lock sets, each set under its own lock, the journal of all
-/// calls, the scan lists, and the queues of requests that wait. Contracts see the number of records.
+/// calls, the scan lists, and the queues of requests that wait. Contracts see the number of records, and
+/// the number of events that a set keeps at most.
 #[derive(Drop)]
 pub struct EngineCore<K: RecordKind + Drop, B: SetsName<K, D>, D: Device> {
     pub(crate) sets: Directory<JournaledSet<K, B, D>>,
@@ -60,41 +64,50 @@ pub struct EngineCore<K: RecordKind + Drop, B: SetsName<K, D>, D: Device> {
     pub(crate) spare: Mutex<SpareParts<K, B>>,
     // The watched records that were marked since they were taken from here. Locked last.
     pub(crate) marks: Mutex<MarkedRecords>,
+    // The number of events that a set keeps in its history at most.
+    pub(crate) history: usize,
 }
 
 impl<K: RecordKind + Drop, B: SetsName<K, D>, D: Device> Model for EngineCore<K, B, D> {
+    ghost use Rattle.ioc_engine_core.specs.EngineView.{EngineView};
+
+    ghost Value = { EngineView };
+
     ghost use Rattle.std.specs.Prelude.{ℕ};
-
-    ghost Value = { ℕ };
-
     ghost use Rattle.std.specs.Prelude.{◌<◌};
     ghost use Rattle.ioc_store.specs.World.{Has};
     ghost use Rattle.std.specs.Prelude.{◌≡◌};
     ghost use Rattle.std.specs.FinMap.{len};
 
-    ghost view = { λ e. e.sets };
+    ghost view = { λ e. record { count = e.sets; history = e.history } };
 
     ghost invariant = { λ e. ((n : ℕ) → Has B.base n → n < e.sets) × (len B.base.records ≡ e.sets) };
 }
 
 impl<K: RecordKind + Drop, B: SetsName<K, D>, D: Device> EngineCore<K, B, D> {
-    /// Creates an engine with these sets, the journal of its calls, the table of its puts with
-    /// notification, the scan lists, the queues, the parts of the ledgers of counts that no set has, and
-    /// the list of marked records. The sets were made for all records of the load.
+    /// Creates an engine with its sets, the table of its puts with notification and the queues, the journal
+    /// of its calls, the scan lists, the parts of the ledgers of counts that no set has, the list of marked
+    /// records, and the number of events that a set keeps at most. The sets were made for all records of
+    /// the load.
     pub fn new(
-        sets: Directory<JournaledSet<K, B, D>>,
+        held: (
+            Directory<JournaledSet<K, B, D>>,
+            SharedNotifications<K, B>,
+            CallbackQueues<QueuedRequest<K, B>>,
+        ),
         journal: SharedJournal<K, B>,
-        puts: SharedNotifications<K, B>,
         lists: ScanLists,
-        queues: CallbackQueues<QueuedRequest<K, B>>,
         spare: TallyShare<EngineCounts<K, B>>,
         marks: MarkedRecords,
+        history: usize,
     ) -> Self
-        requires known { (n : ℕ) → Has B.base n → n < sets }
-        requires records { len B.base.records ≡ sets }
-        requires spare { IsSpare spare sets }
-        ensures { result ≡ sets }
+        requires known { (n : ℕ) → Has B.base n → n < held.0 }
+        requires records { len B.base.records ≡ held.0 }
+        requires spare { IsSpare spare held.0 }
+        ensures count { result.count ≡ held.0 }
+        ensures history { result.history ≡ history }
     {
+        let (sets, puts, queues) = held;
         EngineCore {
             sets,
             journal,
@@ -105,6 +118,7 @@ impl<K: RecordKind + Drop, B: SetsName<K, D>, D: Device> EngineCore<K, B, D> {
             refused: AtomicU64::new(0),
             spare: Mutex::new(SpareParts::new(spare)),
             marks: Mutex::new(marks),
+            history,
         }
     }
 
@@ -122,12 +136,15 @@ impl<K: RecordKind + Drop, B: SetsName<K, D>, D: Device> EngineCore<K, B, D> {
 
     // Returns what a call needs to be added to the journal.
     #[inline(always)]
-    pub(crate) fn access<'a, R>(&'a self, rt: &'a R, alloc: Global) -> JournalAccess<'a, K, B, R> {
+    pub(crate) fn access<'a, R>(&'a self, rt: &'a R, alloc: Global) -> JournalAccess<'a, K, B, R>
+        ensures { result.history ≡ self.now.history }
+    {
         JournalAccess {
             rt,
             alloc,
             journal: &self.journal,
             marks: &self.marks,
+            history: self.history,
         }
     }
 
@@ -171,24 +188,18 @@ impl<K: RecordKind + Drop, B: SetsName<K, D>, D: Device> EngineCore<K, B, D> {
         !self.is_closed()
     }
 
-    /// Opens a desk, by which a caller makes its calls, with buffers for sets that keep `history`
-    /// events. It has made none yet.
+    /// Opens a desk, by which a caller makes its calls, with the memory that they need. It has made none
+    /// yet.
     ///
     /// # Errors
     ///
     /// [`IocError::Stopped`] if the engine was closed. [`IocError::JournalFull`] if no number is
     /// left for a desk. [`IocError::NoMemory`] if allocation fails.
-    pub fn open_desk<R: Wait>(
-        &self,
-        rt: &R,
-        alloc: Global,
-        history: usize,
-    ) -> Result<Desk<K, B, D>, IocError>
+    pub fn open_desk<R: Wait>(&self, rt: &R, alloc: Global) -> Result<Desk<K, B, D>, IocError>
         ensures new { IfOk result (λ d. (d.account.next ≡ 0) × (calls_by d.account.number (calls d.account.seen) ≡ [])) }
-        ensures history { IfOk result (λ d. d.buffers.history ≡ history) }
         ensures refused { IfErr result (λ error. (error ≡ Stopped) ⊎ ((error ≡ JournalFull) ⊎ (error ≡ NoMemory))) }
     {
-        let buffers = EventBuffers::new(alloc, history)?;
+        let buffers = EventBuffers::new(alloc)?;
         if self.is_closed() {
             return Err(IocError::Stopped);
         }
@@ -251,18 +262,19 @@ impl<K: RecordKind + Drop, B: SetsName<K, D>, D: Device> EngineCore<K, B, D> {
         event: &Event,
         clock: &C,
         ticket: &mut Option<Ticket<RequestTickets<K, B>>>,
-    ) -> Result<(Reply, Receipt<K, B>), IocError>
+    ) -> Result<(Reply, Receipt<K, B>, Option<SpentTicket<K, B>>), IocError>
         requires ordinary { is_ordinary event.now ≡ true }
         ensures served { IfOk result (λ x. (moment : ℕ) × C.gives clock.now moment
-            × WasServed D K.rules B.base D.gives (target_of event.now) desk.old.account
+            × WasServed D K.rules B.base D.gives self.now.history (target_of event.now) desk.old.account
             moment event.now x.0 desk.new.account (world_of desk.new.buffers.store)) }
         ensures receipt { IfOk result (λ x. x.1 ≡ desk.new.account.seen) }
         ensures ended { OnOk result (HaveEnded K.rules B.base (world_of desk.new.buffers.store).ended desk.new.account.seen
             desk.new.buffers.ended_everywhere.items) }
-        ensures refused { IfErr result (CallIsRefused D K.rules B.base self.now (target_of event.now) event.now) }
+        ensures refused { IfErr result (CallIsRefused D K.rules B.base self.now.count (target_of event.now) event.now) }
         ensures err { OnErr result (desk.new.account ≡ desk.old.account) }
         ensures ticket { OnErr result (ticket.new ≡ ticket.old) }
-        ensures spent { OnOk result (ticket.new ≡ None) }
+        ensures gone { OnOk result (ticket.new ≡ None) }
+        ensures spent { IfOk result (λ x. x.2 ≡ spent_by (is_request (call.Event event.now x.0)) ticket.old) }
     {
         for _ in rt.forever() {
             match self.try_serve(rt, desk, event, clock, ticket) {
@@ -282,18 +294,19 @@ impl<K: RecordKind + Drop, B: SetsName<K, D>, D: Device> EngineCore<K, B, D> {
         event: &Event,
         clock: &C,
         ticket: &mut Option<Ticket<RequestTickets<K, B>>>,
-    ) -> Result<(Reply, Receipt<K, B>), IocError>
+    ) -> Result<(Reply, Receipt<K, B>, Option<SpentTicket<K, B>>), IocError>
         requires ordinary { is_ordinary event.now ≡ true }
         ensures served { IfOk result (λ x. (moment : ℕ) × C.gives clock.now moment
-            × WasServed D K.rules B.base D.gives (target_of event.now) desk.old.account
+            × WasServed D K.rules B.base D.gives self.now.history (target_of event.now) desk.old.account
             moment event.now x.0 desk.new.account (world_of desk.new.buffers.store)) }
         ensures receipt { IfOk result (λ x. x.1 ≡ desk.new.account.seen) }
         ensures ended { OnOk result (HaveEnded K.rules B.base (world_of desk.new.buffers.store).ended desk.new.account.seen
             desk.new.buffers.ended_everywhere.items) }
-        ensures refused { IfErr result (CallIsRefused D K.rules B.base self.now (target_of event.now) event.now) }
+        ensures refused { IfErr result (CallIsRefused D K.rules B.base self.now.count (target_of event.now) event.now) }
         ensures err { OnErr result (desk.new.account ≡ desk.old.account) }
         ensures ticket { OnErr result (ticket.new ≡ ticket.old) }
-        ensures spent { OnOk result (ticket.new ≡ None) }
+        ensures gone { OnOk result (ticket.new ≡ None) }
+        ensures spent { IfOk result (λ x. x.2 ≡ spent_by (is_request (call.Event event.now x.0)) ticket.old) }
     {
         if !self.may_begin(rt, desk.alloc) {
             return Err(IocError::Stopped);
@@ -307,6 +320,7 @@ impl<K: RecordKind + Drop, B: SetsName<K, D>, D: Device> EngineCore<K, B, D> {
             reply,
             receipt,
             tickets,
+            spent,
         } = held.serve(
             &access,
             &self.puts,
@@ -322,7 +336,7 @@ impl<K: RecordKind + Drop, B: SetsName<K, D>, D: Device> EngineCore<K, B, D> {
         }
         drop(held);
         self.do_sent(rt, &desk.buffers, &mut desk.walked, tickets);
-        Ok((reply, receipt))
+        Ok((reply, receipt, spent))
     }
 
     /// Returns the text of a field, at the time that the clock gives while the set's lock is held.
@@ -345,7 +359,7 @@ impl<K: RecordKind + Drop, B: SetsName<K, D>, D: Device> EngineCore<K, B, D> {
             × WasTold D K.rules B.base number desk.old.account moment field
             x.0 desk.new.account) }
         ensures receipt { IfOk result (λ x. x.1 ≡ desk.new.account.seen) }
-        ensures refused { IfErr result (GetIsRefused D K.rules B.base self.now number field) }
+        ensures refused { IfErr result (GetIsRefused D K.rules B.base self.now.count number field) }
         ensures err { OnErr result (desk.new.account ≡ desk.old.account) }
     {
         for _ in rt.forever() {
@@ -370,7 +384,7 @@ impl<K: RecordKind + Drop, B: SetsName<K, D>, D: Device> EngineCore<K, B, D> {
             × WasTold D K.rules B.base number desk.old.account moment field
             x.0 desk.new.account) }
         ensures receipt { IfOk result (λ x. x.1 ≡ desk.new.account.seen) }
-        ensures refused { IfErr result (GetIsRefused D K.rules B.base self.now number field) }
+        ensures refused { IfErr result (GetIsRefused D K.rules B.base self.now.count number field) }
         ensures err { OnErr result (desk.new.account ≡ desk.old.account) }
     {
         if !self.may_begin(rt, desk.alloc) {

@@ -34,7 +34,7 @@ impl<K: RecordKind + Drop, B: SetsName<K, D>, D: Device> EngineCore<K, B, D> {
             change.link desk.old.account moment c.reply c.moved desk.new.account (world_of desk.new.buffers.store)) }
         ensures receipt { IfOk result (λ c. c.receipt ≡ desk.new.account.seen) }
         ensures ended { OnOk result (desk.new.buffers.ended_everywhere.items ≡ []) }
-        ensures refused { IfErr result (LinkWasRefused D K.rules B.base self.now change.number change.field change.link) }
+        ensures refused { IfErr result (LinkWasRefused D K.rules B.base self.now.count change.number change.field change.link) }
         ensures err { OnErr result (desk.new.account ≡ desk.old.account) }
     {
         all_sound(first, second, spare);
@@ -78,8 +78,8 @@ impl<K: RecordKind + Drop, B: SetsName<K, D>, D: Device> EngineCore<K, B, D> {
             change.link desk.old.account moment c.reply c.moved desk.new.account (world_of desk.new.buffers.store)) }
         ensures receipt { IfOk result (λ c. c.receipt ≡ desk.new.account.seen) }
         ensures ended { OnOk result (desk.new.buffers.ended_everywhere.items ≡ []) }
-        ensures known { OnOk result (AreKnown self.now change.number (other_of change.link)) }
-        ensures refused { IfErr result (LinkWasRefused D K.rules B.base self.now change.number change.field change.link) }
+        ensures known { OnOk result (AreKnown self.now.count change.number (other_of change.link)) }
+        ensures refused { IfErr result (LinkWasRefused D K.rules B.base self.now.count change.number change.field change.link) }
         ensures err { OnErr result (desk.new.account ≡ desk.old.account) }
     {
         if !self.may_begin(rt, desk.alloc) {
@@ -107,8 +107,8 @@ impl<K: RecordKind + Drop, B: SetsName<K, D>, D: Device> EngineCore<K, B, D> {
             change.link desk.old.account moment c.reply c.moved desk.new.account (world_of desk.new.buffers.store)) }
         ensures receipt { IfOk result (λ c. c.receipt ≡ desk.new.account.seen) }
         ensures ended { OnOk result (desk.new.buffers.ended_everywhere.items ≡ []) }
-        ensures known { OnOk result (AreKnown self.now change.number (other_of change.link)) }
-        ensures refused { IfErr result (LinkWasRefused D K.rules B.base self.now change.number change.field change.link) }
+        ensures known { OnOk result (AreKnown self.now.count change.number (other_of change.link)) }
+        ensures refused { IfErr result (LinkWasRefused D K.rules B.base self.now.count change.number change.field change.link) }
         ensures err { OnErr result (desk.new.account ≡ desk.old.account) }
     {
         let number = change.number;

@@ -82,7 +82,7 @@ impl<K: RecordKind + Drop, B: SetsName<K, D>, D: Device> EngineCore<K, B, D> {
         ensures desk { HasSeenMore desk.old.account desk.new.account }
         ensures buffers { desk.new.buffers ≡ desk.old.buffers }
         ensures moved { desk.new.moved ≡ desk.old.moved }
-        ensures refused { IfErr result (LookIsRefused D K.rules B.base self.now number fields.now) }
+        ensures refused { IfErr result (LookIsRefused D K.rules B.base self.now.count number fields.now) }
     {
         if self.is_closed() {
             return Err(IocError::Stopped);

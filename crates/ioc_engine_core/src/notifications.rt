@@ -43,13 +43,13 @@ impl<K: RecordKind + Drop, B: SetsName<K, D>, D: Device> EngineCore<K, B, D> {
         clock: &C,
     ) -> Result<(Reply, Receipt<K, B>), IocError>
         ensures begun { IfOk result (λ x. (moment : ℕ) × C.gives clock.now moment
-            × WasBegun D K.rules B.base D.gives put.number desk.old.account
+            × WasBegun D K.rules B.base D.gives self.now.history put.number desk.old.account
             moment put.field put.given x.0 desk.new.account (world_of desk.new.buffers.store)) }
         ensures ended { OnOk result (HaveEnded K.rules B.base (world_of desk.new.buffers.store).ended desk.new.account.seen
             desk.new.buffers.ended_everywhere.items) }
         ensures receipt { IfOk result (λ x. x.1 ≡ desk.new.account.seen) }
         ensures refused { IfErr result (λ error. ((error ≡ QueueFull) × NoneMayBegin K.rules B.base)
-            ⊎ CallIsRefused D K.rules B.base self.now put.number (Put put.number put.field put.given) error) }
+            ⊎ CallIsRefused D K.rules B.base self.now.count put.number (Put put.number put.field put.given) error) }
         ensures err { OnErr result (desk.new.account ≡ desk.old.account) }
     {
         for _ in rt.forever() {
@@ -70,13 +70,13 @@ impl<K: RecordKind + Drop, B: SetsName<K, D>, D: Device> EngineCore<K, B, D> {
         clock: &C,
     ) -> Result<(Reply, Receipt<K, B>), IocError>
         ensures begun { IfOk result (λ x. (moment : ℕ) × C.gives clock.now moment
-            × WasBegun D K.rules B.base D.gives put.now.number desk.old.account
+            × WasBegun D K.rules B.base D.gives self.now.history put.now.number desk.old.account
             moment put.now.field put.now.given x.0 desk.new.account (world_of desk.new.buffers.store)) }
         ensures ended { OnOk result (HaveEnded K.rules B.base (world_of desk.new.buffers.store).ended desk.new.account.seen
             desk.new.buffers.ended_everywhere.items) }
         ensures receipt { IfOk result (λ x. x.1 ≡ desk.new.account.seen) }
         ensures refused { IfErr result (λ error. ((error ≡ QueueFull) × NoneMayBegin K.rules B.base)
-            ⊎ CallIsRefused D K.rules B.base self.now put.now.number (Put put.now.number put.now.field put.now.given) error) }
+            ⊎ CallIsRefused D K.rules B.base self.now.count put.now.number (Put put.now.number put.now.field put.now.given) error) }
         ensures err { OnErr result (desk.new.account ≡ desk.old.account) }
     {
         if !self.may_begin(rt, desk.alloc) {
@@ -101,6 +101,7 @@ impl<K: RecordKind + Drop, B: SetsName<K, D>, D: Device> EngineCore<K, B, D> {
             reply,
             receipt,
             tickets,
+            spent: _,
         } = told?;
         self.do_sent(rt, &desk.buffers, &mut desk.walked, tickets);
         Ok((reply, receipt))

@@ -63,7 +63,7 @@ impl<K: RecordKind + Drop, B: SetsName<K, D>, D: Device> EngineCore<K, B, D> {
         ensures seen { IfOk result (λ v. IsPartSeen D K.rules B.base desk.old.account.seen desk.new.account.seen v.items) }
         ensures desk { HasSeenMore desk.old.account desk.new.account }
         ensures here { IfOk result (λ v. Contains v.items number) }
-        ensures refused { IfErr result (λ error. IsRefused self.now number error ⊎ (error ≡ NoMemory)) }
+        ensures refused { IfErr result (λ error. IsRefused self.now.count number error ⊎ (error ≡ NoMemory)) }
     {
         let mut held = self.sets.lock_set(rt, number)?;
         held.learn(rt, &self.journal, &mut desk.account);
@@ -89,7 +89,7 @@ impl<K: RecordKind + Drop, B: SetsName<K, D>, D: Device> EngineCore<K, B, D> {
         ensures seen { IfOk result (λ all. All (λ v. IsPartSeen D K.rules B.base desk.old.account.seen desk.new.account.seen v.items)
             all.items) }
         ensures desk { HasSeenMore desk.old.account desk.new.account }
-        ensures each { IfOk result (λ all. (q : ℕ) → q < self.now → Any (λ v. Contains v.items q) all.items) }
+        ensures each { IfOk result (λ all. (q : ℕ) → q < self.now.count → Any (λ v. Contains v.items q) all.items) }
         ensures refused { IfErr result (λ error. (error ≡ Stopped) ⊎ (error ≡ NoMemory)) }
     {
         if self.is_closed() {

@@ -35,8 +35,8 @@ impl<K: RecordKind + Drop, B: SetsName<K, D>, D: Device> EngineCore<K, B, D> {
     ) -> Result<(), IocError>
         ensures refused { IfErr result (λ error. error ≡ NoMemory) }
     {
-        let lists = self.lists.lock(rt);
-        match calls(&lists, list, walked) {
+        let mut lists = self.lists.lock(rt);
+        match calls(&mut lists, list, walked) {
             Ok(()) => Ok(()),
             Err(_) => Err(IocError::NoMemory),
         }

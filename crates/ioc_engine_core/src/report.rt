@@ -136,7 +136,7 @@ fn all_end_as_told<K: RecordKind + Drop, B: SetsName<K, D>, D: Device>(sets: &[E
 impl<K: RecordKind + Drop, B: SetsName<K, D>, D: Device> EngineCore<K, B, D> {
     /// Ends the engine. Allocates nothing. Waits forever if a record is in no set.
     pub fn stop<R: Wait>(self, rt: &R, alloc: Global) -> CoreReport<K, B, D>
-        ensures end { IsEnd K.rules B.base (IsDeviceOf D.gives B.devices) self result.journal.filled result.sets.items }
+        ensures end { IsEnd K.rules B.base (IsDeviceOf D.gives B.devices) self.count result.journal.filled result.sets.items }
         ensures tickets { AreTicketed K.rules B.base result.journal.filled result.tickets }
         ensures tally { counts_in result.sets.items ≡ counts_of K.rules B.base result.journal.filled }
         ensures dropped { result.dropped ≡ capped (dropped_in K.rules B.base result.journal.filled) }
@@ -151,6 +151,7 @@ impl<K: RecordKind + Drop, B: SetsName<K, D>, D: Device> EngineCore<K, B, D> {
             refused,
             spare,
             marks: _,
+            history: _,
         } = self;
         give_up_waiting::<K, B, D, R>(rt, &queues, &shared);
         let gathered = sets.gather(rt, alloc);

@@ -61,7 +61,7 @@ impl<K: RecordKind + Drop, B: SetsName<K, D>, D: Device> EngineCore<K, B, D> {
         self.hand_back(rt, left);
     }
 
-    // Does what an item asks for. One for which allocation fails is left out and counted.
+    // Does what an item asks for. A posted event for which allocation fails is left out and counted.
     fn do_item<R: Wait>(
         &self,
         rt: &R,

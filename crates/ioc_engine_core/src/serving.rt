@@ -11,7 +11,7 @@ use crate::desk::Desk;
 use crate::engine::{EngineCore, QueuedRequest};
 use ioc_device::Device;
 use ioc_events::Event;
-use ioc_journal::{RequestTickets, SharedJournal};
+use ioc_journal::{RequestTickets, SharedJournal, SpentTicket};
 use ioc_journaled_set::SetsName;
 use ioc_ledger::Ticket;
 use ioc_names::RecordNo;
@@ -32,16 +32,18 @@ struct Server<'e, K: RecordKind + Drop, B: SetsName<K, D>, D: Device, C> {
     core: &'e EngineCore<K, B, D>,
     clock: &'e C,
     desk: Desk<K, B, D>,
+    // The ticket of the last request that was served.
+    spent: Option<SpentTicket<K, B>>,
 }
 
 impl<'e, K: RecordKind + Drop, B: SetsName<K, D>, D: Device, C: Clock> Serve<QueuedRequest<K, B>>
     for Server<'e, K, B, D, C> {
     ghost use Rattle.ioc_engine_core.specs.Queued.{WasQueueServed};
-    ghost use Rattle.std.specs.Prelude.{◌≡◌};
+    ghost use Rattle.std.specs.Prelude.{◌≡◌, Some};
     ghost use Rattle.ioc_set.specs.SetStore.{world_of};
 
-    ghost serves = { λ a r b. WasQueueServed D K.rules B.base D.gives (C.gives a.clock.now) r.«record» a.desk.account b.desk.account
-        (world_of b.desk.buffers.store) };
+    ghost serves = { λ a r b. WasQueueServed D K.rules B.base D.gives a.core.now.history (C.gives a.clock.now) r.«record» a.desk.account
+        b.desk.account (world_of b.desk.buffers.store) × (b.spent ≡ Some r.ticket) };
 
     ghost refuses = { λ a r b. b.desk.account ≡ a.desk.account };
 
@@ -60,7 +62,8 @@ impl<'e, K: RecordKind + Drop, B: SetsName<K, D>, D: Device, C: Clock> Serve<Que
         let told = self
             .core
             .request(rt, &mut self.desk, number, self.clock, &mut own);
-        if told.is_ok() {
+        if let Ok(spent) = told {
+            self.spent = spent;
             return Ok(());
         }
         let Some(ticket) = own else { unreachable!() };
@@ -108,16 +111,17 @@ impl<K: RecordKind + Drop, B: SetsName<K, D>, D: Device> EngineCore<K, B, D> {
         number: RecordNo,
         clock: &C,
         ticket: &mut Option<Ticket<RequestTickets<K, B>>>,
-    ) -> Result<(), IocError>
-        ensures served { OnOk result (WasQueueServed D K.rules B.base D.gives (C.gives clock.now) number desk.old.account desk.new.account
-            (world_of desk.new.buffers.store)) }
+    ) -> Result<Option<SpentTicket<K, B>>, IocError>
+        ensures served { OnOk result (WasQueueServed D K.rules B.base D.gives self.now.history (C.gives clock.now) number desk.old.account
+            desk.new.account (world_of desk.new.buffers.store)) }
         ensures err { OnErr result (desk.new.account ≡ desk.old.account) }
         ensures ticket { OnErr result (ticket.new ≡ ticket.old) }
-        ensures spent { OnOk result (ticket.new ≡ None) }
+        ensures gone { OnOk result (ticket.new ≡ None) }
+        ensures spent { IfOk result (λ spent. spent ≡ ticket.old) }
     {
         let event = Event::Process { record: number };
-        let (_reply, _receipt) = self.serve(rt, desk, &event, clock, ticket)?;
-        Ok(())
+        let (_reply, _receipt, spent) = self.serve(rt, desk, &event, clock, ticket)?;
+        Ok(spent)
     }
 
     /// Requests each of these records by a desk, one after another, until a request is refused.
@@ -132,7 +136,7 @@ impl<K: RecordKind + Drop, B: SetsName<K, D>, D: Device> EngineCore<K, B, D> {
         listed: &[Listed],
         clock: &C,
     ) -> Result<(), IocError>
-        ensures { OnOk result (AreRequested D K.rules B.base D.gives (C.gives clock.now) (map (λ l. l.number) listed.now)
+        ensures { OnOk result (AreRequested D K.rules B.base D.gives self.now.history (C.gives clock.now) (map (λ l. l.number) listed.now)
             desk.old.account desk.new.account) }
     {
         let mut rest = listed;
@@ -225,6 +229,7 @@ impl<K: RecordKind + Drop, B: SetsName<K, D>, D: Device> EngineCore<K, B, D> {
             core: self,
             clock,
             desk,
+            spent: None,
         };
         run_server(rt, &self.queues, &mut worker, &mut server);
         Ok(server.desk)

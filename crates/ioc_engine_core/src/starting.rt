@@ -189,7 +189,8 @@ pub fn start<K: RecordKind + Drop, B: SetsName<K, D>, D: Device>(
     requires base { B.base ≡ loaded_world all.items }
     requires devices { B.devices ≡ device_in all.items }
     requires copies { All (λ l. l.base ≡ l.fields) all.items }
-    ensures count { IfOk result (λ e. e ≡ length all.items) }
+    ensures count { IfOk result (λ e. e.count ≡ length all.items) }
+    ensures history { IfOk result (λ e. e.history ≡ limits.history) }
     ensures limits { OnOk result (AreAllowed limits) }
     ensures refused { IfErr result (λ e. (e ≡ BadValue) ↔ (AreAllowed limits → ⊥)) }
     ensures idle { OnOk result (All (λ l. IsIdle K.rules l.fields) all.items) }
@@ -200,14 +201,7 @@ pub fn start<K: RecordKind + Drop, B: SetsName<K, D>, D: Device>(
     let parts = startable_parts(alloc, &all, limits)?;
     let mut master = master;
     let (counted, mut spare) = TallyBook::open(counts);
-    let Ok((directory, puts, queues)) = holdings::<K, B, D>(
-        alloc,
-        &cell,
-        &mut master,
-        &mut spare,
-        all,
-        &parts,
-    ) else {
+    let Ok(held) = holdings::<K, B, D>(alloc, &cell, &mut master, &mut spare, all, &parts) else {
         return Err(StartError::NoMemory);
     };
     let tickets = TicketCounts::new(tickets);
@@ -218,5 +212,5 @@ pub fn start<K: RecordKind + Drop, B: SetsName<K, D>, D: Device>(
         return Err(StartError::NoMemory);
     };
     let marks = MarkedRecords::new(alloc);
-    Ok(EngineCore::new(directory, shared, puts, lists, queues, spare, marks))
+    Ok(EngineCore::new(held, shared, lists, spare, marks, limits.history))
 }

@@ -1,10 +1,10 @@
 //! Watched records, of which an engine lists each that may have changed since a desk looked at it.
-ghost use Rattle.std.specs.Prelude.{IfErr};
+ghost use Rattle.std.specs.Prelude.{◌≡◌, IfOk, IfErr};
 ghost use Rattle.ioc_engine_core.specs.Looked.{UnwatchIsRefused, WatchIsRefused};
 
 use crate::engine::EngineCore;
 use ioc_device::Device;
-use ioc_journaled_set::SetsName;
+use ioc_journaled_set::{NoMoreWatched, NowWatched, SetsName};
 use ioc_names::RecordNo;
 use ioc_record::RecordKind;
 use ioc_values::IocError;
@@ -20,20 +20,26 @@ impl<K: RecordKind + Drop, B: SetsName<K, D>, D: Device> EngineCore<K, B, D> {
     /// [`IocError::Stopped`] if the engine was closed. [`IocError::NoRecord`] if there is no record
     /// with this number. [`IocError::NoMemory`] if allocation fails. It is watched no more than before
     /// then.
-    pub fn watch<R: Wait>(&self, rt: &R, alloc: Global, number: RecordNo) -> Result<(), IocError>
-        ensures refused { IfErr result (WatchIsRefused self.now number) }
+    pub fn watch<R: Wait>(
+        &self,
+        rt: &R,
+        alloc: Global,
+        number: RecordNo,
+    ) -> Result<NowWatched<B>, IocError>
+        ensures watched { IfOk result (λ sign. sign ≡ number) }
+        ensures refused { IfErr result (WatchIsRefused self.now.count number) }
     {
         if self.is_closed() {
             return Err(IocError::Stopped);
         }
         self.make_room_for_marks(rt, alloc)?;
         let mut held = self.sets.lock_set(rt, number)?;
-        if held.is_watched(number) {
-            return Ok(());
+        if let Some(sign) = held.watched_sign(number) {
+            return Ok(sign);
         }
-        held.watch(alloc, self.journal.cell(), number)?;
+        let sign = held.watch(alloc, self.journal.cell(), number)?;
         self.marks.lock(rt).add(number);
-        Ok(())
+        Ok(sign)
     }
 
     // Takes the room for the list of marked records, unless it is there.
@@ -46,12 +52,12 @@ impl<K: RecordKind + Drop, B: SetsName<K, D>, D: Device> EngineCore<K, B, D> {
     /// # Errors
     ///
     /// [`IocError::NoRecord`] if there is no record with this number.
-    pub fn unwatch<R: Wait>(&self, rt: &R, number: RecordNo) -> Result<(), IocError>
-        ensures refused { IfErr result (UnwatchIsRefused self.now number) }
+    pub fn unwatch<R: Wait>(&self, rt: &R, number: RecordNo) -> Result<NoMoreWatched<B>, IocError>
+        ensures unwatched { IfOk result (λ sign. sign ≡ number) }
+        ensures refused { IfErr result (UnwatchIsRefused self.now.count number) }
     {
         let mut held = self.sets.lock_set(rt, number)?;
-        held.unwatch(number);
-        Ok(())
+        Ok(held.unwatch(number))
     }
 
     /// Returns the records that were listed since they were last taken, in the order in which they were

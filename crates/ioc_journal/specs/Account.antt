@@ -1,5 +1,5 @@
 -- Desks, and the calls that they made, in one list of all calls. The journal is this project's own.
-use Rattle.std.specs.Prelude.{◌≡◌, ◌≢◌, ℕ, ◌+◌, ◌<◌, ◌≤◌, drop, List, [], ◌∷◌, ◌++◌, if◌then◌else◌, nat_eq, length, Option, Some, None, Contains, slice_get}
+use Rattle.std.specs.Prelude.{◌≡◌, ◌≢◌, ℕ, ◌+◌, ◌<◌, ◌≤◌, drop, List, [], ◌∷◌, ◌++◌, if◌then◌else◌, nat_eq, length, Option, Some, None, MatchOption, Contains, slice_get}
 use Rattle.std.specs.List.{AllPairs, cons_option}
 use Rattle.std.specs.Option.{IfSome}
 use Rattle.atomic_table.specs.declared.shared.Seat.{Seat}
@@ -56,9 +56,14 @@ pub record HasSeenMore (before after : DeskView) : Type 0 where
   pub begins : Begins before.seen after.seen
   pub own : calls_by before.number (calls after.seen) ≡ calls_by before.number (calls before.seen)
 
--- Holds if these are all entries from a place on, which is the one that was asked for or a later one.
-abbrev pub IsGiven : ℕ → List JournalEntry → ℕ → List JournalEntry → Type 0
-IsGiven from all first entries = (from ≤ first) × (entries ≡ drop first all)
+-- Holds if entries begin at the place that was asked for or, if a checkpoint has dropped the one there,
+-- at the first that it has kept.
+abbrev pub BeginsWhere : ℕ → ℕ → Option ℕ → Type 0
+BeginsWhere from first kept_from = MatchOption kept_from (first ≡ from) (λ kept. (first ≡ kept) × (from < kept))
+
+-- Holds if these are all entries from there on.
+abbrev pub IsGiven : ℕ → List JournalEntry → ℕ → Option ℕ → List JournalEntry → Type 0
+IsGiven from all first kept_from entries = BeginsWhere from first kept_from × (entries ≡ drop first all)
 
 -- Holds if the calls of a desk have numbers below this one.
 abbrev pub Below : (desk call : ℕ) → List JournalEntry → Type 0

@@ -1,6 +1,6 @@
 -- The tickets of requests, and the steps by which their numbers move. Application Developer's Guide,
 -- "Scanning": scanOnce, callback tasks. The tickets are this project's own.
-use Rattle.std.specs.Prelude.{◌≡◌, ◌+◌, ◌<◌, ◌≤◌, ◌^◌, ℕ, Bool, true, false, Option, Some}
+use Rattle.std.specs.Prelude.{◌≡◌, ◌+◌, ◌<◌, ◌≤◌, ◌^◌, ℕ, Bool, true, false, Option, Some, None, if◌then◌else◌}
 use Rattle.ioc_ledger.specs.Counts.{Counts}
 
 -- The counts of the ledger of tickets, and the numbers of tickets that were begun for once requests,
@@ -36,6 +36,10 @@ served_by _ _ = 0
 abbrev pub returned_by : Bool → Option Bool → ℕ
 returned_by false (Some true) = 1
 returned_by _ _ = 0
+
+-- The ticket that a call spends of those that it came with: that of a request.
+abbrev pub spent_by : Bool → Option Bool → Option Bool
+spent_by is_request ticket = if is_request then ticket else None
 
 -- Holds if a call, which may be a request, has spent the ticket that it came with or else handed it
 -- back.

@@ -12,7 +12,7 @@ ghost use Rattle.ioc_journal.specs.Counting.{MayAppend, BothMayAppend, IsGivenBa
 ghost use Rattle.ioc_ledger.specs.Requests.{capped, no_counts};
 ghost use Rattle.ioc_ledger.specs.Shared.{MayDivide, AreDivided};
 ghost use Rattle.ioc_journal.specs.Ticketed.{AreTicketed};
-ghost use Rattle.ioc_journal.specs.Tickets.{tickets_view, TakesTicket, AreCalled, AreBack};
+ghost use Rattle.ioc_journal.specs.Tickets.{tickets_view, TakesTicket, AreCalled, AreBack, spent_by};
 ghost use Rattle.ioc_ledger.specs.Counts.{counts};
 ghost use Rattle.ioc_journal.specs.Places.{AreAllowed, journal_of, one_more_desk, with_tickets};
 
@@ -27,7 +27,7 @@ use crate::journal_name::JournalName;
 use crate::key_division::{deal, take_over};
 use crate::limits::Limits;
 use crate::receipt::Receipt;
-use crate::request_tickets::{RequestTickets, TicketCounts, TicketTally};
+use crate::request_tickets::{CallTickets, RequestTickets, SpentTicket, TicketCounts, TicketTally};
 use crate::{Cell, EntryName, KeyPass, Keys, pass};
 use ioc_ledger::{TallyBook, TallyShare, Ticket, Tickets};
 use ioc_record::RecordKind;
@@ -81,6 +81,8 @@ pub struct Appended<K: RecordKind, B: JournalName<K>> {
     pub receipt: Receipt<K, B>,
     /// The tickets of the once requests that the event has sent.
     pub tickets: Tickets<RequestTickets<K, B>>,
+    /// The ticket with which the call came, if it is a request that came with one.
+    pub spent: Option<SpentTicket<K, B>>,
     /// The share of the set on which the event was done, if it came with one.
     pub share: Option<TallyShare<EngineCounts<K, B>>>,
 }
@@ -91,12 +93,13 @@ impl<K: RecordKind, B: JournalName<K>> Appended<K, B> {
     fn new(
         place: u64,
         pass: KeyPass,
-        tickets: Tickets<RequestTickets<K, B>>,
+        tickets: CallTickets<K, B>,
         share: Option<TallyShare<EngineCounts<K, B>>>,
     ) -> Self
         requires ends { IsReceipt K.rules B.base B.table pass.table_id (cell_view pass) place }
         ensures receipt { result.receipt ≡ (cell_view pass).seen }
-        ensures tickets { result.tickets ≡ tickets }
+        ensures tickets { result.tickets ≡ tickets.begun }
+        ensures spent { result.spent ≡ tickets.spent }
         ensures share { result.share ≡ share }
     {
         let receipt = Receipt {
@@ -107,7 +110,8 @@ impl<K: RecordKind, B: JournalName<K>> Appended<K, B> {
         };
         Appended {
             receipt,
-            tickets,
+            tickets: tickets.begun,
+            spent: tickets.spent,
             share,
         }
     }
@@ -255,6 +259,7 @@ impl<K: RecordKind, B: JournalName<K>> Journal<K, B> {
         ensures receipt { result.receipt ≡ desk.new.seen }
         ensures tickets { IsFew K.rules B.base self.new.filled → result.tickets ≡ counts.sent.once }
         ensures taken { TakesTicket (is_request S.entry.call) counts.ticket self.old.tickets self.new.tickets }
+        ensures spent { result.spent ≡ spent_by (is_request S.entry.call) counts.ticket }
         ensures share { IsGivenBack counts.share counts.after result.share }
         ensures list { self.new ≡ journal_of desk.new.seen self.old.dropped self.old.given self.old.limit self.old.desks self.new.tickets }
         ensures set { (set.new.table_id ≡ set.old.table_id) × (cell_view set.new ≡ holder self.new.filled (cell_view set.old).owns) }
@@ -312,6 +317,7 @@ impl<K: RecordKind, B: JournalName<K>> Journal<K, B> {
         ensures receipt { result.receipt ≡ desk.new.seen }
         ensures tickets { IsFew K.rules B.base self.new.filled → result.tickets ≡ counts.sent.once }
         ensures taken { TakesTicket (is_request S.entry.call) counts.ticket self.old.tickets self.new.tickets }
+        ensures spent { result.spent ≡ spent_by (is_request S.entry.call) counts.ticket }
         ensures share { IsGivenBack counts.share counts.after result.share }
         ensures list { self.new ≡ journal_of desk.new.seen self.old.dropped self.old.given self.old.limit self.old.desks self.new.tickets }
         ensures one { (one.new.table_id ≡ one.old.table_id) × (cell_view one.new ≡ holder self.new.filled P.keys) }

@@ -1,7 +1,7 @@
 //! The tickets of the requests of an engine.
 ghost use Rattle.std.specs.Prelude.{◌≡◌, ◌<◌, ◌≤◌, ◌+◌, ◌-◌, ◌^◌, ℕ, true, if◌then◌else◌};
 ghost use Rattle.ioc_ledger.specs.Counts.{counts};
-ghost use Rattle.ioc_journal.specs.Tickets.{tickets_view, AreTickets, TakesTicket, AreCalled, AreBack};
+ghost use Rattle.ioc_journal.specs.Tickets.{tickets_view, AreTickets, TakesTicket, AreCalled, AreBack, spent_by};
 
 use crate::journal_name::JournalName;
 use ioc_ledger::{Ledger, Ticket, Tickets};
@@ -19,6 +19,45 @@ impl<K, B: JournalName<K>> ledger::Ledger for RequestTickets<K, B> {
     ghost name = { B.tickets };
 
     ghost parts = { 18446744073709551615 };
+}
+
+/// That a request has spent the ticket with which it came: only the counts of an engine's tickets give this
+/// out, for a ticket that they take. Contracts see whether the ticket was counted.
+#[derive(Drop)]
+pub struct SpentTicket<K, B: JournalName<K>> {
+    is_counted: bool,
+    of: PhantomData<B>,
+    kind: PhantomData<K>,
+}
+
+impl<K, B: JournalName<K>> Model for SpentTicket<K, B> {
+    ghost use Rattle.std.specs.Prelude.{Bool};
+
+    ghost Value = { Bool };
+
+    ghost view = { λ s. s.is_counted };
+}
+
+impl<K, B: JournalName<K>> SpentTicket<K, B> {
+    // A ticket that was spent.
+    fn new(is_counted: bool) -> Self
+        ensures { result ≡ is_counted }
+    {
+        SpentTicket {
+            is_counted,
+            of: PhantomData,
+            kind: PhantomData,
+        }
+    }
+}
+
+/// The tickets of a call.
+#[derive(Drop)]
+pub struct CallTickets<K, B: JournalName<K>> {
+    /// Those of the once requests that its event has sent.
+    pub begun: Tickets<RequestTickets<K, B>>,
+    /// The one with which it came, if it is a request that came with one.
+    pub spent: Option<SpentTicket<K, B>>,
 }
 
 // No more tickets are begun for callback queues, so that all numbers of tickets stay below 2^64 while
@@ -92,50 +131,66 @@ impl<K, B: JournalName<K>> TicketCounts<K, B> {
         is_request: bool,
         ticket: Option<Ticket<RequestTickets<K, B>>>,
         sent: u64,
-    ) -> Tickets<RequestTickets<K, B>>
+    ) -> CallTickets<K, B>
         ensures tickets { (requests once : ℕ) → AreTickets self.old requests once
             → AreTickets self.new ((if is_request then 1 else 0) + requests) (sent + once) }
         ensures begun { (requests once : ℕ) → AreTickets self.old requests once
-            → ((if is_request then 1 else 0) + requests) + (sent + once) < 2 ^ 63 → result ≡ sent }
+            → ((if is_request then 1 else 0) + requests) + (sent + once) < 2 ^ 63 → result.begun ≡ sent }
         ensures taken { TakesTicket is_request ticket self.old self.new }
+        ensures spent { result.spent ≡ spent_by is_request ticket }
     {
-        self.take(is_request, ticket);
+        let spent = self.take(is_request, ticket);
         if sent == 0 {
-            return self.ledger.begin_many(0);
+            let begun = self.ledger.begin_many(0);
+            return CallTickets { begun, spent };
         }
         self.sent = self.sent.saturating_add(sent);
-        self.ledger.begin_many(sent)
+        let begun = self.ledger.begin_many(sent);
+        CallTickets { begun, spent }
     }
 
     // Spends the ticket of a request, or hands back the one that came with something else.
-    fn take(&mut self, is_request: bool, ticket: Option<Ticket<RequestTickets<K, B>>>)
+    fn take(
+        &mut self,
+        is_request: bool,
+        ticket: Option<Ticket<RequestTickets<K, B>>>,
+    ) -> Option<SpentTicket<K, B>>
         ensures tickets { (requests once : ℕ) → AreTickets self.old requests once
             → AreTickets self.new ((if is_request then 1 else 0) + requests) once }
         ensures taken { TakesTicket is_request ticket self.old self.new }
+        ensures spent { result ≡ spent_by is_request ticket }
     {
         match ticket {
-            Some(ticket) if is_request => self.spend(ticket),
-            Some(ticket) => self.ledger.hand_back(ticket),
-            None if is_request => self.spend_new(),
-            None => {}
+            Some(ticket) if is_request => Some(self.spend(ticket)),
+            Some(ticket) => {
+                self.ledger.hand_back(ticket);
+                None
+            }
+            None if is_request => {
+                self.spend_new();
+                None
+            }
+            None => None,
         }
     }
 
     // Spends the ticket that a request came with, or a new one if that isn't counted.
-    fn spend(&mut self, ticket: Ticket<RequestTickets<K, B>>)
+    fn spend(&mut self, ticket: Ticket<RequestTickets<K, B>>) -> SpentTicket<K, B>
         ensures tickets { (requests once : ℕ) → AreTickets self.old requests once → AreTickets self.new (1 + requests) once }
         ensures served { self.new.served ≡ self.old.served + (if ticket then 1 else 0) }
         ensures back { self.new.counts.back ≡ self.old.counts.back }
         ensures called { self.new.called ≡ self.old.called }
+        ensures spent { result ≡ ticket }
     {
         if !ticket.is_counted() {
             self.spend_new();
-            return;
+            return SpentTicket::new(false);
         }
         self.ledger.spend(ticket);
         let spent = self.ledger.spent();
         prove!(self.served < spent);
         self.served += 1;
+        SpentTicket::new(true)
     }
 
     // Begins a ticket for a request that came without one, and spends it.

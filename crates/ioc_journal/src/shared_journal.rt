@@ -8,7 +8,8 @@ ghost use Rattle.ioc_journal.specs.Account.{IsHolder, AreNoDesks, AreRecords, Ma
 ghost use Rattle.ioc_journal.specs.Account.{Added, AddedByBoth, AreKnown, AreMerged, calls, calls_by};
 ghost use Rattle.ioc_journal.specs.Places.{IsNoPlace};
 ghost use Rattle.ioc_journal.specs.Counting.{MayAppend, BothMayAppend, MaySend, BothMaySend, MayCount, BothMayCount, IsBacked};
-ghost use Rattle.ioc_journal.specs.Counting.{IsGivenBack, IsFew};
+ghost use Rattle.ioc_journal.specs.Counting.{IsGivenBack, IsFew, is_request};
+ghost use Rattle.ioc_journal.specs.Tickets.{spent_by};
 ghost use Rattle.ioc_ledger.specs.Shared.{MayDivide, AreDivided};
 ghost use Rattle.ioc_values.specs.declared.error.IocError.TheVariants.{JournalFull};
 
@@ -245,6 +246,7 @@ impl<K: RecordKind, B: JournalName<K>> SharedJournal<K, B> {
         ensures call { HasCalled K.rules B.base desk.old S.entry desk.new }
         ensures receipt { result.receipt ≡ desk.new.seen }
         ensures tickets { IsFew K.rules B.base desk.new.seen → result.tickets ≡ counts.sent.once }
+        ensures spent { result.spent ≡ spent_by (is_request S.entry.call) counts.ticket }
         ensures share { IsGivenBack counts.share counts.after result.share }
         ensures set { (set.new.table_id ≡ set.old.table_id) × (cell_view set.new ≡ holder desk.new.seen (cell_view set.old).owns) }
         ensures added { (log : List Note) × Added K.rules B.base (cell_view set.old).seen (cell_view set.old).owns S.entry log
@@ -287,6 +289,7 @@ impl<K: RecordKind, B: JournalName<K>> SharedJournal<K, B> {
         ensures call { HasCalled K.rules B.base desk.old entry desk.new }
         ensures receipt { result.receipt ≡ desk.new.seen }
         ensures tickets { IsFew K.rules B.base desk.new.seen → result.tickets ≡ counts.sent.once }
+        ensures spent { result.spent ≡ spent_by (is_request entry.call) counts.ticket }
         ensures share { IsGivenBack counts.share counts.after result.share }
         ensures set { (set.new.table_id ≡ set.old.table_id) × (cell_view set.new ≡ holder desk.new.seen (cell_view set.old).owns) }
         ensures added { (log : List Note) × Added K.rules B.base (cell_view set.old).seen (cell_view set.old).owns entry log desk.new.seen }
@@ -317,6 +320,7 @@ impl<K: RecordKind, B: JournalName<K>> SharedJournal<K, B> {
         ensures call { HasCalled K.rules B.base desk.old S.entry desk.new }
         ensures receipt { result.receipt ≡ desk.new.seen }
         ensures tickets { IsFew K.rules B.base desk.new.seen → result.tickets ≡ counts.sent.once }
+        ensures spent { result.spent ≡ spent_by (is_request S.entry.call) counts.ticket }
         ensures share { IsGivenBack counts.share counts.after result.share }
         ensures one { (one.new.table_id ≡ one.old.table_id) × (cell_view one.new ≡ holder desk.new.seen P.keys) }
         ensures other { (other.new.table_id ≡ other.old.table_id) × (cell_view other.new ≡ holder desk.new.seen P.rest) }
@@ -369,6 +373,7 @@ impl<K: RecordKind, B: JournalName<K>> SharedJournal<K, B> {
         ensures call { HasCalled K.rules B.base desk.old entry desk.new }
         ensures receipt { result.receipt ≡ desk.new.seen }
         ensures tickets { IsFew K.rules B.base desk.new.seen → result.tickets ≡ counts.sent.once }
+        ensures spent { result.spent ≡ spent_by (is_request entry.call) counts.ticket }
         ensures share { IsGivenBack counts.share counts.after result.share }
         ensures one { (one.new.table_id ≡ one.old.table_id) × (cell_view one.new ≡ holder desk.new.seen P.keys) }
         ensures other { (other.new.table_id ≡ other.old.table_id) × (cell_view other.new ≡ holder desk.new.seen P.rest) }

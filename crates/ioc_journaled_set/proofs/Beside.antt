@@ -54,9 +54,9 @@ pub once_live : {R : Type 0} (k : RecordRules R) (w : World R) → IsCounted k w
 once_live k w counted n = let lines = lines_are n w.live in let once = counted.counted.live n in let one = one_at_most (nat_lt 0 (holders k w n)) in omega (arith, lines, once, one)
 
 -- An event was done on a set, and the keys of the set and of the puts with notification are owned.
-module _ {R D : Type 0} (k : RecordRules R) (gives : D → Ask → ℕ → Answer → D → Type 0) (h h' : SetState R D) (moment : ℕ) (event : Event) (reply : Reply) (come_to base : World R) (seen also_seen : List Note) (owned : List Key) (entry : Entry) where
+module _ {R D : Type 0} (k : RecordRules R) (gives : D → Ask → ℕ → Answer → D → Type 0) (most : ℕ) (h h' : SetState R D) (moment : ℕ) (event : Event) (reply : Reply) (come_to base : World R) (seen also_seen : List Note) (owned : List Key) (entry : Entry) where
   pub record IsDoneBeside : Type 0 where
-    pub does : Does k gives h moment event reply h' come_to
+    pub does : Does k gives most h moment event reply h' come_to
     pub there : (n : ℕ) → Contains (names event) n → Has (now_of h) n
     pub laws : CallLaws k
     pub covers : Cover owned (now_of h)
@@ -66,8 +66,8 @@ module _ {R D : Type 0} (k : RecordRules R) (gives : D → Ask → ℕ → Answe
         → AskAlike (begun_at moment (now_of h)) (begun_at moment (map_of k base log)) event
     pub entry_is : entry_of_event does.entry ≡ entry
 
-module _ {R D : Type 0} {k : RecordRules R} {gives : D → Ask → ℕ → Answer → D → Type 0} {h h' : SetState R D} {moment : ℕ} {event : Event} {reply : Reply} {come_to base : World R} {seen also_seen : List Note} {owned : List Key} {entry : Entry}
-    (d : IsDoneBeside k gives h h' moment event reply come_to base seen also_seen owned entry) where
+module _ {R D : Type 0} {k : RecordRules R} {gives : D → Ask → ℕ → Answer → D → Type 0} {most : ℕ} {h h' : SetState R D} {moment : ℕ} {event : Event} {reply : Reply} {come_to base : World R} {seen also_seen : List Note} {owned : List Key} {entry : Entry}
+    (d : IsDoneBeside k gives most h h' moment event reply come_to base seen also_seen owned entry) where
   abbrev after : World R
   after = (done_by k (now_of h) d.does.entry).world
 

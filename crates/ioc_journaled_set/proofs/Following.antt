@@ -105,8 +105,8 @@ module _ {R : Type 0} (k : RecordRules R) (base : World R) where
       known : IsGivenUpByAll k moment number sets (map_of k base log) (map_of k base longer)
       known = subst (λ (l : List Note). IsGivenUpByAll k moment number sets (map_of k base log) (map_of k base l)) (sym added.ends) (gone_on log added.goes_on added.legal added.sound added.desk added.call added.own).known
 
-      pub held_then : (after : List (SetState R D)) → EachGivesUp k moment number sets after → (i : ℕ) (d : SetState R D) → i < length sets → Holds k (map_of k base longer) (now_of (get_or after i d))
-      held_then after gives i d lt = known.held (get_or sets i d) (get_or after i d) (i, lt, get_or_default sets i (get_or sets i d) d lt) (gives i d lt)
+      pub held_then : {most : ℕ} (after : List (SetState R D)) → EachGivesUp k most moment number sets after → (i : ℕ) (d : SetState R D) → i < length sets → Holds k (map_of k base longer) (now_of (get_or after i d))
+      held_then {most} after gives i d lt = known.held most (get_or sets i d) (get_or after i d) (i, lt, get_or_default sets i (get_or sets i d) d lt) (gives i d lt)
 
       pub nobody_then : holders_of number (map_of k base longer).live ≡ 0
       nobody_then = known.nobody
@@ -123,7 +123,7 @@ module _ {R : Type 0} (k : RecordRules R) (base : World R) where
           (continues_on before.seen v.seen log before.owns v.owns taken.goes_on added.goes_on taken.owned) added.ends has_key keyed refl
 
     -- The sets have the same records after the cancel.
-    module _ (after : List (SetState R D)) (gives : EachGivesUp k moment number sets after) (same : length after ≡ length sets) where
+    module _ {most : ℕ} (after : List (SetState R D)) (gives : EachGivesUp k most moment number sets after) (same : length after ≡ length sets) where
       was_there : (i : ℕ) (d : SetState R D) → i < length sets → (q : ℕ) → IsSome (get (get_or after i d).records q) → IsSome (get (get_or sets i d).records q)
       was_there i d lt q there =
           sym (has-cancelled k number (now_of (get_or sets i d)) q) ∙ (sym (ap (λ rs. contains_key rs q) (gives i d lt).records) ∙ there)

@@ -41,10 +41,11 @@ use Rattle.ioc_journal.specs.Covering.{Holds}
 use Rattle.ioc_journal.specs.Laws.{StaysSound, CancelIsHeld, BeginningIsHeld, HeldAlike}
 use Rattle.ioc_journal.proofs.Placing.{live-once}
 use Rattle.ioc_set.specs.SetState.{SetState, now_of, folded, done_by, held_after}
-use Rattle.ioc_set.specs.Doing.{is_full, with_place}
+use Rattle.ioc_set.specs.Doing.{IsShort, is_full, with_place}
 use Rattle.ioc_set.specs.Sound.{IsSound}
 use Rattle.ioc_journaled_set.specs.GiveUpLaws.{cancel_event, cancel_note, ShareNone, holders_in_all, GivesUp, IsHeldSoundly, SetsGiveUp, CancelGivesUp, CameToNothing}
 use Rattle.ioc_journal.proofs.Summing.{point, of-number}
+use Rattle.ioc_journaled_set.proofs.Shortness.{does_short}
 use Rattle.ioc_journaled_set.proofs.GiveUpAmong.{some-or-none, nobody-outside}
 use Rattle.ioc_journaled_set.proofs.GiveUpEvents.{cancel-steps, AreActive, none-then, begun-none, begun-active}
 
@@ -192,9 +193,9 @@ module _ {R : Type 0} (k : RecordRules R) where
     -- The cancel on held sets.
 
     module _ {D : Type 0} (cancels : CancelIsHeld k) (begins : BeginningIsHeld k) (alike : HeldAlike k) where
-      held-then : (m : World R) (h then : SetState R D) → Holds k m (now_of h) → GivesUp k moment number h then → Holds k (given_up m) (now_of then)
+      held-then : (most : ℕ) (m : World R) (h then : SetState R D) → Holds k m (now_of h) → GivesUp k most moment number h then → Holds k (given_up m) (now_of then)
       unfolding begun begun_at cancelled
-      held-then m h then holds gives =
+      held-then most m h then holds gives =
           alike (given_up m) (given_up (now_of h)) (now_of then) (cancels (begun_at moment m) (begun_at moment (now_of h)) number (begins m (now_of h) moment holds)) gives.records gives.waiting
 
     -- A record of a sound set that is part of the put with notification awaits its device.
@@ -243,7 +244,7 @@ module _ {R : Type 0} (k : RecordRules R) where
         record {
           legal = legal-more log n base legal fits;
           known = record {
-            held = λ h then c gives. subst (λ (w : World R). Holds k w (now_of then)) (sym leads) (held-then lawful desk call moment number keys cancels begins alike m h then (known h c).holds gives);
+            held = λ most h then c gives. subst (λ (w : World R). Holds k w (now_of then)) (sym leads) (held-then lawful desk call moment number keys cancels begins alike most m h then (known h c).holds gives);
             nobody = ap (holders_of number) lives ∙ forgotten-none number m.live (live-once k m is_sound.counted number);
             others = λ other apart. ap (holders_of other) lives ∙ forgotten-other number other apart m.live;
             none_ended = ap (λ (w : World R). w.ended) leads ∙ none-ended lawful desk call moment number keys m;
@@ -282,9 +283,9 @@ module _ {R : Type 0} (k : RecordRules R) where
       given = cancelled k number (begun_at moment (now_of h))
 
       gives : after.records ≡ given.records → after.waiting ≡ given.waiting → after.live ≡ given.live → get after.devices ≡ get h.devices → after.tally ≡ h.tally
-          → after ≡ held_after k (with_place most h) (cancel_event moment number) after.devices → GivesUp k moment number h after
+          → after ≡ held_after k (with_place most h) (cancel_event moment number) after.devices → IsShort most after → GivesUp k most moment number h after
       unfolding begun begun_at cancelled
-      gives records waiting live devices tally told = record { records = records; waiting = waiting; live = live; devices = devices; tally = tally; most = most; told = told }
+      gives records waiting live devices tally told short = record { records = records; waiting = waiting; live = live; devices = devices; tally = tally; told = told; short = short }
 
       nothing : (come_to : World R) → come_to.calls ≡ given.calls → come_to.outbox ≡ given.outbox → come_to.ended ≡ given.ended → CameToNothing come_to
       unfolding begun begun_at cancelled
@@ -303,31 +304,32 @@ module _ {R : Type 0} (k : RecordRules R) where
       ∙ ap (λ (r : Reply). record { moment = e.moment; event = Cancel number; answers = []; reply = r }) reply
 
   pub cancel-gives-up : {D : Type 0} (gives : D → Ask → ℕ → Answer → D → Type 0) → IsLawful k → CancelGivesUp k gives
-  cancel-gives-up {D} gives_answers lawful before after moment number reply come_to sound live does =
+  cancel-gives-up {D} gives_answers lawful most before after moment number reply come_to sound live does =
       let e = does.entry in
       let is = ap (λ (event : Event). stepped k (listed e.answers) (begun_at e.moment (now_of before)) event) does.event ∙ set-steps lawful number before e.moment e.answers sound live in
-      let placed = ap (λ (w : World R). done_by k w e) (now-placed lawful number does.most before) ∙ is in
+      let placed = ap (λ (w : World R). done_by k w e) (now-placed lawful number most before) ∙ is in
       let plain = sym does.tells.reply ∙ ap (λ (s : Stepped R). s.reply) placed in
       let uncalled-here = no-calls lawful 0 0 e.moment number [] (now_of before) in
       let cancelled_alone : Stepped R = record { world = cancelled k number (begun_at e.moment (now_of before)); reply = Plain; requests = followed_by No_requests No_requests } in
       let counts : after.tally ≡ before.tally
       = ap (λ (h : SetState R D). h.tally) does.after
-      ∙ ap (λ (s : Stepped R). tallied (with_place does.most before).tally (begun_at e.moment (now_of (with_place does.most before))) e.event s) placed
-      ∙ ap (λ (w : World R). tallied (with_place does.most before).tally (begun_at e.moment w) e.event cancelled_alone) (now-placed lawful number does.most before)
-      ∙ ap (λ (v : Event). tallied (with_place does.most before).tally (begun_at e.moment (now_of before)) v cancelled_alone) does.event
-      ∙ counts-none lawful 0 0 e.moment number [] (with_place does.most before).tally (now_of before)
-      ∙ tally-placed lawful number does.most before in
+      ∙ ap (λ (s : Stepped R). tallied (with_place most before).tally (begun_at e.moment (now_of (with_place most before))) e.event s) placed
+      ∙ ap (λ (w : World R). tallied (with_place most before).tally (begun_at e.moment w) e.event cancelled_alone) (now-placed lawful number most before)
+      ∙ ap (λ (v : Event). tallied (with_place most before).tally (begun_at e.moment (now_of before)) v cancelled_alone) does.event
+      ∙ counts-none lawful 0 0 e.moment number [] (with_place most before).tally (now_of before)
+      ∙ tally-placed lawful number most before in
       let silent = sym does.tells.answers ∙ ap (λ (s : Stepped R). answers_of s.world.calls) placed ∙ ap answers_of uncalled-here in
       record {
         answer = sym does.answer ∙ plain;
-        gives_up = subst (λ (m : ℕ). GivesUp k m number before after) does.moment (gives lawful number before after e.moment does.most
+        gives_up = subst (λ (m : ℕ). GivesUp k most m number before after) does.moment (gives lawful number before after e.moment most
             (ap (λ (h : SetState R D). h.records) does.after ∙ ap (λ (s : Stepped R). s.world.records) placed)
             (ap (λ (h : SetState R D). h.waiting) does.after ∙ ap (λ (s : Stepped R). s.world.waiting) placed)
             (ap (λ (h : SetState R D). h.live) does.after ∙ ap (λ (s : Stepped R). s.world.live) placed)
             (uncalled does.work (ap (λ (s : Stepped R). s.world.calls) is ∙ uncalled-here))
             counts
-            (does.after ∙ ap (λ (entry : EventEntry). held_after k (with_place does.most before) entry after.devices) (entry-is e number does.event silent plain)));
-        nothing = nothing lawful number before after e.moment does.most come_to
+            (does.after ∙ ap (λ (entry : EventEntry). held_after k (with_place most before) entry after.devices) (entry-is e number does.event silent plain))
+            (does_short k gives_answers before after moment (Cancel number) reply come_to does));
+        nothing = nothing lawful number before after e.moment most come_to
             (ap (λ (w : World R). w.calls) (does.left ∙ ap (λ (s : Stepped R). s.world) is))
             (ap (λ (w : World R). w.outbox) (does.left ∙ ap (λ (s : Stepped R). s.world) is))
             (ap (λ (w : World R). w.ended) (does.left ∙ ap (λ (s : Stepped R). s.world) is));

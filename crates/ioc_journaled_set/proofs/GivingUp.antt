@@ -90,8 +90,8 @@ module _ {R D : Type 0} (k : RecordRules R) (base : World R) (had : ℕ → Opti
   as_same : (sets sets_then : List (SetState R D)) (passes passes_then : List (Option Pass)) → (sets_then ≡ sets) × (passes_then ≡ passes) → EachIsLent k base had table sets passes → EachIsLent k base had table sets_then passes_then
   as_same sets sets_then passes passes_then same lent = subst (λ (l : List (SetState R D)). EachIsLent k base had table l passes_then) (sym same.0) (subst (λ (l : List (Option Pass)). EachIsLent k base had table sets l) (sym same.1) lent)
 
-  pub lent_of : (moment number : ℕ) (desk desk_then : DeskView) (sets sets_then : List (SetState R D)) (passes passes_then : List (Option Pass)) (kept kept_then : View)
-      → GaveUp k base table moment number desk sets kept desk_then sets_then passes_then kept_then → length sets_then ≡ length sets → EachIsLent k base had table sets passes → EachIsLent k base had table sets_then passes_then
+  pub lent_of : {most : ℕ} (moment number : ℕ) (desk desk_then : DeskView) (sets sets_then : List (SetState R D)) (passes passes_then : List (Option Pass)) (kept kept_then : View)
+      → GaveUp k base table most moment number desk sets kept desk_then sets_then passes_then kept_then → length sets_then ≡ length sets → EachIsLent k base had table sets passes → EachIsLent k base had table sets_then passes_then
   lent_of moment number desk desk_then sets sets_then passes passes_then kept kept_then gu sets_are each i d e lt =
       let dealt = gu.dealt i d e lt in
       let within : i < length sets = omega (arith, lt, sets_are) in
@@ -105,23 +105,23 @@ module _ {R D : Type 0} (k : RecordRules R) (base : World R) (had : ℕ → Opti
             ((each i d e within).devices n (sym (has-cancelled k number (now_of (get_or sets i d)) n) ∙ (sym (ap (λ rs. contains_key rs n) gives.records) ∙ has)));
       }
 
-  pub lent_then : {A E : Type 0} (Q S T : Type 0) (given : Result (Option A) E) (moment number : ℕ) (desk desk_then : DeskView) (sets sets_then : List (SetState R D)) (passes passes_then : List (Option Pass)) (kept kept_then : View)
-      → IfOk given (λ o. IfSome o (λ _. GaveUp k base table moment number desk sets kept desk_then sets_then passes_then kept_then)) → IfOk given (λ o. IfNone o ((sets_then ≡ sets) × (passes_then ≡ passes) × Q × S × T)) → OnErr given ((sets_then ≡ sets) × (passes_then ≡ passes) × Q × S)
+  pub lent_then : {A E : Type 0} (most : ℕ) (Q S T : Type 0) (given : Result (Option A) E) (moment number : ℕ) (desk desk_then : DeskView) (sets sets_then : List (SetState R D)) (passes passes_then : List (Option Pass)) (kept kept_then : View)
+      → IfOk given (λ o. IfSome o (λ _. GaveUp k base table most moment number desk sets kept desk_then sets_then passes_then kept_then)) → IfOk given (λ o. IfNone o ((sets_then ≡ sets) × (passes_then ≡ passes) × Q × S × T)) → OnErr given ((sets_then ≡ sets) × (passes_then ≡ passes) × Q × S)
       → length sets_then ≡ length sets → EachIsLent k base had table sets passes → EachIsLent k base had table sets_then passes_then
-  lent_then Q S T (Ok (Some r)) moment number desk desk_then sets sets_then passes passes_then kept kept_then gave missing refused sets_are lent = lent_of moment number desk desk_then sets sets_then passes passes_then kept kept_then gave sets_are lent
-  lent_then Q S T (Ok None) moment number desk desk_then sets sets_then passes passes_then kept kept_then gave missing refused sets_are lent = as_same sets sets_then passes passes_then (missing.0, missing.1) lent
-  lent_then Q S T (Err e) moment number desk desk_then sets sets_then passes passes_then kept kept_then gave missing refused sets_are lent = as_same sets sets_then passes passes_then (refused.0, refused.1) lent
+  lent_then most Q S T (Ok (Some r)) moment number desk desk_then sets sets_then passes passes_then kept kept_then gave missing refused sets_are lent = lent_of moment number desk desk_then sets sets_then passes passes_then kept kept_then gave sets_are lent
+  lent_then most Q S T (Ok None) moment number desk desk_then sets sets_then passes passes_then kept kept_then gave missing refused sets_are lent = as_same sets sets_then passes passes_then (missing.0, missing.1) lent
+  lent_then most Q S T (Err e) moment number desk desk_then sets sets_then passes passes_then kept kept_then gave missing refused sets_are lent = as_same sets sets_then passes passes_then (refused.0, refused.1) lent
 
   abbrev AreBack : (held_then : List (HeldView R D)) (sets : List (SetState R D)) (passes : List (Option Pass)) → Type 0
   AreBack held_then sets passes = (i : ℕ) (d : HeldView R D) (e : SetState R D) (f : Option Pass) → i < length held_then → get_or held_then i d ≡ held_view (get_or sets i e) (seen_by (get_or passes i f))
 
-  gave_back : (moment number : ℕ) (desk desk_then : DeskView) (sets : List (SetState R D)) (held_then : List (HeldView R D)) (sets_then : List (SetState R D)) (passes_then : List (Option Pass)) (kept kept_then : View)
-      → GaveUp k base table moment number desk sets kept desk_then sets_then passes_then kept_then → AreBack held_then sets_then passes_then → length held_then ≡ length sets → length sets_then ≡ length sets
-      → HeldGaveUp k base moment number desk sets kept desk_then held_then kept_then
-  gave_back moment number desk desk_then sets held_then sets_then passes_then kept kept_then gu back long sets_are = record {
+  gave_back : {most : ℕ} (moment number : ℕ) (desk desk_then : DeskView) (sets : List (SetState R D)) (held_then : List (HeldView R D)) (sets_then : List (SetState R D)) (passes_then : List (Option Pass)) (kept kept_then : View)
+      → GaveUp k base table most moment number desk sets kept desk_then sets_then passes_then kept_then → AreBack held_then sets_then passes_then → length held_then ≡ length sets → length sets_then ≡ length sets
+      → HeldGaveUp k base most moment number desk sets kept desk_then held_then kept_then
+  gave_back {most} moment number desk desk_then sets held_then sets_then passes_then kept kept_then gu back long sets_are = record {
     gives_up = λ i d e lt.
         let then : i < length held_then = omega (arith, lt, long) in
-        subst (λ (v : HeldView R D). GivesUp k moment number (get_or sets i d) v.set) (sym (back i e d None then)) (gu.gives_up i d lt);
+        subst (λ (v : HeldView R D). GivesUp k most moment number (get_or sets i d) v.set) (sym (back i e d None then)) (gu.gives_up i d lt);
     call = gu.call;
     seen = λ i d lt.
         let within : i < length sets_then = omega (arith, lt, long, sets_are) in
@@ -139,10 +139,10 @@ module _ {R D : Type 0} (k : RecordRules R) (base : World R) (had : ℕ → Opti
       let then : i < length held_then = omega (arith, lt, long) in
       ap (λ (v : HeldView R D). v.set) (back i e d None then) ∙ ap (λ (l : List (SetState R D)). get_or l i d) same
 
-  module _ {A E : Type 0} (moment number : ℕ) (desk desk_then : DeskView) (sets : List (SetState R D)) (held_then : List (HeldView R D)) (sets_then : List (SetState R D)) (passes_then : List (Option Pass)) (kept kept_then : View)
+  module _ {A E : Type 0} (most moment number : ℕ) (desk desk_then : DeskView) (sets : List (SetState R D)) (held_then : List (HeldView R D)) (sets_then : List (SetState R D)) (passes_then : List (Option Pass)) (kept kept_then : View)
       (back : AreBack held_then sets_then passes_then) (long : length held_then ≡ length sets) (sets_are : length sets_then ≡ length sets) where
-    pub gave_all : (given : Result (Option A) E) → IfOk given (λ o. IfSome o (λ _. GaveUp k base table moment number desk sets kept desk_then sets_then passes_then kept_then))
-        → IfOk given (λ o. IfSome o (λ _. HeldGaveUp k base moment number desk sets kept desk_then held_then kept_then))
+    pub gave_all : (given : Result (Option A) E) → IfOk given (λ o. IfSome o (λ _. GaveUp k base table most moment number desk sets kept desk_then sets_then passes_then kept_then))
+        → IfOk given (λ o. IfSome o (λ _. HeldGaveUp k base most moment number desk sets kept desk_then held_then kept_then))
     gave_all (Ok (Some r)) gu = gave_back moment number desk desk_then sets held_then sets_then passes_then kept kept_then gu back long sets_are
     gave_all (Ok None) gu = gu
     gave_all (Err e) gu = gu
@@ -201,7 +201,7 @@ module _ {R D : Type 0} where
 
   module _ (k : RecordRules R) (moment number : ℕ) (sets sets_then : List (SetState R D)) (shares : List (Option ShareView)) (long : length sets_then ≡ length sets) (each : EachIsCounted sets shares) where
     -- A cancel leaves the counts and the number of records of each set.
-    pub counted_given_up : EachGivesUp k moment number sets sets_then → EachIsCounted sets_then shares
+    pub counted_given_up : {most : ℕ} → EachGivesUp k most moment number sets sets_then → EachIsCounted sets_then shares
     counted_given_up gives i d e lt =
         let within : i < length sets = omega (arith, lt, long) in
         let up = gives i d within in
@@ -211,9 +211,9 @@ module _ {R D : Type 0} where
     as_counted same = subst (λ (l : List (SetState R D)). EachIsCounted l shares) (sym same) each
 
     -- After a call on all of them.
-    pub still_counted : {A E : Type 0} (base : World R) (table : TableId) (Q S T : Type 0) (given : Result (Option A) E) (desk desk_then : DeskView) (passes passes_then : List (Option Pass)) (kept kept_then : View)
-        → IfOk given (λ o. IfSome o (λ _. GaveUp k base table moment number desk sets kept desk_then sets_then passes_then kept_then)) → IfOk given (λ o. IfNone o ((sets_then ≡ sets) × (passes_then ≡ passes) × Q × S × T))
+    pub still_counted : {A E : Type 0} (most : ℕ) (base : World R) (table : TableId) (Q S T : Type 0) (given : Result (Option A) E) (desk desk_then : DeskView) (passes passes_then : List (Option Pass)) (kept kept_then : View)
+        → IfOk given (λ o. IfSome o (λ _. GaveUp k base table most moment number desk sets kept desk_then sets_then passes_then kept_then)) → IfOk given (λ o. IfNone o ((sets_then ≡ sets) × (passes_then ≡ passes) × Q × S × T))
         → OnErr given ((sets_then ≡ sets) × (passes_then ≡ passes) × Q × S) → EachIsCounted sets_then shares
-    still_counted base table Q S T (Ok (Some r)) desk desk_then passes passes_then kept kept_then gave missing refused = counted_given_up gave.gives_up
-    still_counted base table Q S T (Ok None) desk desk_then passes passes_then kept kept_then gave missing refused = as_counted missing.0
-    still_counted base table Q S T (Err e) desk desk_then passes passes_then kept kept_then gave missing refused = as_counted refused.0
+    still_counted most base table Q S T (Ok (Some r)) desk desk_then passes passes_then kept kept_then gave missing refused = counted_given_up gave.gives_up
+    still_counted most base table Q S T (Ok None) desk desk_then passes passes_then kept kept_then gave missing refused = as_counted missing.0
+    still_counted most base table Q S T (Err e) desk desk_then passes passes_then kept kept_then gave missing refused = as_counted refused.0

@@ -25,6 +25,7 @@ mod Sending
 mod Serving
 mod SetsTogether
 mod Shares
+mod Shortness
 mod Taken
 mod TakingOver
 mod Telling

@@ -111,14 +111,14 @@ module _ {R D : Type 0} where
       let there : i < length two = omega (arith, within, many, long) in
       (after.1 i e e there).0 ∙ same i d e within ∙ ap (λ (l : List (SetState R D)). get_or l i d) (sets_alike old one before)
 
-  module _ (k : RecordRules R) (base : World R) (moment number : ℕ) (desk : DeskView) (old one two then : List (HeldView R D)) (before : AreSame old one) (after : AreSame two then) (long : length two ≡ length one) where
-    pub gave_up_again : (puts : PutsView) (desk_then : DeskView) (puts_then : PutsView) → GaveUpOn k base moment number desk one puts desk_then two puts_then → GaveUpOn k base moment number desk old puts desk_then then puts_then
+  module _ {most : ℕ} (k : RecordRules R) (base : World R) (moment number : ℕ) (desk : DeskView) (old one two then : List (HeldView R D)) (before : AreSame old one) (after : AreSame two then) (long : length two ≡ length one) where
+    pub gave_up_again : (puts : PutsView) (desk_then : DeskView) (puts_then : PutsView) → GaveUpOn k base most moment number desk one puts desk_then two puts_then → GaveUpOn k base most moment number desk old puts desk_then then puts_then
     gave_up_again puts desk_then puts_then gave = record {
       gives_up = λ i d e below.
           let within : i < length one = let same = before.0 in omega (arith, below, same) in
           let there : i < length two = omega (arith, within, long) in
-          subst (λ (h : SetState R D). GivesUp k moment number (get_or old i d).set h) (sym (after.1 i e e there).0)
-          (subst (λ (h : SetState R D). GivesUp k moment number h (get_or two i e).set) (before.1 i d d below).0 (gave.gives_up i d e within));
+          subst (λ (h : SetState R D). GivesUp k most moment number (get_or old i d).set h) (sym (after.1 i e e there).0)
+          (subst (λ (h : SetState R D). GivesUp k most moment number h (get_or two i e).set) (before.1 i d d below).0 (gave.gives_up i d e within));
       call = gave.call;
       seen = λ i d below. let there : i < length two = let same = after.0 in omega (arith, below, same) in (after.1 i d d there).1 ∙ gave.seen i d there;
       puts_seen = gave.puts_seen;

@@ -152,8 +152,8 @@ module _ {R : Type 0} (k : RecordRules R) where
   placed_now true h = refl
   placed_now false h = refl
 
-module _ {R D : Type 0} (k : RecordRules R) (gives : D → Ask → ℕ → Answer → D → Type 0) (h h' : SetState R D) (moment : ℕ) (event : Event) (reply : Reply) (come_to : World R)
-    (does : Does k gives h moment event reply h' come_to) (there : (n : ℕ) → Contains (names event) n → Has (now_of h) n) where
+module _ {R D : Type 0} {most : ℕ} (k : RecordRules R) (gives : D → Ask → ℕ → Answer → D → Type 0) (h h' : SetState R D) (moment : ℕ) (event : Event) (reply : Reply) (come_to : World R)
+    (does : Does k gives most h moment event reply h' come_to) (there : (n : ℕ) → Contains (names event) n → Has (now_of h) n) where
   abbrev e : EventEntry
   e = does.entry
 
@@ -163,8 +163,8 @@ module _ {R D : Type 0} (k : RecordRules R) (gives : D → Ask → ℕ → Answe
   abbrev after : World R
   after = (done_by k (now_of h) e).world
 
-  was_now : now_of (with_place does.most h) ≡ now_of h
-  was_now = placed_now k (is_full does.most (length h.history)) h
+  was_now : now_of (with_place most h) ≡ now_of h
+  was_now = placed_now k (is_full most (length h.history)) h
 
   used : answers_of after.calls ≡ e.answers
   used = subst (λ (w : World R). answers_of (done_by k w e).world.calls ≡ e.answers) was_now does.tells.answers
@@ -178,7 +178,7 @@ module _ {R D : Type 0} (k : RecordRules R) (gives : D → Ask → ℕ → Answe
       let told : e.answers ≡ answers = sym used ∙ ap (λ (w : World R). answers_of w.calls) (sym does.left) ∙ sym copied in
       λ i. record { moment = does.moment i; call = calling.Event (does.event i) (does.answer i); answers = told i }
 
-  now_then : now_of h' ≡ now_of (held_after k (with_place does.most h) e h'.devices)
+  now_then : now_of h' ≡ now_of (held_after k (with_place most h) e h'.devices)
   now_then = ap (λ (z : SetState R D). now_of z) does.after
 
   pub records_then : (now_of h').records ≡ after.records
@@ -205,7 +205,7 @@ module _ {R D : Type 0} (k : RecordRules R) (gives : D → Ask → ℕ → Answe
   pub tally_then : h'.tally ≡ tallied h.tally (begun_at e.moment (now_of h)) e.event (done_by k (now_of h) e)
   tally_then =
       ap (λ (z : SetState R D). z.tally) does.after
-      ∙ ap (λ (t : Tally). tallied t (begun_at e.moment (now_of (with_place does.most h))) e.event (done_by k (now_of (with_place does.most h)) e)) (placed_tally k (is_full does.most (length h.history)) h)
+      ∙ ap (λ (t : Tally). tallied t (begun_at e.moment (now_of (with_place most h))) e.event (done_by k (now_of (with_place most h)) e)) (placed_tally k (is_full most (length h.history)) h)
       ∙ ap (λ (w : World R). tallied h.tally (begun_at e.moment w) e.event (done_by k w e)) was_now
 
   -- If no put with notification is live before and after, no record is part of one.
@@ -278,9 +278,9 @@ module _ {R D : Type 0} (k : RecordRules R) (gives : D → Ask → ℕ → Answe
 
 -- An event was done on a set. It asks nothing of all puts with notification, and leaves the counts
 -- of the set as they were.
-module _ {R D : Type 0} (k : RecordRules R) (gives : D → Ask → ℕ → Answer → D → Type 0) (h h' : SetState R D) (moment : ℕ) (event : Event) (reply : Reply) (come_to base : World R) (seen : List Note) (owned : List Key) (entry : Entry) where
+module _ {R D : Type 0} (k : RecordRules R) (gives : D → Ask → ℕ → Answer → D → Type 0) (most : ℕ) (h h' : SetState R D) (moment : ℕ) (event : Event) (reply : Reply) (come_to base : World R) (seen : List Note) (owned : List Key) (entry : Entry) where
   pub record IsDoneAlone : Type 0 where
-    pub does : Does k gives h moment event reply h' come_to
+    pub does : Does k gives most h moment event reply h' come_to
     pub there : (n : ℕ) → Contains (names event) n → Has (now_of h) n
     pub laws : CallLaws k
     pub ordinary : is_ordinary event ≡ true
@@ -289,8 +289,8 @@ module _ {R D : Type 0} (k : RecordRules R) (gives : D → Ask → ℕ → Answe
     pub holds : Holds k (map_of k base seen) (now_of h)
     pub entry_is : entry_of_event does.entry ≡ entry
 
-module _ {R D : Type 0} {k : RecordRules R} {gives : D → Ask → ℕ → Answer → D → Type 0} {h h' : SetState R D} {moment : ℕ} {event : Event} {reply : Reply} {come_to base : World R} {seen : List Note} {owned : List Key} {entry : Entry}
-    (d : IsDoneAlone k gives h h' moment event reply come_to base seen owned entry) where
+module _ {R D : Type 0} {k : RecordRules R} {gives : D → Ask → ℕ → Answer → D → Type 0} {most : ℕ} {h h' : SetState R D} {moment : ℕ} {event : Event} {reply : Reply} {come_to base : World R} {seen : List Note} {owned : List Key} {entry : Entry}
+    (d : IsDoneAlone k gives most h h' moment event reply come_to base seen owned entry) where
   abbrev alone : (desk call : ℕ) → List Key → Note
   alone desk call own = noted (journalled desk call (entry_of_event d.does.entry)) (owned ++ own)
 

@@ -24,7 +24,7 @@ use Rattle.ioc_journal.specs.Covering.{Holds, Cover}
 use Rattle.ioc_journal.specs.Laws.{GoesOn}
 use Rattle.ioc_set.specs.SetState.{SetState, now_of, held_after}
 use Rattle.ioc_set.specs.Sound.{IsSound}
-use Rattle.ioc_set.specs.Doing.{Does, with_place}
+use Rattle.ioc_set.specs.Doing.{Does, IsShort, with_place}
 use Rattle.ioc_journaled_set.specs.Puts.{told_at}
 
 -- A cancel that was done, in which no device answers, as a set has it in its history, and as the
@@ -55,15 +55,15 @@ pub record CameToNothing {R : Type 0} (come_to : World R) : Type 0 where
 
 module _ {R D : Type 0} (k : RecordRules R) where
   -- A put with notification is canceled in a set, which is otherwise unchanged; the cancel, with
-  -- its time stamp, is appended to the set's own history.
-  pub record GivesUp (moment number : ℕ) (before after : SetState R D) : Type 0 where
+  -- its time stamp, is appended to the set's own history, which keeps at most `most` entries.
+  pub record GivesUp (most moment number : ℕ) (before after : SetState R D) : Type 0 where
     pub records : after.records ≡ (cancelled k number (now_of before)).records
     pub waiting : after.waiting ≡ (cancelled k number (now_of before)).waiting
     pub live : after.live ≡ (cancelled k number (now_of before)).live
     pub devices : get after.devices ≡ get before.devices
     pub tally : after.tally ≡ before.tally
-    pub most : ℕ
     pub told : after ≡ held_after k (with_place most before) (cancel_event moment number) after.devices
+    pub short : IsShort most after
 
   -- Holds if a set is sound and held, and these keys include those of its records.
   pub record IsHeldSoundly (m : World R) (keys : List Key) (h : SetState R D) : Type 0 where
@@ -74,23 +74,23 @@ module _ {R D : Type 0} (k : RecordRules R) where
   -- Each of the sets in which the put with notification is canceled is held in the world of all
   -- records then; no record is part of it, the counts of all others are unchanged, and none ends.
   pub record IsGivenUpByAll (moment number : ℕ) (sets : List (SetState R D)) (before after : World R) : Type 0 where
-    pub held : (h then : SetState R D) → Contains sets h → GivesUp moment number h then → Holds k after (now_of then)
+    pub held : (most : ℕ) (h then : SetState R D) → Contains sets h → GivesUp most moment number h then → Holds k after (now_of then)
     pub nobody : holders_of number after.live ≡ 0
     pub others : (other : ℕ) → other ≢ number → holders_of other after.live ≡ holders_of other before.live
     pub none_ended : after.ended ≡ []
 
   -- The result of a cancel on a set.
-  pub record IsCancelled (moment number : ℕ) (before : SetState R D) (reply : Reply) (after : SetState R D) (come_to : World R) : Type 0 where
+  pub record IsCancelled (most moment number : ℕ) (before : SetState R D) (reply : Reply) (after : SetState R D) (come_to : World R) : Type 0 where
     pub answer : reply ≡ Plain
-    pub gives_up : GivesUp moment number before after
+    pub gives_up : GivesUp most moment number before after
     pub nothing : CameToNothing come_to
 
   -- A cancel of a put with notification that is live on a sound set cancels it there and has no
   -- other effect.
   abbrev pub CancelGivesUp : (D → Ask → ℕ → Answer → D → Type 0) → Type 0
-  CancelGivesUp gives = (before after : SetState R D) (moment number : ℕ) (reply : Reply) (come_to : World R)
-      → IsSound k before → is_live number before.live ≡ true → Does k gives before moment (Cancel number) reply after come_to
-      → IsCancelled moment number before reply after come_to
+  CancelGivesUp gives = (most : ℕ) (before after : SetState R D) (moment number : ℕ) (reply : Reply) (come_to : World R)
+      → IsSound k before → is_live number before.live ≡ true → Does k gives most before moment (Cancel number) reply after come_to
+      → IsCancelled most moment number before reply after come_to
 
 module _ {R : Type 0} (D : Type 0) (k : RecordRules R) where
   -- If the count of a put with notification in held sets without a common record is its count in

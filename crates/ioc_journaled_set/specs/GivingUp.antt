@@ -44,13 +44,13 @@ AreSameSets {R} {D} before after = (i : ℕ) (d : SetState R D) (e : HeldView R 
 abbrev pub AreSame : {R D : Type 0} → List (HeldView R D) → List (HeldView R D) → Type 0
 AreSame before after = (length after ≡ length before) × ((i : ℕ) (d e : HeldView _ _) → i < length before → IsSameSet (slice_index_or after i e) (slice_index_or before i d))
 
-module _ {R D : Type 0} (k : RecordRules R) (base : World R) (moment number : ℕ) (desk : DeskView) (before : List (SetState R D)) where
+module _ {R D : Type 0} (k : RecordRules R) (base : World R) (most moment number : ℕ) (desk : DeskView) (before : List (SetState R D)) where
   -- The put with notification is canceled in each of these journaled sets by one call of a desk,
   -- which is the last of the legal list that the desk, the sets and the table of the puts with
   -- notification have seen then. No record is part of it any more, the counts of all others are
   -- unchanged, none has ended, and none has begun meanwhile.
   pub record HeldGaveUp (kept : View) (desk_then : DeskView) (after : List (HeldView R D)) (kept_then : View) : Type 0 where
-    pub gives_up : (i : ℕ) (d : SetState R D) (e : HeldView R D) → i < length before → GivesUp k moment number (slice_index_or before i d) (slice_index_or after i e).set
+    pub gives_up : (i : ℕ) (d : SetState R D) (e : HeldView R D) → i < length before → GivesUp k most moment number (slice_index_or before i d) (slice_index_or after i e).set
     pub call : HasCalled k base desk (cancel_entry moment number) desk_then
     pub seen : (i : ℕ) (d : HeldView R D) → i < length after → (slice_index_or after i d).seen ≡ desk_then.seen
     pub keeps : kept_then ≡ holder desk_then.seen puts_key
@@ -59,10 +59,10 @@ module _ {R D : Type 0} (k : RecordRules R) (base : World R) (moment number : �
     pub none_ended : (map_of k base desk_then.seen).ended ≡ []
     pub none_began : numbers_given (calls desk_then.seen) ≡ numbers_given (calls kept.seen)
 
-module _ {R D : Type 0} (k : RecordRules R) (base : World R) (moment number : ℕ) (desk : DeskView) (before : List (HeldView R D)) where
+module _ {R D : Type 0} (k : RecordRules R) (base : World R) (most moment number : ℕ) (desk : DeskView) (before : List (HeldView R D)) where
   -- The same, with the counts of the lines of the table.
   pub record GaveUpOn (puts : PutsView) (desk_then : DeskView) (after : List (HeldView R D)) (puts_then : PutsView) : Type 0 where
-    pub gives_up : (i : ℕ) (d e : HeldView R D) → i < length before → GivesUp k moment number (slice_index_or before i d).set (slice_index_or after i e).set
+    pub gives_up : (i : ℕ) (d e : HeldView R D) → i < length before → GivesUp k most moment number (slice_index_or before i d).set (slice_index_or after i e).set
     pub call : HasCalled k base desk (cancel_entry moment number) desk_then
     pub seen : (i : ℕ) (d : HeldView R D) → i < length after → (slice_index_or after i d).seen ≡ desk_then.seen
     pub puts_seen : puts_then.seen ≡ desk_then.seen

@@ -1,6 +1,6 @@
 -- Sets under their locks, and the calls on them. Application Developer's Guide, "Database Locking,
 -- Scanning, and Processing". The journal is this project's own.
-use Rattle.std.specs.Prelude.{◌≡◌, ◌⊎◌, ℕ, Bool, true, false, List, [], Option, Some, None, MatchOption, unwrap_or, Ok}
+use Rattle.std.specs.Prelude.{◌≡◌, ◌⊎◌, ℕ, Bool, true, false, List, [], ◌∷◌, Option, Some, None, MatchOption, unwrap_or, Ok}
 use Rattle.std.specs.Option.{option_map}
 use Rattle.ioc_ledger.specs.Requests.{no_counts}
 use Rattle.ioc_ledger.specs.Shared.{ShareView, share_view}
@@ -30,7 +30,7 @@ use Rattle.ioc_journal.specs.Places.{IsNoPlace}
 use Rattle.ioc_set.specs.SetState.{SetState, now_of}
 use Rattle.ioc_set.specs.Sound.{IsSound}
 use Rattle.ioc_set.specs.NoCalls.{no_call}
-use Rattle.ioc_set.specs.Doing.{Does}
+use Rattle.ioc_set.specs.Doing.{Does, IsShort}
 use Rattle.ioc_watched.specs.Watched.{WatchedRecord, StayWatched}
 use Rattle.ioc_journaled_set.specs.Puts.{BeginsUnder, told_at}
 
@@ -50,6 +50,12 @@ held_view h seen = watching h seen []
 -- The numbers of the set's records.
 abbrev pub numbers_of : {R D : Type 0} → HeldView R D → List ℕ
 numbers_of v = keys v.set.records
+
+-- The number of events that a set keeps in its history at most: the limit of the engine. If records
+-- of the set are watched, its history is cleared before each event.
+abbrev pub kept_at_most : ℕ → List WatchedRecord → ℕ
+kept_at_most limit [] = limit
+kept_at_most limit (w ∷ ws) = 0
 
 -- Holds if each of the set's records has its device, of which `had` tells, or none if it had none.
 abbrev pub KeepsDevices : {R D : Type 0} → (ℕ → Option D → Type 0) → SetState R D → Type 0
@@ -120,12 +126,14 @@ module _ {R D : Type 0} (k : RecordRules R) (base : World R) where
     pub call : HasCalled k base desk (told_at at_moment (call.Get number field (Ok text))) desk_then
     pub seen : held_then.seen ≡ desk_then.seen
 
-module _ {R D : Type 0} (k : RecordRules R) (gives : D → Ask → ℕ → Answer → D → Type 0) (base : World R) where
+module _ {R D : Type 0} (k : RecordRules R) (gives : D → Ask → ℕ → Answer → D → Type 0) (base : World R) (limit : ℕ) where
   -- An event of a desk is done on a set, and is the last call of the legal list that desk and set
-  -- have seen afterwards.
+  -- have seen afterwards. The set keeps as many events as the limit of the engine says at most, or
+  -- one.
   pub record Serves (held : HeldView R D) (desk : DeskView) (at_moment : ℕ) (done : Event) (reply : Reply) (held_then : HeldView R D) (desk_then : DeskView) (come_to : World R) : Type 0 where
     pub is_call : no_call k (now_of held.set) done ≡ None
-    pub does : Does k gives held.set at_moment done reply held_then.set come_to
+    pub does : Does k gives (kept_at_most limit held.watched) held.set at_moment done reply held_then.set come_to
+    pub short : IsShort limit held_then.set
     pub call : HasCalled k base desk (entry_of_event does.entry) desk_then
     pub seen : held_then.seen ≡ desk_then.seen
     pub watched : StayWatched held.watched held_then.watched

@@ -27,9 +27,10 @@ module _ {R D : Type 0} where
     pub live : IsLiveOnEach number sets
 
 module _ {R D : Type 0} (k : RecordRules R) where
-  -- The put with notification is canceled in each of these sets, with this time stamp.
-  abbrev pub EachGivesUp : (moment number : ℕ) → List (SetState R D) → List (SetState R D) → Type 0
-  EachGivesUp moment number before after = (i : ℕ) (d : SetState R D) → i < length before → GivesUp k moment number (slice_index_or before i d) (slice_index_or after i d)
+  -- The put with notification is canceled in each of these sets, with this time stamp. Each keeps at
+  -- most `most` events.
+  abbrev pub EachGivesUp : (most moment number : ℕ) → List (SetState R D) → List (SetState R D) → Type 0
+  EachGivesUp most moment number before after = (i : ℕ) (d : SetState R D) → i < length before → GivesUp k most moment number (slice_index_or before i d) (slice_index_or after i d)
 
   module _ (base : World R) where
     -- Holds if the owner of this pass holds the records of the set.
@@ -53,8 +54,8 @@ module _ {R D : Type 0} (k : RecordRules R) where
     -- is held by the pass beside it, which owns the keys of its records. No record is part of it
     -- any more, the counts of all others are unchanged, none has ended, and none has begun
     -- meanwhile. The pass of the puts with notification knows this and owns their key alone.
-    pub record GaveUp (table : TableId) (moment number : ℕ) (desk : DeskView) (before : List (SetState R D)) (kept : View) (desk_then : DeskView) (after : List (SetState R D)) (passes : List Slot) (kept_then : View) : Type 0 where
-      pub gives_up : EachGivesUp moment number before after
+    pub record GaveUp (table : TableId) (most moment number : ℕ) (desk : DeskView) (before : List (SetState R D)) (kept : View) (desk_then : DeskView) (after : List (SetState R D)) (passes : List Slot) (kept_then : View) : Type 0 where
+      pub gives_up : EachGivesUp most moment number before after
       pub call : HasCalled k base desk (cancel_entry moment number) desk_then
       pub dealt : (i : ℕ) (d : SetState R D) (e : Slot) → i < length after → IsDealt table desk_then.seen (slice_index_or after i d) (slice_index_or passes i e)
       pub holds : (i : ℕ) (d : SetState R D) → i < length after → Holds k (map_of k base desk_then.seen) (now_of (slice_index_or after i d))

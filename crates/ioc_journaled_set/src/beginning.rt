@@ -44,8 +44,8 @@ impl<K: RecordKind + Drop, B: SetsName<K, D>, D: Device> JournaledSet<K, B, D> {
         put: FieldPut,
     ) -> Result<Served<K, B>, IocError>
         requires there { Contains (numbers_of self.old) put.number }
-        ensures begins { IfOk result (λ x. Begins K.rules D.gives B.base self.old desk.old put.moment put.number put.field put.given
-            x.reply self.new desk.new (world_of buffers.new.store)) }
+        ensures begins { IfOk result (λ x. Begins K.rules D.gives B.base access.now.history self.old desk.old put.moment put.number
+            put.field put.given x.reply self.new desk.new (world_of buffers.new.store)) }
         ensures ended { OnOk result (HaveEnded K.rules B.base (world_of buffers.new.store).ended desk.new.seen
             buffers.new.ended_everywhere.items) }
         ensures receipt { IfOk result (λ x. x.receipt ≡ desk.new.seen) }

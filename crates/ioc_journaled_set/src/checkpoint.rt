@@ -166,7 +166,7 @@ fn give_entries<K: RecordKind + Drop, B: SetsName<K, D>, D: Device, R: Wait>(
     requires waiting { base.waiting.items ≡ flat_map (λ h. h.set.waiting) sets.old }
     ensures sets { map (λ h. h.set) sets.new ≡ map (λ h. h.set) sets.old }
     ensures desk { HasSeenMore desk.old desk.new }
-    ensures given { IfOk result (λ excerpt. IsGiven from (calls desk.new.seen) excerpt.first excerpt.entries.items) }
+    ensures given { IfOk result (λ excerpt. IsGiven from (calls desk.new.seen) excerpt.first excerpt.kept_from excerpt.entries.items) }
     ensures refused { IfErr result IsNoPlace }
 {
     let rt = access.rt;
@@ -183,12 +183,15 @@ fn give_entries<K: RecordKind + Drop, B: SetsName<K, D>, D: Device, R: Wait>(
     Ok(excerpt)
 }
 
-// Clears the histories of these sets.
-fn fold_all<K: RecordKind + Drop, B: SetsName<K, D>, D: Device>(sets: &mut [JournaledSet<K, B, D>])
+// Clears the histories of these sets, and gives their memory back.
+fn fold_all<K: RecordKind + Drop, B: SetsName<K, D>, D: Device>(
+    alloc: Global,
+    sets: &mut [JournaledSet<K, B, D>],
+)
     ensures { map (λ h. h.set) sets.new ≡ map (λ h. folded h.set) sets.old }
 {
     for place in 0..sets.len() {
-        sets[place].fold();
+        sets[place].fold(alloc);
     }
 }
 
@@ -238,7 +241,7 @@ pub fn checkpoint_on<K: RecordKind + Drop, B: SetsName<K, D>, D: Device, R: Wait
     if !drop_entries(rt, shared, sets, base) {
         return Err(IocError::JournalFull);
     }
-    fold_all(sets);
+    fold_all(alloc, sets);
     Ok(true)
 }
 
@@ -260,13 +263,13 @@ pub fn checkpoint_giving<K: RecordKind + Drop, B: SetsName<K, D>, D: Device, R: 
     requires known { (n : ℕ) → Has B.base n → n < count }
     ensures same { map (λ h. folded h.set) sets.new ≡ map (λ h. folded h.set) sets.old }
     ensures desk { HasSeenMore desk.old desk.new }
-    ensures given { IfOk result (λ o. IfSome o (λ excerpt. IsGiven from (calls desk.new.seen) excerpt.first excerpt.entries.items)) }
+    ensures given { IfOk result (λ o. IfSome o (λ excerpt. IsGiven from (calls desk.new.seen) excerpt.first excerpt.kept_from excerpt.entries.items)) }
     ensures refused { IfErr result IsNoPlace }
 {
     let Some(base) = base_of(access.alloc, sets, count)? else {
         return Ok(None);
     };
     let excerpt = give_entries(access, desk, sets, base, from)?;
-    fold_all(sets);
+    fold_all(access.alloc, sets);
     Ok(Some(excerpt))
 }

@@ -150,8 +150,8 @@ fn give_up_lent<K: RecordKind + Drop, B: SetsName<K, D>, D: Device, R: Wait>(
         × (length lent.shares.items ≡ length held.old) }
     requires lent { EachIsLent K.rules B.base (IsDeviceOf D.gives B.devices) B.table lent.sets.items lent.passes.items }
     requires counted { EachIsCounted lent.sets.items lent.shares.items }
-    ensures gave_up { IfOk result (λ given. IfSome given (λ _. HeldGaveUp K.rules B.base moment put.number desk.old lent.sets.items
-        (cell_view keeper.old) desk.new held.new (cell_view keeper.new))) }
+    ensures gave_up { IfOk result (λ given. IfSome given (λ _. HeldGaveUp K.rules B.base access.now.history moment put.number desk.old
+        lent.sets.items (cell_view keeper.old) desk.new held.new (cell_view keeper.new))) }
     ensures receipt { IfOk result (λ given. IfSome given (λ receipt. receipt ≡ desk.new.seen)) }
     ensures table { keeper.new.table_id ≡ B.table }
     ensures ended { buffers.new.ended_everywhere.items ≡ [] }
@@ -184,8 +184,8 @@ fn cancel_unwatched<K: RecordKind + Drop, B: SetsName<K, D>, D: Device, R: Wait>
     number: NotifyId,
     moment: u64,
 ) -> Result<Option<Receipt<K, B>>, IocError>
-    ensures gave_up { IfOk result (λ given. IfSome given (λ _. GaveUpOn K.rules B.base moment number desk.old held.old all.old
-        desk.new held.new all.new)) }
+    ensures gave_up { IfOk result (λ given. IfSome given (λ _. GaveUpOn K.rules B.base access.now.history moment number desk.old held.old
+        all.old desk.new held.new all.new)) }
     ensures receipt { IfOk result (λ given. IfSome given (λ receipt. receipt ≡ desk.new.seen)) }
     ensures ended { IfOk result (λ given. IfSome given (λ _. buffers.new.ended_everywhere.items ≡ [])) }
     ensures missing { IfOk result (λ given. IfNone given (AreSameSets (sets_of held.old) held.new × (all.new ≡ all.old)
@@ -273,8 +273,8 @@ pub fn cancel_on<K: RecordKind + Drop, B: SetsName<K, D>, D: Device, R: Wait>(
     number: NotifyId,
     moment: u64,
 ) -> Result<Option<Receipt<K, B>>, IocError>
-    ensures gave_up { IfOk result (λ given. IfSome given (λ _. GaveUpOn K.rules B.base moment number desk.old held.old all.old
-        desk.new held.new all.new)) }
+    ensures gave_up { IfOk result (λ given. IfSome given (λ _. GaveUpOn K.rules B.base access.now.history moment number desk.old held.old
+        all.old desk.new held.new all.new)) }
     ensures receipt { IfOk result (λ given. IfSome given (λ receipt. receipt ≡ desk.new.seen)) }
     ensures ended { IfOk result (λ given. IfSome given (λ _. buffers.new.ended_everywhere.items ≡ [])) }
     ensures missing { IfOk result (λ given. IfNone given (AreSameSets (sets_of held.old) held.new × (all.new ≡ all.old)

@@ -16,4 +16,6 @@ pub struct JournalAccess<'a, K: RecordKind, B: JournalName<K>, R> {
     pub journal: &'a SharedJournal<K, B>,
     /// The list of the records that calls mark, whose lock is taken last.
     pub marks: &'a Mutex<MarkedRecords>,
+    /// The number of events that a set keeps in its history at most, from 1 to 64. An event on a set with watched records has 0.
+    pub history: usize,
 }

@@ -1,5 +1,8 @@
 //! Sets whose events are added to the journal.
 ghost use Rattle.std.specs.Prelude.{◌≡◌, ◌⊎◌, ℕ, true, [], None, Some, Err, IfOk, IfErr, OnOk, OnErr, Contains};
+ghost use Rattle.ioc_journal.specs.Tickets.{spent_by};
+ghost use Rattle.ioc_journal.specs.Counting.{is_request};
+ghost use Rattle.ioc_events.specs.declared.event.Call.TheVariants as call;
 ghost use Rattle.std.specs.Option.{IfSome};
 ghost use Rattle.crossbeam_utils.specs.Seq.{cell_view};
 ghost use Rattle.ioc_events.specs.Step.{names, shown};
@@ -9,7 +12,7 @@ ghost use Rattle.ioc_journal.specs.Covering.{Holds};
 ghost use Rattle.ioc_journal.specs.Legal.{map_of};
 ghost use Rattle.ioc_set.specs.SetState.{NoneIsLive, folded, now_of};
 ghost use Rattle.ioc_set.specs.NoCalls.{no_call};
-ghost use Rattle.ioc_set.specs.Doing.{is_ordinary, IsShort};
+ghost use Rattle.ioc_set.specs.Doing.{is_ordinary};
 ghost use Rattle.ioc_journal.specs.Places.{IsNoPlace};
 ghost use Rattle.ioc_set.specs.SetStore.{world_of};
 ghost use Rattle.ioc_journal.specs.Account.{number_begun, HasSeenMore, IsAccount};
@@ -97,13 +100,13 @@ impl<K: RecordKind, B: SetsName<K, D>, D: Device> JournaledSet<K, B, D> {
         }
     }
 
-    /// Clears the set's history.
-    pub fn fold(&mut self)
+    /// Clears the set's history, and gives its memory back.
+    pub fn fold(&mut self, alloc: Global)
         ensures set { self.new.set ≡ folded self.old.set }
         ensures seen { self.new.seen ≡ self.old.seen }
         ensures watched { self.new.watched ≡ self.old.watched }
     {
-        self.set.fold();
+        self.set.fold(alloc);
     }
 
     /// Returns the set, the pass that owns the keys of its records, and its share of the engine's
@@ -199,9 +202,8 @@ impl<K: RecordKind + Drop, B: SetsName<K, D>, D: Device> JournaledSet<K, B, D> {
         requires is_call { no_call K.rules (now_of self.old.set) event.now ≡ None }
         requires none { NoneIsLive self.old.set }
         requires unwatched { self.old.watched ≡ [] }
-        ensures short { OnOk result (IsShort buffers.old.history self.new.set) }
-        ensures serves { IfOk result (λ x. Serves K.rules D.gives B.base self.old desk.old moment event.now x.reply self.new desk.new
-            (world_of buffers.new.store)) }
+        ensures serves { IfOk result (λ x. Serves K.rules D.gives B.base access.now.history self.old desk.old moment event.now
+            x.reply self.new desk.new (world_of buffers.new.store)) }
         ensures receipt { IfOk result (λ x. x.receipt ≡ desk.new.seen) }
         ensures tickets { IfOk result (λ x. AreTicketsFor K.rules B.base desk.new.seen (world_of buffers.new.store).outbox x.tickets) }
         ensures ended { OnOk result (HaveEnded K.rules B.base (world_of buffers.new.store).ended desk.new.seen
@@ -209,7 +211,8 @@ impl<K: RecordKind + Drop, B: SetsName<K, D>, D: Device> JournaledSet<K, B, D> {
         ensures refused { IfErr result IsNoPlace }
         ensures err { OnErr result ((self.new ≡ self.old) × (desk.new ≡ desk.old)) }
         ensures ticket { OnErr result (ticket.new ≡ ticket.old) }
-        ensures spent { OnOk result (ticket.new ≡ None) }
+        ensures gone { OnOk result (ticket.new ≡ None) }
+        ensures spent { IfOk result (λ x. x.spent ≡ spent_by (is_request (call.Event event.now x.reply)) ticket.old) }
     {
         calls_have_laws::<K>();
         sets_stay_without_puts::<K, D>();
@@ -222,6 +225,7 @@ impl<K: RecordKind + Drop, B: SetsName<K, D>, D: Device> JournaledSet<K, B, D> {
             access.alloc,
             event,
             moment,
+            access.history,
         ) {
             Ok(done) => done,
             Err(_refused) => {
@@ -250,6 +254,7 @@ impl<K: RecordKind + Drop, B: SetsName<K, D>, D: Device> JournaledSet<K, B, D> {
             reply,
             receipt: appended.receipt,
             tickets: appended.tickets,
+            spent: appended.spent,
         })
     }
 
@@ -270,9 +275,8 @@ impl<K: RecordKind + Drop, B: SetsName<K, D>, D: Device> JournaledSet<K, B, D> {
         requires there { (n : ℕ) → Contains (names event.now) n → Contains (numbers_of self.old) n }
         requires is_call { no_call K.rules (now_of self.old.set) event.now ≡ None }
         requires unwatched { self.old.watched ≡ [] }
-        ensures short { OnOk result (IsShort buffers.old.history self.new.set) }
-        ensures serves { IfOk result (λ x. Serves K.rules D.gives B.base self.old desk.old moment event.now x.reply self.new desk.new
-            (world_of buffers.new.store)) }
+        ensures serves { IfOk result (λ x. Serves K.rules D.gives B.base access.now.history self.old desk.old moment event.now
+            x.reply self.new desk.new (world_of buffers.new.store)) }
         ensures begins { OnOk result (IfSome (number_begun event.now) (λ number. BeginsUnder K.rules B.base number desk.new.seen)) }
         ensures receipt { IfOk result (λ x. x.receipt ≡ desk.new.seen) }
         ensures tickets { IfOk result (λ x. AreTicketsFor K.rules B.base desk.new.seen (world_of buffers.new.store).outbox x.tickets) }
@@ -281,7 +285,8 @@ impl<K: RecordKind + Drop, B: SetsName<K, D>, D: Device> JournaledSet<K, B, D> {
         ensures refused { IfErr result IsNoPlace }
         ensures err { OnErr result ((self.new ≡ self.old) × (desk.new ≡ desk.old)) }
         ensures ticket { OnErr result (ticket.new ≡ ticket.old) }
-        ensures spent { OnOk result (ticket.new ≡ None) }
+        ensures gone { OnOk result (ticket.new ≡ None) }
+        ensures spent { IfOk result (λ x. x.spent ≡ spent_by (is_request (call.Event event.now x.reply)) ticket.old) }
     {
         calls_have_laws::<K>();
         lines_tell_holders();
@@ -306,6 +311,7 @@ impl<K: RecordKind + Drop, B: SetsName<K, D>, D: Device> JournaledSet<K, B, D> {
             reply,
             receipt: appended.receipt,
             tickets: appended.tickets,
+            spent: appended.spent,
         })
     }
 
@@ -332,8 +338,8 @@ impl<K: RecordKind + Drop, B: SetsName<K, D>, D: Device> JournaledSet<K, B, D> {
     ) -> Result<Served<K, B>, IocError>
         requires ordinary { is_ordinary event.now ≡ true }
         requires there { (n : ℕ) → Contains (names event.now) n → Contains (numbers_of self.old) n }
-        ensures serves { IfOk result (λ x. Serves K.rules D.gives B.base self.old desk.old moment event.now x.reply self.new desk.new
-            (world_of buffers.new.store)) }
+        ensures serves { IfOk result (λ x. Serves K.rules D.gives B.base access.now.history self.old desk.old moment event.now
+            x.reply self.new desk.new (world_of buffers.new.store)) }
         ensures receipt { IfOk result (λ x. x.receipt ≡ desk.new.seen) }
         ensures tickets { IfOk result (λ x. AreTicketsFor K.rules B.base desk.new.seen (world_of buffers.new.store).outbox x.tickets) }
         ensures ended { OnOk result (HaveEnded K.rules B.base (world_of buffers.new.store).ended desk.new.seen
@@ -341,7 +347,8 @@ impl<K: RecordKind + Drop, B: SetsName<K, D>, D: Device> JournaledSet<K, B, D> {
         ensures refused { IfErr result (IsNoCall K.rules self.old.set event.now) }
         ensures err { OnErr result ((self.new ≡ self.old) × (desk.new ≡ desk.old)) }
         ensures ticket { OnErr result (ticket.new ≡ ticket.old) }
-        ensures spent { OnOk result (ticket.new ≡ None) }
+        ensures gone { OnOk result (ticket.new ≡ None) }
+        ensures spent { IfOk result (λ x. x.spent ≡ spent_by (is_request (call.Event event.now x.reply)) ticket.old) }
     {
         self.test_call(event)?;
         if self.watched.is_some() {
@@ -366,9 +373,8 @@ impl<K: RecordKind + Drop, B: SetsName<K, D>, D: Device> JournaledSet<K, B, D> {
         requires there { (n : ℕ) → Contains (names event.now) n → Contains (numbers_of self.old) n }
         requires is_call { no_call K.rules (now_of self.old.set) event.now ≡ None }
         requires unwatched { self.old.watched ≡ [] }
-        ensures short { OnOk result (IsShort buffers.old.history self.new.set) }
-        ensures serves { IfOk result (λ x. Serves K.rules D.gives B.base self.old desk.old moment event.now x.reply self.new desk.new
-            (world_of buffers.new.store)) }
+        ensures serves { IfOk result (λ x. Serves K.rules D.gives B.base access.now.history self.old desk.old moment event.now
+            x.reply self.new desk.new (world_of buffers.new.store)) }
         ensures receipt { IfOk result (λ x. x.receipt ≡ desk.new.seen) }
         ensures tickets { IfOk result (λ x. AreTicketsFor K.rules B.base desk.new.seen (world_of buffers.new.store).outbox x.tickets) }
         ensures ended { OnOk result (HaveEnded K.rules B.base (world_of buffers.new.store).ended desk.new.seen
@@ -376,7 +382,8 @@ impl<K: RecordKind + Drop, B: SetsName<K, D>, D: Device> JournaledSet<K, B, D> {
         ensures refused { IfErr result IsNoPlace }
         ensures err { OnErr result ((self.new ≡ self.old) × (desk.new ≡ desk.old)) }
         ensures ticket { OnErr result (ticket.new ≡ ticket.old) }
-        ensures spent { OnOk result (ticket.new ≡ None) }
+        ensures gone { OnOk result (ticket.new ≡ None) }
+        ensures spent { IfOk result (λ x. x.spent ≡ spent_by (is_request (call.Event event.now x.reply)) ticket.old) }
     {
         if self.set.none_is_live() {
             return self.serve_alone(access, desk, buffers, event, moment, ticket);

@@ -30,6 +30,7 @@ mod running;
 pub mod sets_name;
 pub mod shared_notifications;
 pub mod together;
+mod watch_signs;
 mod watching;
 
 pub use changing::{Changed, change_link};
@@ -43,3 +44,4 @@ pub use journaled_set::JournaledSet;
 pub use running::Served;
 pub use sets_name::SetsName;
 pub use shared_notifications::SharedNotifications;
+pub use watch_signs::{NoMoreWatched, NowWatched};

@@ -10,7 +10,7 @@ ghost use Rattle.ioc_set.specs.Sound.{IsSound};
 use crate::journal_access::JournalAccess;
 use ioc_device::Device;
 use ioc_events::{Call, Entry, Event, KeptAnswers, Reply};
-use ioc_journal::{DeskAccount, JournalName, Place, Receipt, RequestTickets};
+use ioc_journal::{DeskAccount, JournalName, Place, Receipt, RequestTickets, SpentTicket};
 use ioc_ledger::Tickets;
 use ioc_notify::Live;
 use ioc_record::RecordKind;
@@ -41,10 +41,12 @@ pub struct Served<K: RecordKind, B: JournalName<K>> {
     pub receipt: Receipt<K, B>,
     /// A ticket for each once request that the event has sent.
     pub tickets: Tickets<RequestTickets<K, B>>,
+    /// The ticket that was spent, if it is a request that came with one.
+    pub spent: Option<SpentTicket<K, B>>,
 }
 
 /// Performs an event on a set, and returns the reply and the answers of devices, in memory of their
-/// own size.
+/// own size. The set keeps at most `most` events.
 ///
 /// # Errors
 ///
@@ -56,17 +58,18 @@ pub(crate) fn run_with_answers<K: RecordKind + Drop, D: Device>(
     alloc: Global,
     event: &Event,
     moment: u64,
+    most: usize,
 ) -> Result<(Reply, KeptAnswers), AllocError>
-    ensures ok { IfOk result (λ done. Does K.rules D.gives set.old moment event.now done.0 set.new (world_of buffers.new.store)) }
+    ensures ok { IfOk result (λ done. Does K.rules D.gives most set.old moment event.now done.0 set.new (world_of buffers.new.store)) }
     ensures answers { IfOk result (λ done. done.1 ≡ answers_of (world_of buffers.new.store).calls) }
-    ensures short { OnOk result (IsShort buffers.old.history set.new) }
+    ensures short { OnOk result (IsShort most set.new) }
     ensures err { OnErr result (set.new ≡ set.old) }
 {
     // Reserved before the event, because nothing may be refused after it, and kept for the next
     // one.
     let mut spare = mem::replace(&mut buffers.journal_spare, Vec::new(alloc));
     spare.reserve(256)?;
-    let reply = set.do_event(buffers, alloc, event, moment)?;
+    let reply = set.do_event(buffers, alloc, event, moment, most)?;
     let answers = kept_answers(&buffers.store.event.calls, &mut spare, alloc);
     buffers.journal_spare = spare;
     Ok((reply, answers))
@@ -87,13 +90,14 @@ pub(crate) fn run_counted<K: RecordKind + Drop, B: JournalName<K>, D: Device, R:
     event: &Event,
     moment: u64,
 ) -> Result<Ran<K, B>, IocError>
-    ensures does { IfOk result (λ ran. Does K.rules D.gives set.old moment event.now ran.reply set.new (world_of buffers.new.store)) }
+    ensures does { IfOk result (λ ran. Does K.rules D.gives access.now.history set.old moment event.now ran.reply set.new
+        (world_of buffers.new.store)) }
     ensures entry { IfOk result (λ ran. ran.entry
         ≡ record { moment = moment; call = call.Event event.now ran.reply; answers = answers_of (world_of buffers.new.store).calls }) }
     ensures before { IfOk result (λ ran. ran.before.items ≡ set.old.live) }
     ensures few { OnOk result (length set.new.live ≤ 256) }
     ensures sound { OnOk result (IsSound K.rules set.new) }
-    ensures short { OnOk result (IsShort buffers.old.history set.new) }
+    ensures short { OnOk result (IsShort access.now.history set.new) }
     ensures refused { IfErr result IsNoPlace }
     ensures err { OnErr result (set.new ≡ set.old) }
 {
@@ -101,7 +105,14 @@ pub(crate) fn run_counted<K: RecordKind + Drop, B: JournalName<K>, D: Device, R:
         return Err(IocError::NoMemory);
     };
     let place = access.journal.reserve(access.rt, access.alloc, desk)?;
-    let (reply, answers) = match run_with_answers(set, buffers, access.alloc, event, moment) {
+    let (reply, answers) = match run_with_answers(
+        set,
+        buffers,
+        access.alloc,
+        event,
+        moment,
+        access.history,
+    ) {
         Ok(done) => done,
         Err(_refused) => {
             access.journal.give_back(access.rt, desk, place);

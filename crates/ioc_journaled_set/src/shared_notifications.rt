@@ -1,5 +1,6 @@
 //! The puts with notification of all lock sets, in one table.
 ghost use Rattle.std.specs.Prelude.{◌≡◌, ◌⊎◌, ◌↔◌, ◌+◌, ◌≤◌, ◌<◌, ◌^◌, ◌∷◌, ◌++◌, ℕ, [], true, false, length, not, IfOk, IfErr};
+ghost use Rattle.ioc_journal.specs.Tickets.{spent_by};
 ghost use Rattle.std.specs.Prelude.{OnErr, IfNone, List, Some, Contains, IsTrue};
 ghost use Rattle.std.specs.List.{filter};
 ghost use Rattle.std.specs.Option.{IfSome};
@@ -8,7 +9,7 @@ ghost use Rattle.crossbeam_utils.specs.Seq.{cell_view};
 ghost use Rattle.ioc_notify.specs.Living.{is_live};
 ghost use Rattle.ioc_notify.specs.Counts.{IsTable, holders_in};
 ghost use Rattle.ioc_journal.specs.declared.entry.Note.{Note};
-ghost use Rattle.ioc_journal.specs.Counting.{BothMaySend, BothMayCount, IsBacked, IsGivenBack, once_in};
+ghost use Rattle.ioc_journal.specs.Counting.{BothMaySend, BothMayCount, IsBacked, IsGivenBack, is_request, once_in};
 ghost use Rattle.ioc_journaled_set.specs.Sent.{AreTicketsFor};
 ghost use Rattle.ioc_journal.specs.Line.{holder};
 ghost use Rattle.ioc_journal.specs.Account.{IsHolder, AreRecords, BothMayFollow, HasCalled, AddedByBoth, number_begun};
@@ -290,6 +291,7 @@ pub(crate) fn keep_beside<K: RecordKind, B: JournalName<K>, D, R: Wait>(
     ensures call { HasCalled K.rules B.base desk.old ran.entry desk.new }
     ensures receipt { result.receipt ≡ desk.new.seen }
     ensures tickets { AreTicketsFor K.rules B.base desk.new.seen (world_of buffers.old.store).outbox result.tickets }
+    ensures spent { result.spent ≡ spent_by (is_request ran.entry.call) counts.ticket }
     ensures share { IsGivenBack counts.share counts.after result.share }
     ensures pass { (pass.new.table_id ≡ B.table) × (cell_view pass.new ≡ holder desk.new.seen (cell_view pass.old).owns) }
     ensures seen { all.new.seen ≡ desk.new.seen }

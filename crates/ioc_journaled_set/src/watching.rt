@@ -1,5 +1,8 @@
 //! Watched records of journaled sets. Each is marked, or is what it was after the calls up to which it was told last.
-ghost use Rattle.std.specs.Prelude.{◌≡◌, ◌≤◌, ◌+◌, ◌++◌, ◌∷◌, ℕ, [], length, true, None, map, if◌then◌else◌, Contains, IfOk};
+ghost use Rattle.std.specs.Prelude.{◌≡◌, ◌≤◌, ◌+◌, ◌++◌, ◌∷◌, ℕ, [], length, true, false, None, map, if◌then◌else◌, Contains, IfOk, MatchOption};
+ghost use Rattle.ioc_journal.specs.Tickets.{spent_by};
+ghost use Rattle.ioc_journal.specs.Counting.{is_request};
+ghost use Rattle.ioc_events.specs.declared.event.Call.TheVariants as call;
 ghost use Rattle.std.specs.Prelude.{IfErr, OnOk, OnErr};
 ghost use Rattle.std.specs.List.{list_any};
 ghost use Rattle.std.specs.Vec.{vec_capacity};
@@ -15,13 +18,14 @@ ghost use Rattle.ioc_watched.specs.Watched.{AreFresh, StayWatched, is_number, to
 ghost use Rattle.ioc_journaled_set.specs.Sent.{AreTicketsFor};
 ghost use Rattle.ioc_journaled_set.specs.Puts.{BeginsUnder, HaveEnded};
 ghost use Rattle.ioc_journaled_set.specs.Watching.{watched_numbers, IsSameSet, WatchesOn, WatchesThose};
-ghost use Rattle.ioc_journaled_set.specs.Holding.{held_view, is_on_record, numbers_of, watching, Serves};
+ghost use Rattle.ioc_journaled_set.specs.Holding.{held_view, is_on_record, kept_at_most, numbers_of, watching, Serves};
 
 use crate::journal_access::JournalAccess;
 use crate::journaled_set::JournaledSet;
 use crate::running::Served;
 use crate::sets_name::SetsName;
 use crate::shared_notifications::SharedNotifications;
+use crate::watch_signs::{NoMoreWatched, NowWatched};
 use ioc_device::Device;
 use ioc_events::Event;
 use ioc_journal::legal_laws::holding_lasts;
@@ -34,7 +38,6 @@ use ioc_values::IocError;
 use ioc_watched::kept_list::{add_to, remove_from, tell_in};
 use ioc_watched::{WatchList, Watched};
 use std::alloc::{AllocError, Global};
-use std::mem;
 use std::sync::{Mutex, Wait};
 
 /// The room for the watched records of a set after a link change.
@@ -70,17 +73,34 @@ impl<K: RecordKind + Drop, B: SetsName<K, D>, D: Device> JournaledSet<K, B, D> {
         }
     }
 
+    /// Returns the sign that a record is watched, if it is.
+    pub fn watched_sign(&self, number: RecordNo) -> Option<NowWatched<B>>
+        ensures { MatchOption result (list_any (is_number number) self.now.watched ≡ false)
+            (λ sign. (sign ≡ number) × (list_any (is_number number) self.now.watched ≡ true)) }
+    {
+        if self.is_watched(number) {
+            return Some(NowWatched::new(number));
+        }
+        None
+    }
+
     /// Watches a record of the set from now on. It is marked, since it wasn't told yet.
     ///
     /// # Errors
     ///
     /// [`AllocError`] if allocation fails; nothing has changed then.
-    pub fn watch(&mut self, alloc: Global, cell: &Cell, number: RecordNo) -> Result<(), AllocError>
+    pub fn watch(
+        &mut self,
+        alloc: Global,
+        cell: &Cell,
+        number: RecordNo,
+    ) -> Result<NowWatched<B>, AllocError>
         requires table { cell.now.table.shared.table_id ≡ B.table }
         requires there { Contains (numbers_of self.old) number }
         ensures ok { OnOk result (self.new ≡ watching self.old.set self.old.seen (self.old.watched
             ++ newly_watched number self.old.seen ∷ [])) }
         ensures err { OnErr result (self.new ≡ self.old) }
+        ensures sign { IfOk result (λ sign. sign ≡ number) }
     {
         let Some(mut pass) = self.pass.take() else {
             unreachable!();
@@ -88,14 +108,16 @@ impl<K: RecordKind + Drop, B: SetsName<K, D>, D: Device> JournaledSet<K, B, D> {
         let told = pass::copy(cell, &mut pass);
         self.pass = Some(pass);
         add_to(alloc, &mut self.watched, number, told)?;
-        Ok(())
+        Ok(NowWatched::new(number))
     }
 
     /// Watches a record no more.
-    pub fn unwatch(&mut self, number: RecordNo)
-        ensures { self.new ≡ watching self.old.set self.old.seen (unwatched number self.old.watched) }
+    pub fn unwatch(&mut self, number: RecordNo) -> NoMoreWatched<B>
+        ensures set { self.new ≡ watching self.old.set self.old.seen (unwatched number self.old.watched) }
+        ensures sign { result ≡ number }
     {
         remove_from(&mut self.watched, number);
+        NoMoreWatched::new(number)
     }
 
     /// Takes the mark off a record of the set, if it is watched: whoever calls this has shown what it is now.
@@ -215,8 +237,26 @@ impl<K: RecordKind + Drop, B: SetsName<K, D>, D: Device> JournaledSet<K, B, D> {
         self.keep_watched(Some(watched));
     }
 
-    // Performs a request, a put or a completion on a set with watched records. The set keeps no event before it in its history, so
-    // that the base tells what the event may have changed.
+    // Returns the access by which an event is done on the set. If records of the set are watched, it keeps no event before it in its
+    // history, so that the base tells what the event may have changed.
+    fn access_for<'a, R>(&self, access: &JournalAccess<'a, K, B, R>) -> JournalAccess<'a, K, B, R>
+        ensures { result.history ≡ kept_at_most access.now.history self.now.watched }
+    {
+        let history = if self.watched_count() == 0 {
+            access.history
+        } else {
+            0
+        };
+        JournalAccess {
+            rt: access.rt,
+            alloc: access.alloc,
+            journal: access.journal,
+            marks: access.marks,
+            history,
+        }
+    }
+
+    // Performs a request, a put or a completion on a set with watched records.
     #[inline(never)]
     pub(crate) fn serve_watched<R: Wait>(
         &mut self,
@@ -231,8 +271,8 @@ impl<K: RecordKind + Drop, B: SetsName<K, D>, D: Device> JournaledSet<K, B, D> {
         requires ordinary { is_ordinary event.now ≡ true }
         requires there { (n : ℕ) → Contains (names event.now) n → Contains (numbers_of self.old) n }
         requires is_call { no_call K.rules (now_of self.old.set) event.now ≡ None }
-        ensures serves { IfOk result (λ x. Serves K.rules D.gives B.base self.old desk.old moment event.now x.reply self.new desk.new
-            (world_of buffers.new.store)) }
+        ensures serves { IfOk result (λ x. Serves K.rules D.gives B.base access.now.history self.old desk.old moment event.now
+            x.reply self.new desk.new (world_of buffers.new.store)) }
         ensures receipt { IfOk result (λ x. x.receipt ≡ desk.new.seen) }
         ensures tickets { IfOk result (λ x. AreTicketsFor K.rules B.base desk.new.seen (world_of buffers.new.store).outbox x.tickets) }
         ensures ended { OnOk result (HaveEnded K.rules B.base (world_of buffers.new.store).ended desk.new.seen
@@ -240,14 +280,14 @@ impl<K: RecordKind + Drop, B: SetsName<K, D>, D: Device> JournaledSet<K, B, D> {
         ensures refused { IfErr result IsNoPlace }
         ensures err { OnErr result ((self.new ≡ self.old) × (desk.new ≡ desk.old)) }
         ensures ticket { OnErr result (ticket.new ≡ ticket.old) }
-        ensures spent { OnOk result (ticket.new ≡ None) }
+        ensures gone { OnOk result (ticket.new ≡ None) }
+        ensures spent { IfOk result (λ x. x.spent ≡ spent_by (is_request (call.Event event.now x.reply)) ticket.old) }
     {
         histories_begin_before::<K, D>();
         self.set.is_sound();
+        let alone = self.access_for(access);
         let list = self.take_watched();
-        let history = mem::replace(&mut buffers.history, 0);
-        let served = self.serve_unwatched(access, puts, desk, buffers, event, moment, ticket);
-        buffers.history = history;
+        let served = self.serve_unwatched(&alone, puts, desk, buffers, event, moment, ticket);
         match served {
             Ok(done) => {
                 self.keep_changed(access, list);
@@ -276,8 +316,8 @@ impl<K: RecordKind + Drop, B: SetsName<K, D>, D: Device> JournaledSet<K, B, D> {
         requires on_record { is_on_record event.now ≡ true }
         requires there { (n : ℕ) → Contains (names event.now) n → Contains (numbers_of self.old) n }
         requires is_call { no_call K.rules (now_of self.old.set) event.now ≡ None }
-        ensures serves { IfOk result (λ x. Serves K.rules D.gives B.base self.old desk.old moment event.now x.reply self.new desk.new
-            (world_of buffers.new.store)) }
+        ensures serves { IfOk result (λ x. Serves K.rules D.gives B.base access.now.history self.old desk.old moment event.now
+            x.reply self.new desk.new (world_of buffers.new.store)) }
         ensures begins { OnOk result (IfSome (number_begun event.now) (λ number. BeginsUnder K.rules B.base number desk.new.seen)) }
         ensures receipt { IfOk result (λ x. x.receipt ≡ desk.new.seen) }
         ensures tickets { IfOk result (λ x. AreTicketsFor K.rules B.base desk.new.seen (world_of buffers.new.store).outbox x.tickets) }
@@ -286,17 +326,17 @@ impl<K: RecordKind + Drop, B: SetsName<K, D>, D: Device> JournaledSet<K, B, D> {
         ensures refused { IfErr result IsNoPlace }
         ensures err { OnErr result ((self.new ≡ self.old) × (desk.new ≡ desk.old)) }
         ensures ticket { OnErr result (ticket.new ≡ ticket.old) }
-        ensures spent { OnOk result (ticket.new ≡ None) }
+        ensures gone { OnOk result (ticket.new ≡ None) }
+        ensures spent { IfOk result (λ x. x.spent ≡ spent_by (is_request (call.Event event.now x.reply)) ticket.old) }
     {
         if self.watched.is_none() {
             return self.serve_counted(access, puts, desk, buffers, event, moment, ticket);
         }
         histories_begin_before::<K, D>();
         self.set.is_sound();
+        let alone = self.access_for(access);
         let list = self.take_watched();
-        let history = mem::replace(&mut buffers.history, 0);
-        let served = self.serve_counted(access, puts, desk, buffers, event, moment, ticket);
-        buffers.history = history;
+        let served = self.serve_counted(&alone, puts, desk, buffers, event, moment, ticket);
         match served {
             Ok(done) => {
                 self.keep_changed(access, list);

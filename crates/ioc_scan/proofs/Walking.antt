@@ -6,7 +6,9 @@ use Rattle.std.specs.List.Sorted.{IsStrictlySortedBy}
 use Rattle.std.specs.declared.cmp.Ordering.{Ordering}
 use Rattle.std.specs.declared.cmp.Ordering.TheVariants.{Less}
 use Rattle.std.specs.Ordering.{is_lt, eq_by_cmp}
-use Rattle.std.specs.Map.{lookup, keys_of}
+use Rattle.std.specs.List.{filter}
+use Rattle.std.specs.Map.{lookup, keys_of, values_of}
+use Rattle.std.proofs.lemmas.Map.Entries.{lookup-filter-keys}
 use Rattle.std.specs.FinMap.{entries, from_entries, entries_sorted, get-entries, get-from_entries}
 use Rattle.std.specs.FinMap.Entries.{find, is_sorted, below_all, same_entries}
 use Rattle.std.specs.BTreeMap.{BTreeMap, IsOrdered, get}
@@ -20,10 +22,10 @@ use Rattle.ioc_scan.specs.declared.position.Listed.{Listed}
 use Rattle.ioc_scan.specs.declared.position.ListEntry.{ListEntry}
 use Rattle.ioc_scan.specs.Positions.{position, listed, entry_of}
 use Rattle.ioc_scan.specs.Scanned.{Scanned}
-use Rattle.ioc_scan.specs.Members.{Agree}
-use Rattle.ioc_scan.specs.Standing.{standing}
+use Rattle.ioc_scan.specs.Members.{AreIndexed, HasAll}
+use Rattle.ioc_scan.specs.Standing.{standing, within}
 use Rattle.ioc_scan.specs.Walked.{standing_by, all_standing, walked}
-use Rattle.ioc_scan.proofs.Ordered.{exact, itself, total}
+use Rattle.ioc_scan.proofs.Ordered.{exact, itself, total, list_within}
 use Rattle.ioc_scan.proofs.Agreement.{so_placed}
 
 abbrev cmp : Position → Position → Ordering
@@ -32,6 +34,10 @@ cmp = order_of.ghosts.cmp
 both : (a b : Bool) → T a → T b → T (a && b)
 both true b p q = q
 both false b p q = p
+
+apart : (a b : Bool) → T (a && b) → T a × T b
+apart true b p = (tt, p)
+apart false b p = absurd p
 
 below : (k : Position) (es : List (Position × Listed)) → All (λ y. cmp k y ≡ Less) (keys_of es) → T (below_all cmp k es)
 below k [] h = tt
@@ -115,38 +121,75 @@ either_way None None f h = refl
 either_way None (Some x) f h = absurd (h x refl refl)
 either_way (Some x) g f h = sym (f x refl)
 
-module _ (es : List ListEntry) (last : ℕ) (m : BTreeMap Position Listed) (list : ListName) (agree : Agree es last m) (ordered : IsOrdered order_of.ghosts.cmp m) where
+-- Entries that a test of their keys keeps are sorted, as all are.
+below_kept : (p : Position → Bool) (k : Position) (b : Bool) (e : Position × Listed) (es : List (Position × Listed))
+    → T (is_lt (cmp k e.0)) → T (below_all cmp k (filter (λ y. p y.0) es)) → T (below_all cmp k (cond b (e ∷ filter (λ y. p y.0) es) (filter (λ y. p y.0) es)))
+below_kept p k true e es first rest = both (is_lt (cmp k e.0)) (below_all cmp k (filter (λ y. p y.0) es)) first rest
+below_kept p k false e es first rest = rest
+
+below_filter : (p : Position → Bool) (k : Position) (es : List (Position × Listed)) → T (below_all cmp k es) → T (below_all cmp k (filter (λ y. p y.0) es))
+below_filter p k [] h = h
+below_filter p k (e ∷ es) h = let parts = apart (is_lt (cmp k e.0)) (below_all cmp k es) h in below_kept p k (p e.0) e es parts.0 (below_filter p k es parts.1)
+
+sorted_kept : (p : Position → Bool) (b : Bool) (e : Position × Listed) (es : List (Position × Listed))
+    → T (below_all cmp e.0 (filter (λ y. p y.0) es)) → T (is_sorted cmp (filter (λ y. p y.0) es)) → T (is_sorted cmp (cond b (e ∷ filter (λ y. p y.0) es) (filter (λ y. p y.0) es)))
+sorted_kept p true e es first rest = both (below_all cmp e.0 (filter (λ y. p y.0) es)) (is_sorted cmp (filter (λ y. p y.0) es)) first rest
+sorted_kept p false e es first rest = rest
+
+sorted_filter : (p : Position → Bool) (es : List (Position × Listed)) → T (is_sorted cmp es) → T (is_sorted cmp (filter (λ y. p y.0) es))
+sorted_filter p [] h = h
+sorted_filter p (e ∷ es) h = let parts = apart (below_all cmp e.0 es) (is_sorted cmp es) h in sorted_kept p (p e.0) e es (below_filter p e.0 es parts.0) (sorted_filter p es parts.1)
+
+-- What is found in the part of a list.
+found_within : (list : ListName) (q : Position) (es : List (Position × Listed)) → find cmp q (filter (λ y. within list y.0) es) ≡ cond (within list q) (find cmp q es) None
+found_within list q es =
+    found_by q (filter (λ y. within list y.0) es)
+    ∙ lookup-filter-keys (eq_by_cmp cmp q) (within list) (within list q) (λ k e. ap (within list) (sym (tells_apart exact q k e))) es
+    ∙ ap (λ (o : Option Listed). cond (within list q) o None) (sym (found_by q es))
+
+if_within : (b : Bool) (o g : Option Listed) → (b ≡ true → o ≡ g) → cond b o None ≡ cond b g None
+if_within true o g h = h refl
+if_within false o g h = refl
+
+module _ (es : List ListEntry) (last upto : ℕ) (m : BTreeMap Position Listed) (list : ListName) (indexed : AreIndexed es last upto m) (has : HasAll es upto list) (ordered : IsOrdered order_of.ghosts.cmp m) where
   abbrev all : List (Position × Listed)
   all = all_standing 0 es
 
   abbrev tree : List (Position × Listed)
   tree = entries (from_entries {R = cmp} all)
 
-  same_found : (k : Position) → find cmp k all ≡ get cmp m k
-  same_found k =
+  same_found : (k : Position) → k.list ≡ list → find cmp k all ≡ get cmp m k
+  same_found k on =
       either_way (find cmp k all) (get cmp m k)
       (λ x e.
       let s = found 0 es k x e in
       let same : s.0 ≡ x.number = omega (arith, s.1) in
-      (agree.stands k x).1 (subst (λ (v : ℕ). (entry_of es v).place ≡ Some (record { list = k.list; phase = k.phase; priority = x.priority })) same s.2, subst (λ (v : ℕ). (entry_of es v).order ≡ k.order) same s.3))
-      (λ x e. let s = (agree.stands k x).0 e in there 0 es x.number k x s.0 s.1)
+      let place : (entry_of es x.number).place ≡ Some (record { list = k.list; phase = k.phase; priority = x.priority }) =
+      subst (λ (v : ℕ). (entry_of es v).place ≡ Some (record { list = k.list; phase = k.phase; priority = x.priority })) same s.2 in
+      indexed.found k x (place, subst (λ (v : ℕ). (entry_of es v).order ≡ k.order) same s.3) (has x.number (record { list = k.list; phase = k.phase; priority = x.priority }) place on))
+      (λ x e. let s = indexed.there k x e in there 0 es x.number k x s.0 s.1)
 
-  same_tree : tree ≡ m.entries
-  same_tree =
-      same_entries cmp total exact tree m.entries (entries_sorted (from_entries {R = cmp} all)) (rising m.entries ordered)
-      (λ q. sym (get-entries (from_entries {R = cmp} all) q) ∙ get-from_entries total all q ∙ same_found q ∙ sym (found_by q m.entries))
+  same_part : filter (λ y. within list y.0) tree ≡ filter (λ y. within list y.0) m.entries
+  same_part =
+      same_entries cmp total exact (filter (λ y. within list y.0) tree) (filter (λ y. within list y.0) m.entries)
+      (sorted_filter (within list) tree (entries_sorted (from_entries {R = cmp} all)))
+      (sorted_filter (within list) m.entries (rising m.entries ordered))
+      (λ q. found_within list q tree
+      ∙ if_within (within list q) (find cmp q tree) (find cmp q m.entries)
+      (λ e. sym (get-entries (from_entries {R = cmp} all) q) ∙ get-from_entries total all q ∙ same_found q (list_within list q e) ∙ sym (found_by q m.entries))
+      ∙ sym (found_within list q m.entries))
 
   -- The walk of the tree is the walk of the entries.
   pub same_walk : standing list m.entries ≡ walked (record { entries = es; last = last }) list
   unfolding walked
-  same_walk = ap (standing list) (sym same_tree)
+  same_walk = ap (λ (part : List (Position × Listed)). values_of part) (sym same_part)
 
 on_ok : {T E : Type 0} (r : Result T E) (P Q : Type 0) → OnOk r P → (P → Q) → OnOk r Q
 on_ok r P Q p f = elim r as (λ v. OnOk v P → OnOk v Q) [ Ok x ↦ f | Err e ↦ λ q. tt ] p
 
 -- What is written of a list into an empty buffer is its walk.
-pub written_walk : {X E : Type 0} (r : Result X E) (v : Scanned) (es : List ListEntry) (last : ℕ) (m : BTreeMap Position Listed) (list : ListName) (before after : List Listed)
-    → Agree es last m → IsOrdered order_of.ghosts.cmp m → record { entries = es; last = last } ≡ v → before ≡ [] → OnOk r (after ≡ before ++ standing list m.entries) → OnOk r (after ≡ walked v list)
-written_walk r v es last m list before after agree ordered is none ok =
+pub written_walk : {X E : Type 0} (r : Result X E) (v : Scanned) (es : List ListEntry) (last upto : ℕ) (m : BTreeMap Position Listed) (list : ListName) (before after : List Listed)
+    → AreIndexed es last upto m → HasAll es upto list → IsOrdered order_of.ghosts.cmp m → record { entries = es; last = last } ≡ v → before ≡ [] → OnOk r (after ≡ before ++ standing list m.entries) → OnOk r (after ≡ walked v list)
+written_walk r v es last upto m list before after indexed has ordered is none ok =
     on_ok r (after ≡ before ++ standing list m.entries) (after ≡ walked v list) ok
-    (λ e. e ∙ ap (λ (xs : List Listed). xs ++ standing list m.entries) none ∙ same_walk es last m list agree ordered ∙ ap (λ (s : Scanned). walked s list) is)
+    (λ e. e ∙ ap (λ (xs : List Listed). xs ++ standing list m.entries) none ∙ same_walk es last upto m list indexed has ordered ∙ ap (λ (s : Scanned). walked s list) is)

@@ -24,7 +24,7 @@ use Rattle.ioc_scan.specs.declared.position.Listed.{Listed}
 use Rattle.ioc_scan.specs.declared.position.ListEntry.{ListEntry}
 use Rattle.ioc_scan.specs.Positions.{entry_of}
 use Rattle.ioc_scan.specs.Scanned.{Scanned, IsOn, Precedes, InPhaseOrder}
-use Rattle.ioc_scan.specs.Members.{StandsAt, Agree}
+use Rattle.ioc_scan.specs.Members.{StandsAt, AreIndexed, HasAll}
 use Rattle.ioc_scan.specs.Standing.{low, high, within, standing}
 use Rattle.ioc_scan.proofs.Ordered.{exact, total, list_within, within_list, precedes}
 
@@ -44,7 +44,7 @@ same_phase : (o : Option Placement) (p : Placement) (k : Position) (x : Listed) 
 same_phase None p k x e f = cc
 same_phase (Some v) p k x e f = let a : v ≡ p = cc in let b : v ≡ record { list = k.list; phase = k.phase; priority = x.priority } = cc in sym (ap (λ (w : Placement). w.phase) a) ∙ ap (λ (w : Placement). w.phase) b
 
-module _ (es : List ListEntry) (last : ℕ) (m : BTreeMap Position Listed) (list : ListName) (agree : Agree es last m) (ordered : IsOrdered order_of.ghosts.cmp m) where
+module _ (es : List ListEntry) (last upto : ℕ) (m : BTreeMap Position Listed) (list : ListName) (indexed : AreIndexed es last upto m) (has : HasAll es upto list) (ordered : IsOrdered order_of.ghosts.cmp m) where
   abbrev part : List (Position × Listed)
   part = entries_between order_of.ghosts.cmp (Included (low list)) (Included (high list)) m.entries
 
@@ -74,7 +74,7 @@ module _ (es : List ListEntry) (last : ℕ) (m : BTreeMap Position Listed) (list
       let k = p.0 in
       let here = lookup_from_place equiv part i k x (IsDistinct-from_sorted order_of.ghosts.cmp (keys_of part) sorted) p.1 in
       let w = if_within (within list k) (get order_of.ghosts.cmp m k) x (sym (found k) ∙ here) in
-      (k, p.1, list_within list k w.0, (agree.stands k x).0 w.1)
+      (k, p.1, list_within list k w.0, indexed.there k x w.1)
 
   is_on : (k : Position) (x : Listed) → k.list ≡ list → StandsAt (entry_of es) k x → IsOn s list x
   is_on k x e st = (k.phase, subst (λ (v : ListName). (entry_of es x.number).place ≡ Some (record { list = v; phase = k.phase; priority = x.priority })) e st.0)
@@ -83,11 +83,11 @@ module _ (es : List ListEntry) (last : ℕ) (m : BTreeMap Position Listed) (list
   listed_there x on =
       let k : Position = record { list = list; phase = on.0; order = (entry_of es x.number).order } in
       let st : StandsAt (entry_of es) k x = (on.1, refl) in
-      let bounds = agree.phases x.number (record { list = list; phase = on.0; priority = x.priority }) on.1 in
-      let given : (entry_of es x.number).order ≤ last = agree.given x.number in
-      let few : last < 2 ^ 64 = agree.fits in
+      let bounds = indexed.phases x.number (record { list = list; phase = on.0; priority = x.priority }) on.1 in
+      let given : (entry_of es x.number).order ≤ last = indexed.given x.number in
+      let few : last < 2 ^ 64 = indexed.fits in
       let w : within list k ≡ true = within_list list k refl bounds.0 bounds.1 (omega arith) in
-      let here : lookup (eq_by_cmp order_of.ghosts.cmp k) part ≡ Some x = found k ∙ ap (λ b. cond b (get order_of.ghosts.cmp m k) None) w ∙ (agree.stands k x).1 st in
+      let here : lookup (eq_by_cmp order_of.ghosts.cmp k) part ≡ Some x = found k ∙ ap (λ b. cond b (get order_of.ghosts.cmp m k) None) w ∙ indexed.found k x st (has x.number (record { list = list; phase = on.0; priority = x.priority }) on.1 refl) in
       let p = place_from_lookup (eq_by_cmp order_of.ghosts.cmp k) part x here in
       let at : slice_get xs p.0 ≡ Some x = slice_get-map (λ (v : Position × Listed). v.1) part p.0 ∙ ap (option_map (λ (v : Position × Listed). v.1)) p.2 in
       (p.0, slice_get_within xs p.0 x at, get_or_from_slice_get xs p.0 x x at)
@@ -123,9 +123,9 @@ on_ok (Ok x) P Q p f = f p
 on_ok (Err e) P Q p f = tt
 
 -- What is written of a list into an empty buffer is the list, in phase order.
-pub written : {T E : Type 0} (r : Result T E) (v : Scanned) (es : List ListEntry) (last : ℕ) (m : BTreeMap Position Listed) (list : ListName) (before after : List Listed)
-    → Agree es last m → IsOrdered order_of.ghosts.cmp m → record { entries = es; last = last } ≡ v → before ≡ [] → OnOk r (after ≡ before ++ standing list m.entries) → OnOk r (InPhaseOrder v list after)
-written r v es last m list before after agree ordered is none ok =
+pub written : {T E : Type 0} (r : Result T E) (v : Scanned) (es : List ListEntry) (last upto : ℕ) (m : BTreeMap Position Listed) (list : ListName) (before after : List Listed)
+    → AreIndexed es last upto m → HasAll es upto list → IsOrdered order_of.ghosts.cmp m → record { entries = es; last = last } ≡ v → before ≡ [] → OnOk r (after ≡ before ++ standing list m.entries) → OnOk r (InPhaseOrder v list after)
+written r v es last upto m list before after indexed has ordered is none ok =
     on_ok r (after ≡ before ++ standing list m.entries) (InPhaseOrder v list after) ok
     (λ e. subst (λ (s : Scanned). InPhaseOrder s list after) is
-    (subst (λ (xs : List Listed). InPhaseOrder (record { entries = es; last = last }) list xs) (sym (e ∙ ap (λ (xs : List Listed). xs ++ standing list m.entries) none)) (walked es last m list agree ordered)))
+    (subst (λ (xs : List Listed). InPhaseOrder (record { entries = es; last = last }) list xs) (sym (e ∙ ap (λ (xs : List Listed). xs ++ standing list m.entries) none)) (walked es last upto m list indexed has ordered)))

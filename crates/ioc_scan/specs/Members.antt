@@ -1,8 +1,9 @@
 -- The tree of list members, and how it corresponds to the records' entries.
-use Rattle.std.specs.Prelude.{◌≡◌, ◌↔◌, ℕ, ◌<◌, ◌≤◌, ◌^◌, ℤ, pos, negsuc, ◌≤ℤ◌, Bool, false, Option, Some, None, option_map, List}
+use Rattle.std.specs.Prelude.{◌≡◌, ℕ, ◌<◌, ◌≤◌, ◌^◌, ℤ, pos, negsuc, ◌≤ℤ◌, Bool, false, Option, Some, None, option_map, List}
 use Rattle.std.specs.Ordering.{eq_by_cmp}
 use Rattle.std.specs.BTreeMap.{BTreeMap, get}
 use Rattle.ioc_scan.specs.contracts.position.PositionOrd.TheImpl as order_of
+use Rattle.ioc_scan.specs.declared.list_name.ListName.{ListName}
 use Rattle.ioc_scan.specs.declared.list_name.Placement.{Placement}
 use Rattle.ioc_scan.specs.declared.position.Position.{Position}
 use Rattle.ioc_scan.specs.declared.position.Listed.{Listed}
@@ -26,13 +27,20 @@ IsPhase phase = (negsuc 32767 ≤ℤ phase) × (phase ≤ℤ pos 32767)
 abbrev pub StandsAt : (ℕ → ListEntry) → Position → Listed → Type 0
 StandsAt entry k x = ((entry x.number).place ≡ Some (record { list = k.list; phase = k.phase; priority = x.priority })) × ((entry x.number).order ≡ k.order)
 
--- Holds if each position has exactly the record that is there by the entries, and no order number
--- is above the last one assigned.
-pub record Agrees (entry : ℕ → ListEntry) (last : ℕ) (at : Position → Option Listed) : Type 0 where
-  pub stands : (k : Position) (x : Listed) → (at k ≡ Some x) ↔ StandsAt entry k x
+-- Holds if each position has no other record than the one that is there by the entries, and has
+-- that one if its number is below `indexed`. No two records on lists have one order number, and
+-- none is above the last one assigned.
+pub record Indexed (entry : ℕ → ListEntry) (last indexed : ℕ) (at : Position → Option Listed) : Type 0 where
+  pub there : (k : Position) (x : Listed) → at k ≡ Some x → StandsAt entry k x
+  pub found : (k : Position) (x : Listed) → StandsAt entry k x → x.number < indexed → at k ≡ Some x
+  pub alone : (m n : ℕ) (p q : Placement) → (entry m).place ≡ Some p → (entry n).place ≡ Some q → (entry m).order ≡ (entry n).order → m ≡ n
   pub given : (n : ℕ) → (entry n).order ≤ last
   pub fits : last < 2 ^ 64
   pub phases : (n : ℕ) (p : Placement) → (entry n).place ≡ Some p → IsPhase p.phase
 
-abbrev pub Agree : List ListEntry → ℕ → BTreeMap Position Listed → Type 0
-Agree entries last members = Agrees (entry_of entries) last (get order_of.ghosts.cmp members)
+abbrev pub AreIndexed : List ListEntry → ℕ → ℕ → BTreeMap Position Listed → Type 0
+AreIndexed entries last indexed members = Indexed (entry_of entries) last indexed (get order_of.ghosts.cmp members)
+
+-- Holds if each record on the list has a number below `indexed`.
+abbrev pub HasAll : List ListEntry → ℕ → ListName → Type 0
+HasAll entries indexed list = (n : ℕ) (p : Placement) → (entry_of entries n).place ≡ Some p → p.list ≡ list → n < indexed

@@ -1,5 +1,6 @@
 //! What the items that an event sends ask for, to be carried out after the event.
-ghost use Rattle.std.specs.Prelude.{◌≡◌, IfSome, IfOk, OnOk, OnErr};
+ghost use Rattle.std.specs.Prelude.{◌≡◌, ℕ, List, IfSome, IfOk, OnOk, OnErr};
+ghost use Rattle.ioc_store.specs.declared.outbox.OutboxItem.TheVariants.{Post};
 ghost use Rattle.ioc_scan.specs.Scanned.{InPhaseOrder};
 ghost use Rattle.ioc_scan_rules.specs.Asked.{event_list, interrupt_list, members_of, with_change, change_asks};
 ghost use Rattle.ioc_scan_rules.specs.Asked.{asked_of, lists_after, is_dropped, requests_of, drops};
@@ -49,12 +50,13 @@ pub fn interrupt_list(word: &[u8]) -> Option<ListName>
 ///
 /// [`AllocError`] if allocation fails; the contents of `walked` are meaningless then.
 pub fn calls(
-    lists: &ScanLists,
+    lists: &mut ScanLists,
     list: Option<ListName>,
     walked: &mut Vec<Listed>,
 ) -> Result<(), AllocError>
-    ensures members { OnOk result (walked.new.items ≡ members_of lists.now list) }
-    ensures order { IfSome list (λ list. OnOk result (InPhaseOrder lists.now list walked.new.items)) }
+    ensures members { OnOk result (walked.new.items ≡ members_of lists.old list) }
+    ensures order { IfSome list (λ list. OnOk result (InPhaseOrder lists.old list walked.new.items)) }
+    ensures same { lists.new ≡ lists.old }
 {
     match list {
         Some(list) => lists.walk(&list, walked),
@@ -67,25 +69,20 @@ pub fn calls(
 
 /// Moves a record to the list that its change names, or takes it off its list, unless a later change
 /// of the record came before. Application Developer's Guide, "Scanning Specification": scanAdd,
-/// scanDelete.
-///
-/// # Errors
-///
-/// [`AllocError`] if allocation fails; the lists haven't changed then.
-pub fn change_list(lists: &mut ScanLists, change: &ScanChange) -> Result<Asked, AllocError>
-    ensures asked { IfOk result (λ asked. asked ≡ change_asks lists.old change.now) }
-    ensures lists { OnOk result (lists.new ≡ with_change lists.old change.now) }
-    ensures err { OnErr result (lists.new ≡ lists.old) }
+/// scanDelete. A change is done even if allocation fails.
+pub fn change_list(lists: &mut ScanLists, change: &ScanChange) -> Asked
+    ensures asked { result ≡ change_asks lists.old change.now }
+    ensures lists { lists.new ≡ with_change lists.old change.now }
 {
     if change.target.index() >= lists.len() {
-        return Ok(Asked::Change);
+        return Asked::Change;
     }
     if !lists.can_change() {
-        return Ok(Asked::Dropped);
+        return Asked::Dropped;
     }
     let place = place_by(&change.scanning, change.device);
-    lists.change(change.target, change.number, place)?;
-    Ok(Asked::Change)
+    lists.change(change.target, change.number, place);
+    Asked::Change
 }
 
 /// Takes an item that an event has sent: changes the scan lists if it is a change, and returns what
@@ -94,8 +91,8 @@ pub fn change_list(lists: &mut ScanLists, change: &ScanChange) -> Result<Asked, 
 ///
 /// # Errors
 ///
-/// [`AllocError`] if allocation fails; the lists haven't changed then, and the contents of `walked`
-/// are meaningless.
+/// [`AllocError`] if allocation fails for the list of a posted event; the contents of `walked` are
+/// meaningless then.
 pub fn take_item(
     lists: &mut ScanLists,
     item: &OutboxItem,
@@ -103,8 +100,8 @@ pub fn take_item(
 ) -> Result<Asked, AllocError>
     ensures requests { IfOk result (λ asked. requests_of asked walked.new.items ≡ asked_of lists.old item.now) }
     ensures dropped { IfOk result (λ asked. drops asked ≡ is_dropped lists.old item.now) }
-    ensures lists { OnOk result (lists.new ≡ lists_after lists.old item.now) }
-    ensures err { OnErr result (lists.new ≡ lists.old) }
+    ensures lists { lists.new ≡ lists_after lists.old item.now }
+    ensures err { OnErr result ((name : List ℕ) × (item.now ≡ Post name)) }
 {
     match item {
         OutboxItem::Once(number) => Ok(Asked::Once(*number)),
@@ -112,6 +109,6 @@ pub fn take_item(
             calls(lists, event_list(*name), walked)?;
             Ok(Asked::Calls)
         }
-        OutboxItem::Change(change) => change_list(lists, change),
+        OutboxItem::Change(change) => Ok(change_list(lists, change)),
     }
 }

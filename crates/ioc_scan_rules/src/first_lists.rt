@@ -1,5 +1,5 @@
 //! The scan lists of a loaded database.
-ghost use Rattle.std.specs.Prelude.{◌≡◌, ◌<◌, ◌-◌, ◌^◌, length, IfOk, OnOk};
+ghost use Rattle.std.specs.Prelude.{◌≡◌, ◌<◌, ◌-◌, ◌^◌, length, IfOk};
 ghost use Rattle.std.specs.List.{list_any};
 ghost use Rattle.ioc_scan_rules.specs.Places.{place_of};
 ghost use Rattle.ioc_scan_rules.specs.FirstLists.{added, first_lists, is_starter, starters, AreStarters};
@@ -13,20 +13,14 @@ use std::alloc::{AllocError, Global};
 
 // Adds a record to its list, if it has one.
 #[inline(never)]
-fn add_record<K: RecordKind>(
-    lists: &mut ScanLists,
-    number: RecordNo,
-    item: &K,
-    occasion: Occasion,
-) -> Result<(), AllocError>
+fn add_record<K: RecordKind>(lists: &mut ScanLists, number: RecordNo, item: &K, occasion: Occasion)
     requires known { number < length lists.old.entries }
     requires room { lists.old.last < 2 ^ 64 - 1 }
-    ensures { OnOk result (lists.new ≡ added lists.old number (place_of K.rules occasion item.now)) }
+    ensures { lists.new ≡ added lists.old number (place_of K.rules occasion item.now) }
 {
     if let Some(place) = place_of(item, occasion) {
-        lists.add(number, place)?;
+        lists.add(number, place);
     }
-    Ok(())
 }
 
 /// Returns the lists with all records, added in the order of their numbers. Application Developer's
@@ -48,7 +42,7 @@ pub fn first_lists<K: RecordKind>(
     let mut number = 0;
     while let [item, others @ ..] = rest {
         if may_be_listed(item, occasion) {
-            add_record(&mut lists, RecordNo::new(number), item, occasion)?;
+            add_record(&mut lists, RecordNo::new(number), item, occasion);
         }
         number += 1;
         rest = others;
@@ -94,7 +88,7 @@ fn listed_starters<K: RecordKind>(alloc: Global, records: &[K]) -> Result<Vec<Li
     ensures listed { IfOk result (λ listed. listed.items ≡ starters K.rules records.now) }
     ensures order { IfOk result (λ listed. AreStarters K.rules records.now listed.items) }
 {
-    let lists = first_lists(alloc, Occasion::Starting, records)?;
+    let mut lists = first_lists(alloc, Occasion::Starting, records)?;
     let mut listed = Vec::new(alloc);
     lists.walk(&ListName::Start, &mut listed)?;
     Ok(listed)

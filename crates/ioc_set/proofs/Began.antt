@@ -40,9 +40,9 @@ module _ {R D : Type 0} (k : RecordRules R) where
   placed true h sound none = refl
   placed false h sound none = base_now h sound none
 
-  pub began : (gives : D → Ask → ℕ → Answer → D → Type 0) (h after : SetState R D) (moment : ℕ) (event : Event) (reply : Reply) (come_to : World R)
-      → Does k gives h moment event reply after come_to → IsSound k h → IsShort 0 after → after.base.records ≡ h.records
-  began gives h after moment event reply come_to does sound short =
+  pub began : (gives : D → Ask → ℕ → Answer → D → Type 0) (most : ℕ) (h after : SetState R D) (moment : ℕ) (event : Event) (reply : Reply) (come_to : World R)
+      → Does k gives most h moment event reply after come_to → IsSound k h → IsShort 0 after → after.base.records ≡ h.records
+  began gives most h after moment event reply come_to does sound short =
       let history = ap (λ (s : SetState R D). s.history) does.after in
       ap (λ (s : SetState R D). s.base.records) does.after
-      ∙ placed (is_full does.most (length h.history)) h sound (one_at_most (with_place does.most h).history does.entry (subst (λ xs. length xs ≤ 1) history (at_most_one (length after.history) short)))
+      ∙ placed (is_full most (length h.history)) h sound (one_at_most (with_place most h).history does.entry (subst (λ xs. length xs ≤ 1) history (at_most_one (length after.history) short)))

@@ -120,13 +120,12 @@ module _ {R D : Type 0} where
           let short = subst (λ (z : SetState R D). length z.history < 64) (sym held) (placed_short most full h refl sound.short) in
           subst (λ (z : SetState R D). IsSound k z) (sym same_after) (event (held_by before was b t entries) entry after.devices ready short tells)
 
-      pub does : (moment : ℕ) (event : Event) → entry.moment ≡ moment → entry.event ≡ event → Does k gives h moment event entry.reply (held_by after is b counts grown) (world_of store)
+      pub does : (moment : ℕ) (event : Event) → entry.moment ≡ moment → entry.event ≡ event → Does k gives most h moment event entry.reply (held_by after is b counts grown) (world_of store)
       does moment event at_moment is_event =
           let full = is_full most (length h.history) in
           let now : now_of (held_by before was b t entries) ≡ now_of h = ap (λ (z : SetState R D). now_of z) held ∙ placed_now full h in
           let devices : before.devices ≡ h.devices = ap (λ (z : SetState R D). z.devices) held ∙ placed_devices full h in
           record {
-            most = most;
             entry = entry;
             moment = at_moment;
             event = is_event;

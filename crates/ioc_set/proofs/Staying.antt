@@ -37,13 +37,13 @@ module _ {R D : Type 0} (k : RecordRules R) (gives : D → Ask → ℕ → Answe
     (allowed : (answers : Answers) (w : World R) (event : Event) → Step k answers w event (stepped k answers w event).world (stepped k answers w event).reply (stepped k answers w event).requests)
     (stays : (w after : World R) (entry : EventEntry) → Replay k w (entry ∷ []) after → IsCounted k w → w.live ≡ [] → ((n : ℕ) → entry.reply ≢ Notify-reply n) → (after.live ≡ []) × (after.waiting ≡ []))
     (begin : (answers : Answers) (w after : World R) (event : Event) (reply : Reply) (requests : Requests) (n : ℕ) → Step k answers w event after reply requests → reply ≡ Notify-reply n → is_put_with_notification event ≡ true) where
-  pub stays_without : (h after : SetState R D) (moment : ℕ) (event : Event) (reply : Reply) (come_to : World R) → Does k gives h moment event reply after come_to → is_ordinary event ≡ true → IsSound k h → NoneIsLive h → NoneIsLive after
-  stays_without h after moment event reply come_to does ordinary sound none =
+  pub stays_without : (most : ℕ) (h after : SetState R D) (moment : ℕ) (event : Event) (reply : Reply) (come_to : World R) → Does k gives most h moment event reply after come_to → is_ordinary event ≡ true → IsSound k h → NoneIsLive h → NoneIsLive after
+  stays_without most h after moment event reply come_to does ordinary sound none =
       let e = does.entry in
       let answers = listed e.answers in
       let w = begun_at e.moment (now_of h) in
       let done = done_by k (now_of h) e in
-      let same : now_of (with_place does.most h) ≡ now_of h = now_kept does.most h (with_place does.most h) refl in
+      let same : now_of (with_place most h) ≡ now_of h = now_kept most h (with_place most h) refl in
       let replied = subst (λ (v : World R). (done_by k v e).reply ≡ e.reply) same does.tells.reply in
       let used = subst (λ (v : World R). answers_of (done_by k v e).world.calls ≡ e.answers) same does.tells.answers in
       let ours : is_ordinary e.event ≡ true = ap is_ordinary does.event ∙ ordinary in
@@ -87,8 +87,8 @@ module _ {R D : Type 0} (k : RecordRules R) (gives : D → Ask → ℕ → Answe
     (begin : (answers : Answers) (w after : World R) (event : Event) (reply : Reply) (requests : Requests) (n : ℕ) → Step k answers w event after reply requests → reply ≡ Notify-reply n → is_put_with_notification event ≡ true)
     (live : (w : World R) (n : ℕ) → IsCounted k w → (is_live n w.live ≡ true) ↔ IsHeld k w n)
     (ends : (answers : Answers) (w after : World R) (event : Event) (reply : Reply) (requests : Requests) → Step k answers w event after reply requests → IsCounted k w → w.ended ≡ [] → EndsExactly k w (call.Event event reply) after) where
-  pub ends_none : (h after : SetState R D) (moment : ℕ) (event : Event) (reply : Reply) (come_to : World R) → Does k gives h moment event reply after come_to → is_ordinary event ≡ true → IsSound k h → NoneIsLive h → come_to.ended ≡ []
-  ends_none h after moment event reply come_to does ordinary sound none =
+  pub ends_none : (most : ℕ) (h after : SetState R D) (moment : ℕ) (event : Event) (reply : Reply) (come_to : World R) → Does k gives most h moment event reply after come_to → is_ordinary event ≡ true → IsSound k h → NoneIsLive h → come_to.ended ≡ []
+  ends_none most h after moment event reply come_to does ordinary sound none =
       let e = does.entry in
       let answers = listed e.answers in
       let w = begun_at e.moment (now_of h) in

@@ -68,10 +68,9 @@ with_kept rs live waiting w = record w { records = rs; live = live; waiting = wa
 module _ {R D : Type 0} (k : RecordRules R) (gives : D → Ask → ℕ → Answer → D → Type 0) where
   -- An event with this time stamp is done on a set and appended to its history: the set afterwards,
   -- the reply, and the state of the event beside what the set keeps. The history keeps at most
-  -- `most` entries. Each device that was called
-  -- gave its answer by its own relation, in the order of the calls.
-  pub record Does (held : SetState R D) (at_moment : ℕ) (done : Event) (reply : Reply) (held_then : SetState R D) (come_to : World R) : Type 0 where
-    pub most : ℕ
+  -- `most` entries: it is cleared before the event if it has as many, or 64. Each device that was
+  -- called gave its answer by its own relation, in the order of the calls.
+  pub record Does (most : ℕ) (held : SetState R D) (at_moment : ℕ) (done : Event) (reply : Reply) (held_then : SetState R D) (come_to : World R) : Type 0 where
     pub entry : EventEntry
     pub moment : entry.moment ≡ at_moment
     pub event : entry.event ≡ done

@@ -31,8 +31,6 @@ pub struct EventBuffers<K, D> {
     /// The puts with notification that have ended in the last event among all sets, in order. There
     /// is room for as many as can be live.
     pub ended_everywhere: Vec<NotifyId>,
-    /// How many events a set keeps in its history at most: 1 to 64.
-    pub history: usize,
     pub ghost no_record: { len store.members.records ≡ 0 },
     pub ghost none_live: { store.event.follow_ups.notifications.live.live ≡ [] },
     pub ghost none_waits: { store.event.follow_ups.notifications.waiting.waiting ≡ [] },
@@ -82,15 +80,13 @@ impl<K, D> EventBuffers<K, D> {
     ghost use Rattle.ioc_set.specs.Resting.{resting};
     ghost use Rattle.std.specs.FinMap.{empty};
 
-    /// Creates the buffers before the first event. A set keeps at most `history` events, from 1 to
-    /// 64.
+    /// Creates the buffers before the first event.
     ///
     /// # Errors
     ///
     /// [`AllocError`] if allocation fails.
-    pub fn new(alloc: Global, history: usize) -> Result<Self, AllocError>
+    pub fn new(alloc: Global) -> Result<Self, AllocError>
         ensures world { IfOk result (λ p. world_of p.store ≡ resting empty [] []) }
-        ensures history { IfOk result (λ p. p.history ≡ history) }
     {
         let event = EventStore::new(alloc)?;
         let ended_everywhere = Vec::with_capacity(alloc, 256)?;
@@ -103,7 +99,6 @@ impl<K, D> EventBuffers<K, D> {
             spare: Vec::new(alloc),
             journal_spare: Vec::new(alloc),
             ended_everywhere,
-            history,
         })
     }
 
@@ -152,7 +147,6 @@ impl<K, D> EventBuffers<K, D> {
         ensures frames { OnOk result (count ≤ vec_capacity self.new.frames) }
         ensures answers { OnOk result (256 ≤ vec_capacity self.new.spare) }
         ensures store { self.new.store ≡ self.old.store }
-        ensures history { self.new.history ≡ self.old.history }
     {
         self.frames.reserve(count)?;
         self.spare.reserve(256)?;

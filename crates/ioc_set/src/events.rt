@@ -54,8 +54,8 @@ fn make_place<K: RecordKind, D>(
 }
 
 impl<K: RecordKind + Drop, D: Device> LockSet<K, D> {
-    /// Does an event on the set, and appends it to the history; if that has as many entries as the
-    /// buffers allow, it is cleared first. A put with notification passes to the records that are processed for it, and a
+    /// Does an event on the set, and appends it to the history, which keeps at most `most` entries: if it
+    /// has as many, or 64, it is cleared first. A put with notification passes to the records that are processed for it, and a
     /// cancel takes it from the records of the set; those that end on the set by an event are in the
     /// store of the buffers.
     ///
@@ -70,10 +70,11 @@ impl<K: RecordKind + Drop, D: Device> LockSet<K, D> {
         alloc: Global,
         event: &Event,
         moment: u64,
+        most: usize,
     ) -> Result<Reply, AllocError>
-        ensures ok { IfOk result (λ told. Does K.rules D.gives self.old moment event.now told self.new
+        ensures ok { IfOk result (λ told. Does K.rules D.gives most self.old moment event.now told self.new
             (world_of buffers.new.store)) }
-        ensures short { OnOk result (IsShort buffers.old.history self.new) }
+        ensures short { OnOk result (IsShort most self.new) }
         ensures err { OnErr result (self.new ≡ self.old) }
     {
         events_leave_sound::<K, D>();
@@ -87,7 +88,7 @@ impl<K: RecordKind + Drop, D: Device> LockSet<K, D> {
             &self.tally,
             &mut self.base_tally,
             &mut self.history,
-            buffers.history,
+            most,
         )?;
         let kept = run_set_event(
             buffers,

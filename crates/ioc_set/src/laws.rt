@@ -74,11 +74,11 @@ pub fn none_live_stays_so<K: RecordKind>()
 /// If no put with notification is live on a set, none is after a request, a put or a completion,
 /// and none ends by it.
 pub fn sets_stay_without_puts<K: RecordKind, D: Device>()
-    ensures stay { (h after : SetState K D) (moment : ℕ) (event : Event) (reply : Reply) (come_to : World K) →
-        Does K.rules D.gives h moment event reply after come_to → is_ordinary event ≡ true → IsSound K.rules h → NoneIsLive h
+    ensures stay { (most : ℕ) (h after : SetState K D) (moment : ℕ) (event : Event) (reply : Reply) (come_to : World K) →
+        Does K.rules D.gives most h moment event reply after come_to → is_ordinary event ≡ true → IsSound K.rules h → NoneIsLive h
         → NoneIsLive after }
-    ensures ended { (h after : SetState K D) (moment : ℕ) (event : Event) (reply : Reply) (come_to : World K) →
-        Does K.rules D.gives h moment event reply after come_to → is_ordinary event ≡ true → IsSound K.rules h → NoneIsLive h
+    ensures ended { (most : ℕ) (h after : SetState K D) (moment : ℕ) (event : Event) (reply : Reply) (come_to : World K) →
+        Does K.rules D.gives most h moment event reply after come_to → is_ordinary event ≡ true → IsSound K.rules h → NoneIsLive h
         → come_to.ended ≡ [] }
 {
     rules_are_steps::<K>();
@@ -91,8 +91,9 @@ pub fn sets_stay_without_puts<K: RecordKind, D: Device>()
 /// If an event leaves a sound set with one event in its history at most, the set's base is its
 /// records before that event.
 pub fn histories_begin_before<K: RecordKind, D: Device>()
-    ensures { (h after : SetState K D) (moment : ℕ) (event : Event) (reply : Reply) (come_to : World K) →
-        Does K.rules D.gives h moment event reply after come_to → IsSound K.rules h → IsShort 0 after → after.base.records ≡ h.records }
+    ensures { (most : ℕ) (h after : SetState K D) (moment : ℕ) (event : Event) (reply : Reply) (come_to : World K) →
+        Does K.rules D.gives most h moment event reply after come_to → IsSound K.rules h → IsShort 0 after
+        → after.base.records ≡ h.records }
 {}
 
 /// A put with notification begins by no other event.

@@ -47,7 +47,7 @@ impl<K: RecordKind + Drop, D: Drop> LockSet<K, D> {
         ensures err { OnErr result (self.new ≡ folded self.old) }
     {
         held_records_are_sound::<K, D>();
-        self.fold();
+        self.fold(alloc);
         self.puts.are_few();
         let stay_room = self.puts.room(alloc)?;
         let rest_room = self.puts.room(alloc)?;
@@ -102,8 +102,8 @@ impl<K: RecordKind + Drop, D: Drop> LockSet<K, D> {
             other.new }
     {
         held_records_are_sound::<K, D>();
-        self.fold();
-        other.fold();
+        self.fold(alloc);
+        other.fold(alloc);
         let LinkChange {
             number,
             field,
@@ -216,7 +216,7 @@ impl<K: RecordKind + Drop, D: Device> LockSet<K, D> {
         other.are_few();
         self.is_sound();
         other.is_sound();
-        self.fold();
+        self.fold(alloc);
         let room = JoinBuffers::new(alloc, self.len() + other.len())?;
         let puts_room = self.puts_room_with(other, alloc)?;
         let number = change.number;

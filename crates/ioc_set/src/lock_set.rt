@@ -40,6 +40,10 @@ use ioc_values::{IocError, Short};
 use std::alloc::{AllocError, Global};
 use std::marker::Model;
 
+// The most events for which a history keeps its memory at a checkpoint, so that a set with few events
+// between checkpoints doesn't allocate again each time.
+const FEW_EVENTS: usize = 4;
+
 /// Records that links join, with their devices, the live puts with notification, the counts of
 /// their requests, and a history: the last events, at most 64, and the state before them.
 #[derive(Drop)]
@@ -68,6 +72,16 @@ impl<K: RecordKind, D> Model for LockSet<K, D> {
 
     ghost invariant = { λ s. IsSound K.rules (held_by s.members s.puts s.base_tally s.tally s.history.items)
         × RecordsAreLikeTheirBase K.rules s.members };
+}
+
+// Gives back the memory of an empty history, unless that has room for a few events only.
+fn give_back(history: &mut Vec<EventEntry>, alloc: Global)
+    requires { history.old.items ≡ [] }
+    ensures { history.new.items ≡ [] }
+{
+    if history.capacity() > FEW_EVENTS {
+        *history = Vec::new(alloc);
+    }
 }
 
 // Returns the text of a field of one of these records.
@@ -336,8 +350,8 @@ impl<K: RecordKind, D> LockSet<K, D> {
         self.puts.room_with(&other.puts, alloc)
     }
 
-    /// Clears the history.
-    pub fn fold(&mut self)
+    /// Clears the history, and gives back its memory, unless that has room for a few events only.
+    pub fn fold(&mut self, alloc: Global)
         ensures { self.new ≡ folded self.old }
     {
         held_records_are_sound::<K, D>();
@@ -349,6 +363,7 @@ impl<K: RecordKind, D> LockSet<K, D> {
             &mut self.base_tally,
             &mut self.history,
         );
+        give_back(&mut self.history, alloc);
     }
 
     /// Returns the text of the device link of a record of this set, in INP or OUT; empty if it has

@@ -108,8 +108,9 @@ impl Scanner {
     /// # Errors
     ///
     /// [`AllocError`] if allocation fails.
-    pub fn walk(&self, list: &ListName, into: &mut Vec<Listed>) -> Result<(), AllocError>
-        ensures { OnOk result (into.new.items ≡ walked self.now.lists list.now) }
+    pub fn walk(&mut self, list: &ListName, into: &mut Vec<Listed>) -> Result<(), AllocError>
+        ensures walked { OnOk result (into.new.items ≡ walked self.old.lists list.now) }
+        ensures same { self.new ≡ self.old }
     {
         self.lists.walk(list, into)
     }
@@ -124,7 +125,7 @@ impl Scanner {
         ensures scanner { OnOk result (self.new ≡ (called_on self.old list).scanner) }
         ensures count { IfOk result (λ count. count ≡ (called_on self.old list).count) }
     {
-        calls(&self.lists, list, &mut self.walked)?;
+        calls(&mut self.lists, list, &mut self.walked)?;
         Ok(push_each(&mut self.queues, self.walked.as_slice()))
     }
 

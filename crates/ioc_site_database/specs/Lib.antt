@@ -1,3 +1,4 @@
 pub mod Counting
 pub mod Printing
+pub mod SiteFiles
 pub mod SiteWords

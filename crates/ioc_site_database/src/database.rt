@@ -65,6 +65,7 @@ fn request_of<'x>(part: &'x Part<'x>, folders: &'x [&'x [u8]]) -> Request<'x> {
         paths: part.path.as_slice(),
         macros: part.macros.as_slice(),
         folders,
+        is_alone: false,
     }
 }
 

@@ -47,6 +47,16 @@ impl Counts {
         }
     }
 
+    /// Returns the counts without errors.
+    pub fn without_errors(self) -> Self
+        ensures { result.errors ≡ 0 }
+    {
+        Counts {
+            errors: 0,
+            warnings: self.warnings,
+        }
+    }
+
     /// Returns the exit status: 1 if there is a mistake, and else 0.
     pub fn status(&self) -> u8
         ensures sound { (result ≡ 0) ↔ (self.now.errors ≡ 0) }

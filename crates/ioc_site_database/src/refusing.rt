@@ -1,4 +1,4 @@
-//! Where the load refuses a text in which nothing else is wrong.
+//! What is said of a text that the load refuses, and where.
 use ioc_site::{Finding, Place, Severity, SourceText};
 use ioc_values::{BadDbKind, DbFault};
 use std::alloc::{AllocError, Global};
@@ -67,12 +67,8 @@ fn refused_on(line: &[u8], kind: BadDbKind) -> Refused {
     Refused { at, what, remedy }
 }
 
-/// Returns the error at the place where the load refuses a text for this fault.
-///
-/// # Errors
-///
-/// [`AllocError`] if allocation fails.
-pub fn refused_place(
+// Returns the error at the place where the load refuses a text for this fault.
+fn refused_place(
     alloc: Global,
     source: &SourceText,
     fault: DbFault,
@@ -91,18 +87,64 @@ pub fn refused_place(
     })
 }
 
-// Returns whether a finding is of a body that isn't closed, which stands where the body opens.
-fn is_of_open_body(finding: &Finding) -> bool {
-    finding.text.starts_with(b"the body of ") && finding.text.ends_with(b"'}' at its end")
+// Returns whether the lines between these two have no words.
+fn are_blank_between(text: &[u8], before: u64, behind: u64) -> bool {
+    let mut number = 0u64;
+    for line in text.split(|byte| *byte == b'\n') {
+        number = number.saturating_add(1);
+        let is_between = before < number && number < behind;
+        if is_between && !matches!(line.trim_ascii_start(), [] | [b'#', ..]) {
+            return false;
+        }
+    }
+    true
 }
 
-/// Returns whether what is found says why a load refuses a file for this fault: whether there is an error on
-/// its line or before it. A body that isn't closed is refused at the end of the text alone.
-pub fn is_explained(findings: &[Finding], file: u32, fault: DbFault) -> bool {
-    findings.iter().any(|finding| {
-        finding.severity == Severity::Error
-            && finding.place.file == file
-            && u64::from(finding.place.line) <= fault.line
-            && (fault.kind == BadDbKind::OpenBody || !is_of_open_body(finding))
-    })
+// Returns whether an error says why a load refuses the file for this fault: whether it stands on the load's
+// line, or is of a sign that is missing behind the last word before it. A body that isn't closed is told where
+// it opens, and refused at the end of the text.
+fn is_explanation(source: &SourceText, fault: DbFault, error: &Finding) -> bool {
+    let line = u64::from(error.place.line);
+    let text = error.text.as_slice();
+    if error.place.file != source.file || line > fault.line {
+        false
+    } else if text.starts_with(b"the body of ") && text.ends_with(b"'}' at its end") {
+        fault.kind == BadDbKind::OpenBody
+    } else {
+        line == fault.line
+            || (text.ends_with(b" there") && are_blank_between(&source.text, line, fault.line))
+    }
+}
+
+// Returns whether an error stands where the load has passed.
+fn is_passed(source: &SourceText, fault: DbFault, error: &Finding) -> bool {
+    let is_before = error.place.file == source.file && u64::from(error.place.line) < fault.line;
+    is_before && !is_explanation(source, fault, error)
+}
+
+/// Returns what is said of a file that a load refuses for this fault, of which this is found: no error before
+/// the load's line, but those that say why it is refused. If there is none, the fault is an error at its place.
+///
+/// # Errors
+///
+/// [`AllocError`] if allocation fails.
+pub fn told_of_refusal(
+    alloc: Global,
+    source: &SourceText,
+    fault: DbFault,
+    found: Vec<Finding>,
+) -> Result<Vec<Finding>, AllocError> {
+    let mut told = Vec::new(alloc);
+    let mut is_explained = false;
+    for finding in found {
+        let is_error = finding.severity == Severity::Error;
+        is_explained = is_explained || (is_error && is_explanation(source, fault, &finding));
+        if !is_error || !is_passed(source, fault, &finding) {
+            told.push(finding)?;
+        }
+    }
+    if !is_explained {
+        told.push(refused_place(alloc, source, fault)?)?;
+    }
+    Ok(told)
 }

@@ -1,9 +1,13 @@
 //! The words of a command line that name a site's files.
-ghost use Rattle.std.specs.Prelude.{◌≡◌, ◌++◌, ◌∷◌, [], false, map, None, Ok, OnOk, if◌then◌else◌};
+ghost use Rattle.std.specs.Prelude.{◌≡◌, ◌<◌, ◌++◌, ◌∷◌, [], false, length, map, option_map, None, Ok, OnOk, IfOk, if◌then◌else◌};
 ghost use Rattle.std.specs.String.{string_bytes};
+ghost use Rattle.ioc_dblex.specs.Macros.{behind_first};
+ghost use Rattle.ioc_site_lines.specs.Defining.{definitions_of, seen};
+ghost use Rattle.ioc_site_database.specs.SiteFiles.{words_defined, zero_parts, macros_in, holding};
 ghost use Rattle.ioc_site_database.specs.SiteWords.{is_option, is_site_word, names_site};
 
 use ioc_command_line::{Stop, UsageFault};
+use ioc_dblex::split_at_byte;
 use ioc_site_reader::{Definition, parse_definitions};
 use std::alloc::{AllocError, Global};
 use std::mem;
@@ -111,13 +115,76 @@ fn refused(alloc: Global, why: &str) -> Stop {
 }
 
 // Adds the definitions of a text.
-fn add_definitions(alloc: Global, text: &[u8], all: &mut Vec<Definition>) -> Result<(), Stop> {
+fn add_definitions(alloc: Global, text: &[u8], all: &mut Vec<Definition>) -> Result<(), Stop>
+    ensures { OnOk result (map seen all.new.items ≡ map seen all.old.items ++ definitions_of text.now) }
+{
     let mut defined = parse_definitions(alloc, text)?;
     if defined.fault.is_some() {
         let word = String::from_utf8_lossy(alloc, text)?;
         return Err(Stop::Usage(UsageFault::NoDefinition(word)));
     }
     all.append(&mut defined.list).map_err(AllocError::from)?;
+    Ok(())
+}
+
+// Adds the definitions of words.
+fn add_words(alloc: Global, words: &[&str], all: &mut Vec<Definition>) -> Result<(), Stop>
+    ensures { OnOk result (map seen all.new.items ≡ map seen all.old.items ++ words_defined (map (λ w. w.now) words.now)) }
+{
+    let mut rest = words;
+    while let [word, after @ ..] = rest {
+        add_definitions(alloc, word.as_bytes(), all)?;
+        rest = after;
+    }
+    Ok(())
+}
+
+// Returns the bytes behind the first one, if there is one.
+fn behind_first(bytes: &[u8]) -> Option<&[u8]>
+    ensures { option_map (λ r. r.now) result ≡ behind_first bytes.now }
+{
+    match bytes {
+        [] => None,
+        [_, after @ ..] => Some(after),
+    }
+}
+
+// Adds the definitions of the words between the bytes 0 of a text.
+fn add_each(alloc: Global, text: &[u8], all: &mut Vec<Definition>) -> Result<(), Stop>
+    ensures { OnOk result (map seen all.new.items ≡ map seen all.old.items ++ words_defined (zero_parts text.now)) }
+{
+    let mut rest = Some(text);
+    while let Some(left) = rest {
+        let (word, behind) = split_at_byte(0, left);
+        add_definitions(alloc, word, all)?;
+        rest = behind_first(behind);
+    }
+    Ok(())
+}
+
+// Returns the macros of these words of `-m`, and of definitions, each behind a byte 0.
+fn macros_of(alloc: Global, words: &[&str], behind: &[u8]) -> Result<Vec<Definition>, Stop>
+    ensures { IfOk result (λ ds. map seen ds.items ≡ macros_in (map (λ w. w.now) words.now) behind.now) }
+{
+    let mut all = Vec::new(alloc);
+    add_words(alloc, words, &mut all)?;
+    add_each(alloc, behind, &mut all)?;
+    Ok(all)
+}
+
+// Adds a file, in which the macros of these words of `-m` hold, and those of definitions.
+fn add_file<'a>(
+    alloc: Global,
+    path: &'a str,
+    words: &[&str],
+    definitions: &[u8],
+    all: &mut Vec<(&'a str, Vec<Definition>)>,
+) -> Result<(), Stop>
+    ensures { OnOk result (map (λ p. (p.0.now, map seen p.1.items)) all.new.items
+        ≡ map (λ p. (p.0.now, map seen p.1.items)) all.old.items ++ holding definitions.now path.now (map (λ w. w.now) words.now) ∷ []) }
+{
+    let macros = macros_of(alloc, words, definitions)?;
+    all.push((path, macros)).map_err(AllocError::from)?;
     Ok(())
 }
 
@@ -325,16 +392,36 @@ impl<'a> SiteWords<'a> {
         self.folders.as_slice()
     }
 
-    /// Returns the macros of these words of `-m`, and of definitions, each behind a byte 0.
-    fn macros_of(&self, words: &[&str], behind: &[u8]) -> Result<Vec<Definition>, Stop> {
+    // Returns the files of `-d` with the macros that hold in each.
+    fn named(&self, definitions: &[u8]) -> Result<Vec<(&'a str, Vec<Definition>)>, Stop>
+        ensures { IfOk result (λ all. map (λ p. (p.0.now, map seen p.1.items)) all.items
+            ≡ map (λ f. holding definitions.now f.path.now (map (λ w. w.now) f.macros.items)) self.now.files.items) }
+    {
         let mut all = Vec::new(self.alloc);
-        for word in words {
-            add_definitions(self.alloc, word.as_bytes(), &mut all)?;
+        let mut rest = self.files.as_slice();
+        while let [file, after @ ..] = rest {
+            let (path, words) = (file.path, file.macros.as_slice());
+            add_file(self.alloc, path, words, definitions, &mut all)?;
+            rest = after;
         }
-        for definition in behind.split(|byte| *byte == 0) {
-            if !definition.is_empty() {
-                add_definitions(self.alloc, definition, &mut all)?;
-            }
+        Ok(all)
+    }
+
+    // Returns databases with the macros of all words of `-m` in each.
+    fn unnamed(
+        &self,
+        databases: &[&'a str],
+        definitions: &[u8],
+    ) -> Result<Vec<(&'a str, Vec<Definition>)>, Stop>
+        ensures { IfOk result (λ all. map (λ p. (p.0.now, map seen p.1.items)) all.items
+            ≡ map (λ d. holding definitions.now d.now (map (λ w. w.now) self.now.macros.items)) databases.now) }
+    {
+        let mut all = Vec::new(self.alloc);
+        let mut rest = databases;
+        while let [database, after @ ..] = rest {
+            let (path, words) = (*database, self.macros.as_slice());
+            add_file(self.alloc, path, words, definitions, &mut all)?;
+            rest = after;
         }
         Ok(all)
     }
@@ -349,18 +436,16 @@ impl<'a> SiteWords<'a> {
         &self,
         databases: &[&'a str],
         definitions: &[u8],
-    ) -> Result<Vec<(&'a str, Vec<Definition>)>, Stop> {
-        let mut all = Vec::new(self.alloc);
-        for file in &self.files {
-            let macros = self.macros_of(file.macros.as_slice(), definitions)?;
-            all.push((file.path, macros)).map_err(AllocError::from)?;
-        }
+    ) -> Result<Vec<(&'a str, Vec<Definition>)>, Stop>
+        ensures named { 0 < length self.now.files.items → IfOk result (λ all. map (λ p. (p.0.now, map seen p.1.items)) all.items
+            ≡ map (λ f. holding definitions.now f.path.now (map (λ w. w.now) f.macros.items)) self.now.files.items) }
+        ensures unnamed { length self.now.files.items ≡ 0 → IfOk result (λ all. map (λ p. (p.0.now, map seen p.1.items)) all.items
+            ≡ map (λ d. holding definitions.now d.now (map (λ w. w.now) self.now.macros.items)) databases.now) }
+    {
         if self.files.is_empty() {
-            for database in databases {
-                let macros = self.macros_of(self.macros.as_slice(), definitions)?;
-                all.push((*database, macros)).map_err(AllocError::from)?;
-            }
+            self.unnamed(databases, definitions)
+        } else {
+            self.named(definitions)
         }
-        Ok(all)
     }
 }

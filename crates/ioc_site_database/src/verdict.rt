@@ -1,12 +1,12 @@
 //! What is said of a database, and whether it loads.
-ghost use Rattle.std.specs.Prelude.{◌≡◌, ◌<◌, IfOk, true};
+ghost use Rattle.std.specs.Prelude.{◌≡◌, ◌<◌, IfOk, true, false};
 ghost use Rattle.ioc_site_writer.specs.Loads.{LoadsWith};
 
 use crate::instances::told_once;
 use crate::printing::Counts;
-use crate::refusing::{is_explained, refused_place};
+use crate::refusing::told_of_refusal;
 use ioc_dblex::Macros;
-use ioc_site::{Finding, SourceText};
+use ioc_site::{Finding, Severity, SourceText};
 use ioc_site_rules::put_in_order;
 use ioc_site_writer::refusal;
 use std::alloc::{AllocError, Global};
@@ -20,25 +20,48 @@ pub struct Verdict {
     pub counts: Counts,
 }
 
+// Returns the warnings among what is found.
+fn warnings_among(alloc: Global, all: Vec<Finding>) -> Result<Vec<Finding>, AllocError> {
+    let mut warnings = Vec::new(alloc);
+    for finding in all {
+        if finding.severity == Severity::Warning {
+            warnings.push(finding)?;
+        }
+    }
+    Ok(warnings)
+}
+
 impl Verdict {
-    /// Returns the verdict on a database in which this is found, and which the load refuses or takes.
+    /// Returns the verdict on a database in which this is found, and which the load refuses or takes. What is
+    /// found of one that it takes is no error.
     ///
     /// # Errors
     ///
     /// [`AllocError`] if allocation fails.
     pub fn of(alloc: Global, found: Vec<Finding>, is_refused: bool) -> Result<Self, AllocError>
-        ensures { is_refused ≡ true → IfOk result (λ v. 0 < v.counts.errors) }
+        ensures refused { is_refused ≡ true → IfOk result (λ v. 0 < v.counts.errors) }
+        ensures taken { is_refused ≡ false → IfOk result (λ v. v.counts.errors ≡ 0) }
     {
-        let mut found = found;
+        let mut found = if is_refused {
+            found
+        } else {
+            warnings_among(alloc, found)?
+        };
         put_in_order(alloc, &mut found)?;
         let findings = told_once(alloc, found)?;
-        let counts = Counts::of(findings.as_slice()).with_least(usize::from(is_refused));
+        let counts = Counts::of(findings.as_slice());
+        let counts = if is_refused {
+            counts.with_least(1)
+        } else {
+            counts.without_errors()
+        };
         Ok(Verdict { findings, counts })
     }
 }
 
-/// Judges a text that is loaded alone, with these macros. If the load refuses it and nothing that is found
-/// says why, that is an error at the load's line.
+/// Judges a text that is loaded alone, with these macros. There is no error exactly if the load takes it. If
+/// the load refuses it, no error stands before the load's line, but for those that say why it is refused; if
+/// there is none, the refusal is an error at its place.
 ///
 /// # Errors
 ///
@@ -49,14 +72,14 @@ pub fn judged_text(
     macros: &Macros,
     found: Vec<Finding>,
 ) -> Result<Verdict, AllocError>
-    ensures { IfOk result (λ v. v.counts.errors ≡ 0 → LoadsWith macros.now source.now.text.items) }
+    ensures loads { IfOk result (λ v. v.counts.errors ≡ 0 → LoadsWith macros.now source.now.text.items) }
+    ensures loaded { IfOk result (λ v. LoadsWith macros.now source.now.text.items → v.counts.errors ≡ 0) }
 {
-    let mut found = found;
-    let fault = refusal(alloc, source.text.as_slice(), macros)?;
-    if let Some(fault) = &fault {
-        if !is_explained(found.as_slice(), source.file, *fault) {
-            found.push(refused_place(alloc, source, *fault)?)?;
+    match refusal(alloc, source.text.as_slice(), macros)? {
+        None => Verdict::of(alloc, found, false),
+        Some(fault) => {
+            let told = told_of_refusal(alloc, source, fault, found)?;
+            Verdict::of(alloc, told, true)
         }
     }
-    Verdict::of(alloc, found, fault.is_some())
 }

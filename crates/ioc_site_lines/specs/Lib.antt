@@ -1,1 +1,3 @@
+pub mod Columns
+pub mod Defining
 pub mod Places

@@ -1,8 +1,9 @@
 //! Replacement of macros in a line.
 use crate::closing::{closer_of, find_sign, quote_behind};
 use crate::findings::joined;
-use crate::line::Line;
+use crate::line::{Line, column_behind};
 use crate::macros::{Definition, Macros, Value};
+use ioc_dblex::macros::is_macro_name;
 use std::alloc::{AllocError, Global};
 
 /// How deep macros may lie within one another.
@@ -33,10 +34,10 @@ impl<'a> Part<'a> {
     /// Returns the column of a byte.
     fn column(&self, at: usize) -> u32 {
         if self.is_value {
-            return self.column;
+            self.column
+        } else {
+            column_behind(self.column, at)
         }
-        self.column
-            .saturating_add(u32::try_from(at).unwrap_or(u32::MAX))
     }
 
     /// Returns the column from which what replaces a byte is to come.
@@ -70,14 +71,23 @@ impl<'a> Part<'a> {
     }
 }
 
+/// Returns whether a byte stands for itself.
+fn is_plain_byte(byte: u8) -> bool {
+    !matches!(byte, b'$' | b'\\' | b'"' | b'\'')
+}
+
 /// Replaces macros, line by line.
 #[derive(Drop)]
 pub struct Expander {
-    pub(crate) alloc: Global,
+    alloc: Global,
     /// The definitions that hold.
     pub macros: Macros,
     /// What is wrong with the macros of the last line.
     pub faults: Vec<Fault>,
+    /// Whether the file is loaded alone. A backslash before a macro has no meaning then.
+    pub is_alone: bool,
+    /// Whether macros of the line lie too deep. No more of them is replaced then.
+    is_too_deep: bool,
     /// How many bytes lines may still have. A use of a macro counts as one.
     left: u64,
 }
@@ -89,6 +99,8 @@ impl Expander {
             alloc,
             macros: Macros::new(alloc),
             faults: Vec::new(alloc),
+            is_alone: false,
+            is_too_deep: false,
             left: most_bytes,
         }
     }
@@ -98,50 +110,63 @@ impl Expander {
         self.left == 0
     }
 
-    /// Returns a line with its macros replaced.
+    /// Appends a line's text with its macros replaced.
     ///
     /// # Errors
     ///
     /// [`AllocError`] if allocation fails.
-    pub fn expanded_line(&mut self, text: &[u8]) -> Result<Line, AllocError> {
+    pub fn expand_line(&mut self, text: &[u8], line: &mut Line) -> Result<(), AllocError> {
         let part = Part {
             text,
             column: 1,
             is_value: false,
             around: None,
         };
-        let mut line = Line::new(self.alloc);
-        self.expand(part, MOST_LEVELS, &mut line)?;
-        Ok(line)
+        self.is_too_deep = false;
+        self.expand(part, MOST_LEVELS, line)
     }
 
     /// Notes a mistake.
-    pub(crate) fn fail(&mut self, column: u32, parts: &[&[u8]]) -> Result<(), AllocError> {
+    fn fail(&mut self, column: u32, parts: &[&[u8]]) -> Result<(), AllocError> {
         let text = joined(self.alloc, parts)?;
         self.faults.push(Fault { column, text })?;
         Ok(())
     }
 
-    /// Appends a byte.
-    pub(crate) fn add(&mut self, line: &mut Line, byte: u8, column: u32) -> Result<(), AllocError> {
-        if self.left == 0 {
-            return Ok(());
-        }
-        self.left = self.left.saturating_sub(1);
-        line.push(byte, column)
+    /// Notes that a macro lies too deep.
+    fn fail_depth(&mut self, column: u32) -> Result<(), AllocError> {
+        self.is_too_deep = true;
+        let text = b"macros lie more than 32 deep; use fewer within one another";
+        self.fail(column, &[text])
     }
 
-    /// Appends a text that comes from one column.
-    pub(crate) fn add_text(
+    /// Appends bytes as [`Line::push`] does, unless lines have as many as they may.
+    fn add(
         &mut self,
         line: &mut Line,
-        text: &[u8],
+        bytes: &[u8],
         column: u32,
+        is_fixed: bool,
     ) -> Result<(), AllocError> {
-        for byte in text {
-            self.add(line, *byte, column)?;
+        let length = u64::try_from(bytes.len()).unwrap_or(u64::MAX);
+        let is_whole = length <= self.left;
+        self.left = self.left.saturating_sub(length);
+        if length == 0 || !is_whole {
+            return Ok(());
         }
-        Ok(())
+        line.push(bytes, column, is_fixed)
+    }
+
+    /// Appends the bytes of a part from the first one up to the second one.
+    fn add_part(
+        &mut self,
+        line: &mut Line,
+        part: Part,
+        from: usize,
+        to: usize,
+    ) -> Result<(), AllocError> {
+        let bytes = part.text.get(from..to).unwrap_or(&[]);
+        self.add(line, bytes, part.shown(from), part.around.is_some())
     }
 
     /// Appends a part of a line with its macros replaced. Outside the line's own text quotes and
@@ -150,39 +175,45 @@ impl Expander {
     fn expand(&mut self, part: Part, levels: u32, line: &mut Line) -> Result<(), AllocError> {
         let is_own = part.around.is_none();
         let mut quote = None;
-        let mut next = 0;
+        // Where the bytes begin that aren't appended yet, and the next one that is looked at.
+        let (mut begun, mut next) = (0, 0);
         for (at, byte) in part.text.iter().enumerate() {
-            if at < next {
+            if at < next || is_plain_byte(*byte) {
                 continue;
             }
-            let behind = part.text.get(at..).unwrap_or(&[]);
-            match behind {
+            let behind = at.saturating_add(1);
+            match part.text.get(at..).unwrap_or(&[]) {
                 [b'$', b'(' | b'{', ..] if quote != Some(b'\'') => {
+                    self.add_part(line, part, begun, at)?;
                     next = self.expand_use(part, at, levels, line)?;
+                    begun = next;
                 }
-                [b'\\', escaped, ..] => {
-                    if is_own {
-                        self.add(line, b'\\', part.shown(at))?;
+                [b'\\', escaped, ..] if !(self.is_alone && is_own && *escaped == b'$') => {
+                    next = behind.saturating_add(1);
+                    if !is_own {
+                        self.add_part(line, part, begun, at)?;
+                        begun = behind;
                     }
-                    next = at.saturating_add(1);
-                    self.add(line, *escaped, part.shown(next))?;
-                    next = next.saturating_add(1);
                 }
                 _ => {
-                    let (is_quote, behind) = quote_behind(quote, *byte);
-                    quote = behind;
-                    if is_own || !is_quote {
-                        self.add(line, *byte, part.shown(at))?;
+                    let (is_quote, open) = quote_behind(quote, *byte);
+                    quote = open;
+                    if is_quote && !is_own {
+                        self.add_part(line, part, begun, at)?;
+                        begun = behind;
                     }
                 }
             }
         }
-        Ok(())
+        self.add_part(line, part, begun, part.text.len())
     }
 
     /// Returns a part of a line with its macros replaced.
     #[cycle(expanding)]
     fn expanded(&mut self, part: Part, levels: u32) -> Result<Vec<u8>, AllocError> {
+        if part.text.iter().all(|byte| is_plain_byte(*byte)) {
+            return part.text.to_vec(self.alloc);
+        }
         let mut line = Line::new(self.alloc);
         self.expand(part, levels, &mut line)?;
         Ok(line.bytes)
@@ -198,7 +229,7 @@ impl Expander {
         line: &mut Line,
     ) -> Result<usize, AllocError> {
         let length = part.text.len();
-        if self.left == 0 {
+        if self.left == 0 || self.is_too_deep {
             return Ok(length);
         }
         self.left = self.left.saturating_sub(1);
@@ -216,14 +247,11 @@ impl Expander {
                     b"' behind its name",
                 ],
             )?;
-            self.add_text(line, part.text.get(at..).unwrap_or(&[]), part.shown(at))?;
+            self.add_part(line, part, at, length)?;
             return Ok(length);
         };
         if levels == 0 {
-            self.fail(
-                column,
-                &[b"macros lie more than 32 deep; use fewer within one another"],
-            )?;
+            self.fail_depth(column)?;
         } else {
             let used = inner.between(0, count, part.shown(at));
             self.replace_use(used, column, levels - 1, line)?;
@@ -290,7 +318,10 @@ impl Expander {
             column,
             shown,
         } = wanted;
-        match self.macros.value_of(name)? {
+        if self.is_alone && !is_macro_name(name) {
+            return self.keep_use(name, column, shown, line);
+        }
+        match self.macros.take_value(name) {
             Value::Text(text, number) => {
                 let part = Part {
                     text: text.as_slice(),
@@ -298,9 +329,8 @@ impl Expander {
                     is_value: true,
                     around: Some(shown),
                 };
-                self.macros.mark(number, true);
                 self.expand(part, levels, line)?;
-                self.macros.mark(number, false);
+                self.macros.give_back(text, number);
                 Ok(())
             }
             Value::Open => self.fail(
@@ -326,13 +356,16 @@ impl Expander {
         shown: u32,
         line: &mut Line,
     ) -> Result<(), AllocError> {
-        self.fail(
-            column,
-            &[b"macro ", name, b" has no value: give ", name, b"=.."],
-        )?;
-        self.add_text(line, b"$(", shown)?;
-        self.add_text(line, name, shown)?;
-        self.add_text(line, b")", shown)
+        let remedy = b"': a name has letters, digits and '_' alone; write another one";
+        if self.is_alone && !is_macro_name(name) {
+            self.fail(column, &[b"macro '", name, remedy])?;
+        } else {
+            let parts = [b"macro ", name, b" has no value: give ", name, b"=.."];
+            self.fail(column, &parts)?;
+        }
+        self.add(line, b"$(", shown, true)?;
+        self.add(line, name, shown, true)?;
+        self.add(line, b")", shown, true)
     }
 }
 

@@ -1,60 +1,29 @@
 //! The token at the front of some bytes.
 use crate::closing::closer_of;
 use crate::token::Kind;
-
-/// Returns whether the byte may stand in a word without quotes.
-fn is_word_byte(byte: u8) -> bool {
-    byte.is_ascii_alphanumeric() || b"_-+:.[]<>;*".contains(&byte)
-}
+use ioc_dblex::{skip_gap, split_at_byte, split_quoted, split_word};
 
 /// Returns whether the byte is a sign.
 fn is_sign(byte: u8) -> bool {
-    b"(){},".contains(&byte)
+    matches!(byte, b'(' | b')' | b'{' | b'}' | b',')
 }
 
-/// Returns whether the byte is a blank. A form feed is none, and no carriage return that stands alone.
-fn is_blank(byte: u8) -> bool {
-    byte == b' ' || byte == b'\t'
-}
-
-/// Returns how many bytes at the front are blanks.
-pub fn blanks(bytes: &[u8]) -> usize {
-    let mut count = 0;
-    for byte in bytes {
-        if !is_blank(*byte) {
-            return count;
-        }
-        count = count.saturating_add(1);
+/// Returns the bytes behind the word at the front. It may have uses of macros that have no value, and `*`.
+fn behind_word(bytes: &[u8]) -> &[u8] {
+    let mut rest = bytes;
+    for _ in 0..bytes.len() {
+        rest = match split_word(rest).1 {
+            [b'*', after @ ..] => after,
+            [b'$', bracket @ (b'(' | b'{'), inner @ ..] => {
+                split_at_byte(closer_of(*bracket), inner)
+                    .1
+                    .get(1..)
+                    .unwrap_or(&[])
+            }
+            behind => return behind,
+        };
     }
-    count
-}
-
-/// Returns the length of the word at the front. It may have uses of macros that have no value.
-fn word_length(bytes: &[u8]) -> usize {
-    let mut closer = None;
-    for (at, byte) in bytes.iter().enumerate() {
-        let behind = bytes.get(at..).unwrap_or(&[]);
-        match (closer, behind) {
-            (Some(open), _) if open == *byte => closer = None,
-            (Some(_), _) => {}
-            (None, [b'$', bracket @ (b'(' | b'{'), ..]) => closer = Some(closer_of(*bracket)),
-            _ if !is_word_byte(*byte) => return at,
-            _ => {}
-        }
-    }
-    bytes.len()
-}
-
-/// Returns the length of the text at the front, up to the quote that closes it.
-fn quoted_length(bytes: &[u8]) -> Option<usize> {
-    let mut is_escaped = false;
-    for (at, byte) in bytes.iter().enumerate() {
-        if *byte == b'"' && !is_escaped {
-            return Some(at);
-        }
-        is_escaped = *byte == b'\\' && !is_escaped;
-    }
-    None
+    rest
 }
 
 /// Returns whether what is behind a bracket `)` goes on as behind the end of an entry or of a head.
@@ -91,8 +60,7 @@ fn fault_length(bytes: &[u8]) -> usize {
 
 /// Returns whether some bytes are a word with `)` behind it, or with nothing.
 pub fn is_whole_word(bytes: &[u8]) -> bool {
-    let behind = bytes.get(word_length(bytes)..).unwrap_or(&[]);
-    matches!(behind.get(blanks(behind)..), Some([] | [b')', ..]))
+    matches!(skip_gap(behind_word(bytes)), [] | [b')', ..])
 }
 
 /// How the bytes of a token lie.
@@ -110,12 +78,12 @@ pub struct Extent {
 /// Returns the extent of the token at the front of some bytes, which begin with no blank.
 pub fn extent_of(bytes: &[u8]) -> Extent {
     let (kind, before, length) = match bytes {
-        [b'"', text @ ..] => match quoted_length(text) {
-            Some(length) => (Kind::Quoted, 1, length),
-            None => (Kind::Fault, 0, unclosed_length(bytes)),
+        [b'"', text @ ..] => match split_quoted(text) {
+            (_, []) => (Kind::Fault, 0, unclosed_length(bytes)),
+            (text, _) => (Kind::Quoted, 1, text.len()),
         },
         [sign, ..] if is_sign(*sign) => (Kind::Sign(*sign), 0, 1),
-        _ => match word_length(bytes) {
+        _ => match bytes.len().saturating_sub(behind_word(bytes).len()) {
             0 => (Kind::Fault, 0, fault_length(bytes)),
             length => (Kind::Word, 0, length),
         },
@@ -134,7 +102,7 @@ fn item_length(bytes: &[u8]) -> Option<usize> {
     let mut is_quoted = false;
     let mut is_escaped = false;
     for (at, byte) in bytes.iter().enumerate() {
-        let ends = is_blank(*byte) || b"{},".contains(byte);
+        let ends = matches!(*byte, b' ' | b'\t' | b'{' | b'}' | b',');
         if is_escaped {
             is_escaped = false;
         } else if ends && !is_quoted {

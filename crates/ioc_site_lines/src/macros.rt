@@ -1,5 +1,8 @@
 //! Definitions of macros.
+ghost use Rattle.std.specs.Prelude.{◌≡◌, IfOk};
+
 use std::alloc::{AllocError, Global};
+use std::mem;
 
 /// The definition of a macro.
 #[derive(Debug, Drop)]
@@ -16,11 +19,31 @@ impl Definition {
     /// # Errors
     ///
     /// [`AllocError`] if allocation fails.
-    pub fn new(alloc: Global, name: &[u8], value: &[u8]) -> Result<Self, AllocError> {
+    pub fn new(alloc: Global, name: &[u8], value: &[u8]) -> Result<Self, AllocError>
+        ensures name { IfOk result (λ d. d.name.items ≡ name.now) }
+        ensures value { IfOk result (λ d. d.value.items ≡ value.now) }
+    {
         Ok(Definition {
             name: name.to_vec(alloc)?,
             value: value.to_vec(alloc)?,
         })
+    }
+
+    /// Makes a definition of a copy of a name and of a value that has no macros, quotes and backslashes of its
+    /// own: each of its bytes stands for itself.
+    ///
+    /// # Errors
+    ///
+    /// [`AllocError`] if allocation fails.
+    pub fn literal(alloc: Global, name: &[u8], value: &[u8]) -> Result<Self, AllocError> {
+        let mut escaped = Vec::new(alloc);
+        for byte in value {
+            if b"\\\"'$".contains(byte) {
+                escaped.push(b'\\')?;
+            }
+            escaped.push(*byte)?;
+        }
+        Definition::new(alloc, name, escaped.as_slice())
     }
 }
 
@@ -28,7 +51,7 @@ impl Definition {
 #[derive(Drop)]
 struct Held {
     definition: Definition,
-    /// Whether its value is being replaced.
+    /// Whether its value is taken, since it is being replaced.
     is_open: bool,
 }
 
@@ -96,30 +119,26 @@ impl Macros {
         self.held.truncate(count);
     }
 
-    /// Returns the value of a macro.
-    ///
-    /// # Errors
-    ///
-    /// [`AllocError`] if allocation fails.
-    pub fn value_of(&self, name: &[u8]) -> Result<Value, AllocError> {
-        let mut found = Value::Undefined;
-        for (number, held) in self.held.iter().enumerate().rev() {
+    /// Takes the value of a macro. Its definition is open until it has the value again.
+    pub fn take_value(&mut self, name: &[u8]) -> Value {
+        for (number, held) in self.held.iter_mut().enumerate().rev() {
             if held.definition.name.as_slice() == name {
-                found = if held.is_open {
-                    Value::Open
-                } else {
-                    Value::Text(held.definition.value.as_slice().to_vec(self.alloc)?, number)
-                };
-                break;
+                if held.is_open {
+                    return Value::Open;
+                }
+                held.is_open = true;
+                let none = Vec::new(self.alloc);
+                return Value::Text(mem::replace(&mut held.definition.value, none), number);
             }
         }
-        Ok(found)
+        Value::Undefined
     }
 
-    /// Marks whether the value of the definition with this number is being replaced.
-    pub fn mark(&mut self, number: usize, is_open: bool) {
+    /// Gives the definition with this number its value again.
+    pub fn give_back(&mut self, value: Vec<u8>, number: usize) {
         if let Some(held) = self.held.get_mut(number) {
-            held.is_open = is_open;
+            held.is_open = false;
+            held.definition.value = value;
         }
     }
 }

@@ -4,11 +4,13 @@ ghost use Rattle.ioc_site_lines.specs.Places.{place_of_rest};
 
 use crate::findings::{joined, shown};
 use crate::json::Json;
-use crate::lexing::{blanks, extent_of, is_whole_word, item_extent_of};
+use crate::lexing::{extent_of, is_whole_word, item_extent_of};
 use crate::line::Line;
 use crate::token::{Kind, Token};
+use ioc_dblex::{skip_gap, split_at_byte};
 use ioc_site::Place;
 use std::alloc::{AllocError, Global};
+use std::mem;
 
 /// What is said of a carriage return alone.
 pub const LONE_RETURN: &[u8] = b"a carriage return without a line feed; put a line feed behind it";
@@ -25,6 +27,9 @@ pub struct OpenFile {
     /// Whether the next line begins in a comment of C.
     pub is_in_comment: bool,
     text: Vec<u8>,
+    /// Where the line as it is written begins, and where its end stands.
+    from: usize,
+    to: usize,
     /// Where the next line begins.
     behind: usize,
     /// The number of the line.
@@ -34,58 +39,74 @@ pub struct OpenFile {
     at: usize,
 }
 
-/// A line as it is written.
-#[derive(Drop)]
-pub struct WrittenLine {
-    pub bytes: Vec<u8>,
-    /// Where it begins.
-    pub place: Place,
-}
-
 impl OpenFile {
-    /// Begins with the first line, behind the byte order mark of UTF-8 if there is one.
-    pub fn new(alloc: Global, number: u32, text: Vec<u8>, has_sets: bool) -> Self {
+    /// Begins with the first line, behind the byte order mark of UTF-8 if there is one. Lines are kept in this
+    /// one.
+    pub fn new(number: u32, text: Vec<u8>, has_sets: bool, line: Line) -> Self {
         let behind = if text.starts_with(b"\xef\xbb\xbf") {
             3
         } else {
             0
         };
+        let mut line = line;
+        line.clear();
         OpenFile {
             number,
             has_sets,
             is_in_comment: false,
             text,
+            from: 0,
+            to: 0,
             behind,
             line_number: 0,
-            line: Line::new(alloc),
+            line,
             at: 0,
         }
     }
 
-    /// Returns the next line without its end, or `None` at the end of the file.
-    ///
-    /// # Errors
-    ///
-    /// [`AllocError`] if allocation fails.
-    pub fn next_written(&mut self, alloc: Global) -> Result<Option<WrittenLine>, AllocError> {
+    /// Goes to the next line as it is written. Returns whether there is one.
+    pub fn next_written(&mut self) -> bool {
         let rest = self.text.get(self.behind..).unwrap_or(&[]);
         if rest.is_empty() {
-            return Ok(None);
+            return false;
         }
-        let end = rest.iter().position(|byte| *byte == b'\n');
-        let length = end.unwrap_or(rest.len());
-        let mut bytes = rest.get(..length).unwrap_or(rest).to_vec(alloc)?;
-        if end.is_some() && bytes.last().copied() == Some(b'\r') {
-            bytes.pop();
-        }
-        self.behind = self.behind.saturating_add(length).saturating_add(1);
+        let (line, end) = split_at_byte(b'\n', rest);
+        let is_cut = !end.is_empty() && line.last().copied() == Some(b'\r');
+        self.from = self.behind;
+        self.to = self
+            .behind
+            .saturating_add(line.len())
+            .saturating_sub(usize::from(is_cut));
+        self.behind = self.behind.saturating_add(line.len()).saturating_add(1);
         self.line_number = self.line_number.saturating_add(1);
-        let place = Place {
+        true
+    }
+
+    /// Returns the line as it is written, without its end.
+    pub fn written(&self) -> &[u8] {
+        self.text.get(self.from..self.to).unwrap_or(&[])
+    }
+
+    /// Returns whether the line as it is written begins and has no comment, and has no byte that no text has.
+    pub fn is_plain(&self) -> bool {
+        let is_plain = |byte: &u8| !matches!(*byte, b'#' | b'/' | b'\r' | 0);
+        !self.is_in_comment && self.written().iter().all(is_plain)
+    }
+
+    /// Returns where the line begins.
+    pub fn start(&self) -> Place {
+        Place {
             file: self.number,
             line: self.line_number,
             column: 1,
-        };
-        Ok(Some(WrittenLine { bytes, place }))
+        }
+    }
+
+    /// Takes the line of which tokens were made. No byte is in it then.
+    pub fn take_line(&mut self, alloc: Global) -> Line {
+        let mut line = mem::replace(&mut self.line, Line::new(alloc));
+        line.clear();
+        line
     }
 
     /// Sets the line of which tokens are made.
@@ -107,15 +128,17 @@ impl OpenFile {
 
     /// Passes blanks and a comment. Returns the byte behind them on the line.
     pub fn skip_blanks(&mut self) -> Option<u8> {
-        let rest = self.line.from(self.at);
-        let at = self.at.saturating_add(blanks(rest));
-        let next = self.line.from(at).first().copied();
-        if next == Some(b'#') {
-            self.at = self.line.bytes.len();
-            return None;
+        let length = self.line.bytes.len();
+        match skip_gap(self.line.from(self.at)) {
+            [] | [b'#', ..] => {
+                self.at = length;
+                None
+            }
+            rest @ [next, ..] => {
+                self.at = length.saturating_sub(rest.len());
+                Some(*next)
+            }
         }
-        self.at = at;
-        next
     }
 
     /// Returns the next token of the line.
@@ -145,7 +168,8 @@ impl OpenFile {
         let written = rest.get(extent.before..end).unwrap_or(&[]);
         let text = match extent.kind {
             Kind::Fault => fault_text(alloc, written)?,
-            _ => written.to_vec(alloc)?,
+            Kind::Sign(_) => Vec::new(alloc),
+            Kind::Word | Kind::Quoted => written.to_vec(alloc)?,
         };
         self.at = self.at.saturating_add(extent.whole);
         let next = self.skip_blanks();

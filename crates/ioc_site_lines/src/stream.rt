@@ -8,13 +8,11 @@ use crate::escapes::unescaped;
 use crate::expanding::Expander;
 use crate::findings::Findings;
 use crate::json::Json;
-use crate::lexing::blanks;
-use crate::line::Line;
-use crate::loading::{Manner, before_comment};
+use crate::line::{Line, column_behind};
 use crate::macros::Definition;
-use crate::opened::{LONE_RETURN, OpenFile, WrittenLine, ZERO_BYTE};
+use crate::opened::{LONE_RETURN, OpenFile, ZERO_BYTE};
 use crate::token::Token;
-use ioc_dblex::unescaped as unescaped_by_load;
+use ioc_dblex::{lacks, skip_gap, unescaped as unescaped_by_load};
 use ioc_site::{Finding, Place, Word};
 use std::alloc::{AllocError, Global};
 use std::mem;
@@ -27,25 +25,26 @@ const MOST_BYTES: u64 = 1 << 26;
 pub struct Stream {
     /// What allocates.
     pub alloc: Global,
-    manner: Manner,
     open: Vec<OpenFile>,
     pub(crate) expander: Expander,
     /// What is found so far.
     pub findings: Findings,
     /// The next token, if it is made already.
     pub ahead: Option<Token>,
+    /// What the lines of the next file are kept in.
+    spare: Line,
 }
 
 impl Stream {
     /// Begins with no open file.
-    pub fn new(alloc: Global, manner: Manner) -> Self {
+    pub fn new(alloc: Global) -> Self {
         Stream {
             alloc,
-            manner,
             open: Vec::new(alloc),
             expander: Expander::new(alloc, MOST_BYTES),
             findings: Findings::new(alloc),
             ahead: None,
+            spare: Line::new(alloc),
         }
     }
 
@@ -67,8 +66,8 @@ impl Stream {
         if self.is_open(number) {
             return Ok(false);
         }
-        let file = OpenFile::new(self.alloc, number, text, has_sets);
-        self.open.push(file)?;
+        let line = mem::replace(&mut self.spare, Line::new(self.alloc));
+        self.open.push(OpenFile::new(number, text, has_sets, line))?;
         Ok(true)
     }
 
@@ -86,9 +85,15 @@ impl Stream {
         false
     }
 
-    /// Returns whether lines are read as the load of one text reads them.
-    fn is_of_load(&self) -> bool {
-        matches!(self.manner, Manner::OfLoad(_))
+    /// Sets whether the files that are opened from now on are loaded alone: what a backslash and a bracket
+    /// mean there is what they mean to the load of one text.
+    pub fn set_alone(&mut self, is_alone: bool) {
+        self.expander.is_alone = is_alone;
+    }
+
+    /// Returns whether the file is loaded alone.
+    fn is_alone(&self) -> bool {
+        self.expander.is_alone
     }
 
     /// Returns a name, a type or a path that is written so between quotes.
@@ -97,9 +102,10 @@ impl Stream {
     ///
     /// [`AllocError`] if allocation fails.
     pub fn name_text(&self, written: Vec<u8>) -> Result<Vec<u8>, AllocError> {
-        match self.manner {
-            Manner::OfBase => Ok(written),
-            Manner::OfLoad(_) => unescaped_by_load(self.alloc, false, written.as_slice()),
+        if self.is_alone() && !lacks(b'\\', &written) {
+            unescaped_by_load(self.alloc, false, &written)
+        } else {
+            Ok(written)
         }
     }
 
@@ -108,10 +114,13 @@ impl Stream {
     /// # Errors
     ///
     /// [`AllocError`] if allocation fails.
-    pub fn value_text(&self, written: &[u8]) -> Result<Vec<u8>, AllocError> {
-        match self.manner {
-            Manner::OfBase => unescaped(self.alloc, written),
-            Manner::OfLoad(_) => unescaped_by_load(self.alloc, true, written),
+    pub fn value_text(&self, written: Vec<u8>) -> Result<Vec<u8>, AllocError> {
+        if lacks(b'\\', &written) {
+            Ok(written)
+        } else if self.is_alone() {
+            unescaped_by_load(self.alloc, true, &written)
+        } else {
+            unescaped(self.alloc, &written)
         }
     }
 
@@ -127,6 +136,15 @@ impl Stream {
     /// [`AllocError`] if allocation fails.
     pub fn define_all(&mut self, definitions: &[Definition]) -> Result<(), AllocError> {
         self.expander.macros.define_all(definitions)
+    }
+
+    /// Adds a definition of a macro, which takes precedence.
+    ///
+    /// # Errors
+    ///
+    /// [`AllocError`] if allocation fails.
+    pub fn define(&mut self, definition: Definition) -> Result<(), AllocError> {
+        self.expander.macros.define(definition)
     }
 
     /// Returns the number of definitions of macros.
@@ -146,10 +164,10 @@ impl Stream {
     }
 
     /// Reports bytes that no text has, and puts blanks in their place.
-    fn check_bytes(&mut self, written: &mut WrittenLine) -> Result<(), AllocError> {
-        let mut place = written.place;
+    fn check_bytes(&mut self, start: Place, written: &mut [u8]) -> Result<(), AllocError> {
+        let mut place = start;
         let mut is_reported = false;
-        for byte in written.bytes.iter_mut() {
+        for byte in written.iter_mut() {
             let text: &[u8] = match *byte {
                 b'\r' => LONE_RETURN,
                 0 => ZERO_BYTE,
@@ -167,41 +185,34 @@ impl Stream {
         Ok(())
     }
 
-    /// Puts blanks in place of the comments of a line, which begins in one of C or doesn't, and reports
+    /// Puts blanks in place of the comments of a file's line, which begins in one of C or doesn't, and reports
     /// those of C. In a substitution file, whose paths have slashes, these stand at the front of a line alone.
     /// Returns whether the next line begins in one.
     fn clear_comments(
         &mut self,
-        written: &mut WrittenLine,
-        has_sets: bool,
-        is_in_comment: bool,
+        file: &OpenFile,
+        written: &mut Vec<u8>,
     ) -> Result<bool, AllocError> {
-        if is_in_comment {
-            let Some(end) = block_end(&written.bytes) else {
-                written.bytes.truncate(0);
+        if file.is_in_comment {
+            let Some(end) = block_end(written) else {
+                written.clear();
                 return Ok(true);
             };
-            clear(written.bytes.as_mut_slice(), 0, end);
-        }
-        if self.is_of_load() {
-            let count = before_comment(&written.bytes);
-            written.bytes.truncate(count);
+            clear(written.as_mut_slice(), 0, end);
         }
         for _ in 0..u64::MAX {
-            let front = blanks(&written.bytes);
-            let Some((at, comment)) = first_comment(self.alloc, &written.bytes)? else {
+            let front = written.len().saturating_sub(skip_gap(written).len());
+            let Some((at, comment)) = first_comment(self.alloc, written)? else {
                 break;
             };
             if comment == Comment::Own {
-                if !self.is_of_load() {
-                    written.bytes.truncate(at);
-                }
+                written.truncate(at);
                 break;
             }
-            if has_sets && at != front {
+            if file.has_sets && at != front {
                 break;
             }
-            if self.pass_comment(written, at, comment)? {
+            if self.pass_comment(file.start(), written, at, comment)? {
                 return Ok(true);
             }
         }
@@ -212,26 +223,24 @@ impl Stream {
     /// on behind the line.
     fn pass_comment(
         &mut self,
-        written: &mut WrittenLine,
+        start: Place,
+        written: &mut Vec<u8>,
         at: usize,
         comment: Comment,
     ) -> Result<bool, AllocError> {
-        let column = u32::try_from(at).unwrap_or(u32::MAX).saturating_add(1);
-        let place = Place {
-            column,
-            ..written.place
-        };
+        let column = column_behind(1, at);
+        let place = Place { column, ..start };
         let text = b"no comment begins here; a comment begins with '#'";
         self.findings.report(place, &[text])?;
         let inside = at.saturating_add(2);
-        let end = block_end(written.bytes.get(inside..).unwrap_or(&[]));
+        let end = block_end(written.get(inside..).unwrap_or(&[]));
         match end {
             Some(end) if comment == Comment::Block => {
-                clear(written.bytes.as_mut_slice(), at, inside.saturating_add(end));
+                clear(written.as_mut_slice(), at, inside.saturating_add(end));
                 Ok(false)
             }
             _ => {
-                written.bytes.truncate(at);
+                written.truncate(at);
                 Ok(comment == Comment::Block)
             }
         }
@@ -271,25 +280,52 @@ impl Stream {
         self.expander.macros.define_all(definitions.list.as_slice())
     }
 
-    /// Returns a line with its macros replaced.
-    fn replaced(&mut self, place: Place, code: &[u8]) -> Result<Line, AllocError> {
-        let solid = code.get(blanks(code)..).unwrap_or(&[]);
+    /// Appends a line's text with its macros replaced, unless it is one that defines macros or is passed.
+    fn add_replaced(
+        &mut self,
+        place: Place,
+        code: &[u8],
+        line: &mut Line,
+    ) -> Result<(), AllocError> {
+        let solid = skip_gap(code);
         if solid.starts_with(b"%") {
-            return Ok(Line::new(self.alloc));
+            return Ok(());
         }
         if let Some(text) = solid.strip_prefix(b"substitute")
             && matches!(text.first().copied(), Some(b' ' | b'\t' | b'"'))
-            && (!self.is_of_load() || text.trim_ascii().starts_with(b"\""))
+            && (!self.is_alone() || text.trim_ascii().starts_with(b"\""))
         {
-            self.substitute(place, text)?;
-            return Ok(Line::new(self.alloc));
+            return self.substitute(place, text);
         }
-        let line = match &self.manner {
-            Manner::OfBase => self.expander.expanded_line(code)?,
-            Manner::OfLoad(macros) => self.expander.line_of_load(macros, code)?,
-        };
-        self.report_faults(place)?;
-        Ok(line)
+        self.expander.expand_line(code, line)?;
+        self.report_faults(place)
+    }
+
+    /// Appends a file's line with its macros replaced and without its comments.
+    fn add_line(&mut self, file: &mut OpenFile, line: &mut Line) -> Result<(), AllocError> {
+        let start = file.start();
+        if file.is_plain() {
+            return self.add_uncommented(file, file.written(), line);
+        }
+        let mut written = file.written().to_vec(self.alloc)?;
+        if !self.is_alone() {
+            self.check_bytes(start, written.as_mut_slice())?;
+        }
+        file.is_in_comment = self.clear_comments(file, &mut written)?;
+        self.add_uncommented(file, written.as_slice(), line)
+    }
+
+    /// Appends a file's line, which has no comment, with its macros replaced.
+    fn add_uncommented(
+        &mut self,
+        file: &OpenFile,
+        code: &[u8],
+        line: &mut Line,
+    ) -> Result<(), AllocError> {
+        if file.has_sets {
+            return line.push(code, 1, false);
+        }
+        self.add_replaced(file.start(), code, line)
     }
 
     /// Returns a file's name with its macros replaced, or `None` if they can't be. That is
@@ -299,7 +335,8 @@ impl Stream {
     ///
     /// [`AllocError`] if allocation fails.
     pub fn replaced_name(&mut self, name: &Word) -> Result<Option<Word>, AllocError> {
-        let line = self.expander.expanded_line(name.text.as_slice())?;
+        let mut line = Line::new(self.alloc);
+        self.expander.expand_line(name.text.as_slice(), &mut line)?;
         let faults = mem::replace(&mut self.expander.faults, Vec::new(self.alloc));
         let is_faulty = !faults.is_empty();
         for fault in faults {
@@ -322,33 +359,23 @@ impl Stream {
         self.findings.report(place, &[text])
     }
 
-    /// Goes to the next line of the last file. Returns whether there is one.
+    /// Goes to the next line of the last file. Returns whether there is one; if not, the file is ended.
     fn next_line(&mut self) -> Result<bool, AllocError> {
-        let Some(file) = self.open.last_mut() else {
+        let Some(mut file) = self.open.pop() else {
             return Ok(false);
         };
-        let (has_sets, is_in_comment) = (file.has_sets, file.is_in_comment);
-        let Some(mut written) = file.next_written(self.alloc)? else {
+        let mut line = file.take_line(self.alloc);
+        if !file.next_written() {
+            self.spare = line;
             return Ok(false);
-        };
-        if !self.is_of_load() {
-            self.check_bytes(&mut written)?;
         }
-        let place = written.place;
-        let is_in_comment = self.clear_comments(&mut written, has_sets, is_in_comment)?;
-        let line = if has_sets {
-            Line::written(self.alloc, written.bytes.as_slice())?
-        } else {
-            self.replaced(place, written.bytes.as_slice())?
-        };
+        self.add_line(&mut file, &mut line)?;
         if self.expander.is_spent() {
-            self.end_all(place)?;
+            self.end_all(file.start())?;
             return Ok(false);
         }
-        if let Some(file) = self.open.last_mut() {
-            file.is_in_comment = is_in_comment;
-            file.set_line(line);
-        }
+        file.set_line(line);
+        self.open.push(file)?;
         Ok(true)
     }
 
@@ -366,9 +393,7 @@ impl Stream {
             if let Some(byte) = file.skip_blanks() {
                 return Ok(Some(byte));
             }
-            if !self.next_line()? {
-                self.open.pop();
-            }
+            self.next_line()?;
         }
         Ok(None)
     }
@@ -382,7 +407,7 @@ impl Stream {
     pub fn is_at_json(&mut self) -> Result<bool, AllocError> {
         let next = self.next_byte()?;
         let is_word = match self.open.last() {
-            Some(file) => self.is_of_load() && file.is_at_whole_word(),
+            Some(file) => self.is_alone() && file.is_at_whole_word(),
             None => false,
         };
         Ok(next == Some(b'{') || (next == Some(b'[') && !is_word))

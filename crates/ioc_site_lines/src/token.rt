@@ -18,7 +18,7 @@ pub enum Kind {
 pub struct Token {
     /// What it is.
     pub kind: Kind,
-    /// Its bytes, without quotes.
+    /// Its bytes, without quotes. Of a sign there are none.
     pub text: Vec<u8>,
     /// Where it begins in its file, before macros were replaced.
     pub place: Place,
@@ -39,38 +39,41 @@ pub enum Keyword {
     Definition,
 }
 
-/// What each of these words begins.
-const KEYWORDS: [(&str, Keyword); 17] = [
-    ("record", Keyword::Record),
-    ("grecord", Keyword::Record),
-    ("field", Keyword::Field),
-    ("info", Keyword::Info),
-    ("alias", Keyword::Alias),
-    ("include", Keyword::Include),
-    ("path", Keyword::Path),
-    ("addpath", Keyword::Path),
-    ("menu", Keyword::Definition),
-    ("recordtype", Keyword::Definition),
-    ("device", Keyword::Definition),
-    ("driver", Keyword::Definition),
-    ("registrar", Keyword::Definition),
-    ("function", Keyword::Definition),
-    ("variable", Keyword::Definition),
-    ("breaktable", Keyword::Definition),
-    ("link", Keyword::Definition),
-];
-
 /// Returns what a word begins.
 pub fn keyword_of(text: &[u8]) -> Option<Keyword> {
-    for (name, keyword) in KEYWORDS {
-        if name.as_bytes() == text {
-            return Some(keyword);
-        }
+    match text {
+        b"field" => Some(Keyword::Field),
+        b"record" | b"grecord" => Some(Keyword::Record),
+        b"info" => Some(Keyword::Info),
+        b"alias" => Some(Keyword::Alias),
+        b"include" => Some(Keyword::Include),
+        b"path" | b"addpath" => Some(Keyword::Path),
+        b"menu"
+        | b"recordtype"
+        | b"device"
+        | b"driver"
+        | b"registrar"
+        | b"function"
+        | b"variable"
+        | b"breaktable"
+        | b"link" => Some(Keyword::Definition),
+        _ => None,
     }
-    None
 }
 
 impl Token {
+    /// Returns its bytes, without quotes.
+    pub fn bytes(&self) -> &[u8] {
+        match self.kind {
+            Kind::Sign(b'(') => b"(",
+            Kind::Sign(b')') => b")",
+            Kind::Sign(b'{') => b"{",
+            Kind::Sign(b'}') => b"}",
+            Kind::Sign(_) => b",",
+            Kind::Word | Kind::Quoted | Kind::Fault => self.text.as_slice(),
+        }
+    }
+
     /// Returns whether the token is this sign.
     pub fn is_sign(&self, sign: u8) -> bool {
         self.kind == Kind::Sign(sign)

@@ -6,15 +6,14 @@ use ioc_spelling::nearest;
 use std::alloc::{AllocError, Global};
 
 /// The words that begin entries of a record.
-const ENTRIES: [&str; 4] = ["field", "info", "alias", "include"];
+const ENTRIES: &[&str] = &["field", "info", "alias", "include"];
 
 /// Returns the word that begins an entry of a record and may have been meant by this token.
 fn near_entry(words: &Words, token: &Token) -> Result<Option<&'static str>, AllocError> {
     if token.kind != Kind::Word {
         return Ok(None);
     }
-    let known: &'static [&'static str] = &ENTRIES;
-    nearest(words.stream.alloc, token.text.as_slice(), known)
+    nearest(words.stream.alloc, token.bytes(), ENTRIES)
 }
 
 /// What is in the body of a record.
@@ -72,7 +71,7 @@ fn report_open(words: &mut Words, opening: Opening, next: &[u8]) -> Result<(), A
 /// Reports a body that isn't closed before the token that is next.
 fn report_open_before(words: &mut Words, opening: Opening) -> Result<(), AllocError> {
     let next = match &words.stream.ahead {
-        Some(token) => token.text.as_slice().to_vec(words.stream.alloc)?,
+        Some(token) => token.bytes().to_vec(words.stream.alloc)?,
         None => Vec::new(words.stream.alloc),
     };
     report_open(words, opening, next.as_slice())
@@ -97,7 +96,7 @@ fn ends(words: &mut Words, opening: Opening, body: &Body) -> Result<bool, AllocE
 
 /// Returns what a token begins in a body. If it begins nothing, that is reported.
 fn entry_keyword(words: &mut Words, token: &Token) -> Result<Option<Keyword>, AllocError> {
-    let text = token.text.as_slice();
+    let text = token.bytes();
     let place = token.place;
     if token.kind == Kind::Word
         && let Some(

@@ -1,6 +1,5 @@
 //! Reads a site's database files as EPICS Base reads them: statements, includes and substitution
-//! files; and one text as the load of it alone does. Every mistake is found at its place, and reading goes on
-//! behind it.
+//! files. Every mistake is found at its place, and reading goes on behind it.
 #![tactic(auto)]
 
 mod entries;
@@ -13,6 +12,6 @@ mod substitutions;
 mod words;
 
 pub use ioc_site_lines::{Definition, Definitions, parse_definitions};
-pub use reader::{Request, read_each, read_files, read_text};
+pub use reader::{Request, read_each, read_files};
 pub use sources::Sources;
 pub use substitutions::is_substitution_file;

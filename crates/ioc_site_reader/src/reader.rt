@@ -6,9 +6,8 @@ use crate::sources::Sources;
 use crate::statements::{alias_statement, next_heading, record_head, skipped_statement};
 use crate::substitutions::{Group, is_substitution_file, read_groups};
 use crate::words::Words;
-use ioc_dblex::Macros;
 use ioc_site::{Place, Reading, RecordText, SourceText, Statement, Word};
-use ioc_site_lines::{Definition, Keyword, Manner};
+use ioc_site_lines::{Definition, Keyword};
 use std::alloc::{AllocError, Global};
 
 /// How many files may be open within one another.
@@ -24,6 +23,8 @@ pub struct Request<'a> {
     pub macros: &'a [Definition],
     /// The folders in which a file is sought that isn't beside the one that names it.
     pub folders: &'a [&'a [u8]],
+    /// Whether the file is loaded alone.
+    pub is_alone: bool,
 }
 
 /// Reads files.
@@ -114,13 +115,26 @@ impl Reader {
         self.words.report(place, parts)
     }
 
+    /// Returns the file that this word names. One that can't be read is reported.
+    fn find<S: Sources>(
+        &mut self,
+        sources: &mut S,
+        name: Word,
+    ) -> Result<Option<ReadFile>, AllocError> {
+        let text = name.text.as_slice();
+        let found = self.files.find(sources, name.place.file, text)?;
+        if found.is_none() {
+            self.lose(name.place, &[b"cannot read '", text, b"'"])?;
+        }
+        Ok(found)
+    }
+
     /// Begins to read the file that this word names.
     fn include<S: Sources>(&mut self, sources: &mut S, name: Word) -> Result<(), AllocError> {
         let place = name.place;
-        let text = name.text.as_slice();
-        match self.files.find(sources, place.file, text)? {
+        match self.find(sources, name)? {
             Some(file) => self.open(file, place, false),
-            None => self.lose(place, &[b"cannot read '", text, b"'"]),
+            None => Ok(()),
         }
     }
 
@@ -256,32 +270,38 @@ impl Reader {
         })?;
         self.open(ReadFile { number, text }, place, has_sets)?;
         if has_sets {
-            let groups = read_groups(&mut self.words)?;
-            return self.read_groups(sources, groups);
+            for group in read_groups(&mut self.words)? {
+                self.read_group(sources, group)?;
+            }
+            return Ok(());
         }
         self.read_statements(sources)
     }
 
-    /// Reads the templates of a substitution file.
-    fn read_groups<S: Sources>(
-        &mut self,
-        sources: &mut S,
-        groups: Vec<Group>,
-    ) -> Result<(), AllocError> {
-        for group in &groups {
-            for set in &group.sets {
-                let count = self.words.stream.macro_count();
-                let template = self.words.stream.replaced_name(&group.template)?;
-                self.words.stream.define_all(set.as_slice())?;
-                match template {
-                    Some(template) => {
-                        self.include(sources, template)?;
-                        self.read_statements(sources)?;
-                    }
-                    None => self.words.lacks_records = true,
-                }
-                self.words.stream.keep_macros(count);
+    /// Reads a template with the macros of each of its sets.
+    fn read_group<S: Sources>(&mut self, sources: &mut S, group: Group) -> Result<(), AllocError> {
+        let Group { template, sets } = group;
+        if sets.is_empty() {
+            return Ok(());
+        }
+        let Some(template) = self.words.stream.replaced_name(&template)? else {
+            self.words.lacks_records = true;
+            return Ok(());
+        };
+        let place = template.place;
+        let Some(file) = self.find(sources, template)? else {
+            return Ok(());
+        };
+        let count = self.words.stream.macro_count();
+        for set in sets {
+            for definition in set {
+                self.words.stream.define(definition)?;
             }
+            let text = file.text.as_slice().to_vec(self.alloc)?;
+            let number = file.number;
+            self.open(ReadFile { number, text }, place, false)?;
+            self.read_statements(sources)?;
+            self.words.stream.keep_macros(count);
         }
         Ok(())
     }
@@ -292,6 +312,7 @@ impl Reader {
         sources: &mut S,
         request: Request,
     ) -> Result<(), AllocError> {
+        self.words.stream.set_alone(request.is_alone);
         self.files.clear_folders();
         for folder in request.folders {
             self.files.add_folders(folder)?;
@@ -332,40 +353,10 @@ pub fn read_each<S: Sources>(
     sources: &mut S,
     requests: &[Request],
 ) -> Result<Reading, AllocError> {
-    read_in(alloc, sources, Manner::OfBase, requests)
-}
-
-/// Reads the file with this path as the load of its text alone does, with these macros. What that refuses
-/// and EPICS Base takes is read too, as files that are included.
-///
-/// # Errors
-///
-/// [`AllocError`] if allocation fails.
-pub fn read_text<S: Sources>(
-    alloc: Global,
-    sources: &mut S,
-    path: &[u8],
-    macros: Macros,
-) -> Result<Reading, AllocError> {
-    let request = Request {
-        paths: &[path],
-        macros: &[],
-        folders: &[],
-    };
-    read_in(alloc, sources, Manner::OfLoad(macros), &[request])
-}
-
-// Reads the files of these requests in this manner.
-fn read_in<S: Sources>(
-    alloc: Global,
-    sources: &mut S,
-    manner: Manner,
-    requests: &[Request],
-) -> Result<Reading, AllocError> {
     let mut reader = Reader {
         alloc,
         files: Files::new(alloc),
-        words: Words::new(alloc, manner),
+        words: Words::new(alloc),
         statements: Vec::new(alloc),
         texts: Vec::new(alloc),
         first_loss: None,

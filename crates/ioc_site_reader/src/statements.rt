@@ -4,10 +4,10 @@ use crate::words::Words;
 use ioc_site::{Statement, Word};
 use ioc_site_lines::{Keyword, Kind, Token, keyword_of};
 use ioc_spelling::nearest;
-use std::alloc::{AllocError, Global};
+use std::alloc::AllocError;
 
 /// The words that begin statements.
-const STATEMENTS: [&str; 15] = [
+const STATEMENTS: &[&str] = &[
     "record",
     "grecord",
     "alias",
@@ -25,12 +25,6 @@ const STATEMENTS: [&str; 15] = [
     "link",
 ];
 
-/// Returns the word that begins a statement and may have been meant by this one.
-fn near_statement(alloc: Global, text: &[u8]) -> Result<Option<&'static str>, AllocError> {
-    let known: &'static [&'static str] = &STATEMENTS;
-    nearest(alloc, text, known)
-}
-
 /// Returns what is said of a word that is no statement and not near to one.
 fn remedy_for(word: &[u8]) -> &'static [u8] {
     let is_comment = word.starts_with(b";") || word.starts_with(b"--");
@@ -44,8 +38,8 @@ fn remedy_for(word: &[u8]) -> &'static [u8] {
 /// Returns what a word begins that is no statement: what is near to it. That it is none is
 /// reported.
 fn near_keyword(words: &mut Words, token: &Token) -> Result<Option<Keyword>, AllocError> {
-    let text = token.text.as_slice();
-    let Some(name) = near_statement(words.stream.alloc, text)? else {
+    let text = token.bytes();
+    let Some(name) = nearest(words.stream.alloc, text, STATEMENTS)? else {
         let mut said = Vec::new(words.stream.alloc);
         said.push(b'\'')?;
         said.extend_from_slice(text)?;
@@ -64,7 +58,7 @@ fn near_keyword(words: &mut Words, token: &Token) -> Result<Option<Keyword>, All
 
 /// Returns what a token begins. If it begins nothing, that is reported.
 fn statement_keyword(words: &mut Words, token: &Token) -> Result<Option<Keyword>, AllocError> {
-    let text = token.text.as_slice();
+    let text = token.bytes();
     match token.kind {
         Kind::Word => match keyword_of(text) {
             Some(Keyword::Field | Keyword::Info) => {

@@ -21,16 +21,10 @@ struct Items {
 }
 
 /// The words that begin statements.
-const HEADINGS: [&str; 2] = ["file", "global"];
+const HEADINGS: &[&str] = &["file", "global"];
 
 /// The word before the names of the macros that sets give values.
-const PATTERN: [&str; 1] = ["pattern"];
-
-/// Returns the word that begins a statement and may have been meant by this one.
-fn near_heading(alloc: Global, text: &[u8]) -> Result<Option<&'static str>, AllocError> {
-    let known: &'static [&'static str] = &HEADINGS;
-    nearest(alloc, text, known)
-}
+const PATTERN: &[&str] = &["pattern"];
 
 /// Returns whether a statement begins with this word.
 fn is_heading(token: &Token) -> bool {
@@ -70,7 +64,7 @@ fn skip_to_heading(words: &mut Words) -> Result<(), AllocError> {
 /// Returns whether a token begins a file's statement, and not one of all files. If it begins
 /// neither, that is reported.
 fn begins_file(words: &mut Words, token: &Token) -> Result<Option<bool>, AllocError> {
-    let text = token.text.as_slice();
+    let text = token.bytes();
     if is_heading(token) {
         return Ok(Some(token.is_word("file")));
     }
@@ -79,7 +73,7 @@ fn begins_file(words: &mut Words, token: &Token) -> Result<Option<bool>, AllocEr
         words.report(place, &[text])?;
         return Ok(None);
     }
-    match near_heading(words.stream.alloc, text)? {
+    match nearest(words.stream.alloc, text, HEADINGS)? {
         Some(name) => {
             words.report_misspelt(token, "statement", name)?;
             Ok(Some(name == "file"))
@@ -160,7 +154,7 @@ fn counted(alloc: Global, number: usize, word: &str) -> Result<String, AllocErro
 fn define_by(
     words: &mut Words,
     pattern: &Items,
-    items: &Items,
+    items: Items,
     set: &mut Vec<Definition>,
 ) -> Result<bool, AllocError> {
     let alloc = words.stream.alloc;
@@ -173,9 +167,10 @@ fn define_by(
         )?;
         words.report(items.place, &[text.as_bytes()])?;
     }
-    for (name, value) in pattern.list.iter().zip(&items.list) {
-        let name = unquoted(name.text.as_slice());
-        set.push(Definition::new(alloc, name, value.text.as_slice())?)?;
+    for (name, item) in pattern.list.iter().zip(items.list) {
+        let name = unquoted(name.text.as_slice()).to_vec(alloc)?;
+        let value = item.text;
+        set.push(Definition { name, value })?;
     }
     Ok(count <= given)
 }
@@ -189,12 +184,8 @@ fn is_at_pattern(words: &mut Words) -> Result<bool, AllocError> {
     if token.kind != Kind::Word || token.is_word("pattern") {
         return Ok(token.kind == Kind::Word);
     }
-    let (place, text) = (
-        token.place,
-        token.text.as_slice().to_vec(words.stream.alloc)?,
-    );
-    let known: &'static [&'static str] = &PATTERN;
-    let is_near = nearest(words.stream.alloc, text.as_slice(), known)?.is_some();
+    let (place, text) = (token.place, token.bytes().to_vec(words.stream.alloc)?);
+    let is_near = nearest(words.stream.alloc, text.as_slice(), PATTERN)?.is_some();
     if is_near {
         let remedy = b"' begins no set; did you mean pattern?";
         words.report(place, &[b"'", text.as_slice(), remedy])?;
@@ -233,7 +224,7 @@ fn read_sets(
             let mut set = Vec::new(alloc);
             extend(alloc, &mut set, globals)?;
             let is_whole = match &pattern {
-                Some(pattern) => define_by(words, pattern, &items, &mut set)?,
+                Some(pattern) => define_by(words, pattern, items, &mut set)?,
                 None => define(words, &items, &mut set)?,
             };
             if is_whole {

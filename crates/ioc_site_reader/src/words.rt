@@ -1,6 +1,6 @@
 //! What a statement is made of, and how reading goes on behind a mistake.
 use ioc_site::{Finding, Place, Word};
-use ioc_site_lines::{Json, Keyword, Kind, Manner, Stream, Token, joined, shown};
+use ioc_site_lines::{Json, Keyword, Kind, Stream, Token, joined, shown};
 use std::alloc::{AllocError, Global};
 use std::mem;
 
@@ -35,14 +35,14 @@ pub struct Words {
 
 impl Words {
     /// Begins with no open file.
-    pub fn new(alloc: Global, manner: Manner) -> Self {
+    pub fn new(alloc: Global) -> Self {
         let last = Place {
             file: 0,
             line: 1,
             column: 1,
         };
         Words {
-            stream: Stream::new(alloc, manner),
+            stream: Stream::new(alloc),
             context: Vec::new(alloc),
             round: 0,
             last,
@@ -77,15 +77,17 @@ impl Words {
         wanted: &str,
         near: &str,
     ) -> Result<(), AllocError> {
-        let mut text = Vec::new(self.stream.alloc);
-        text.push(b'\'')?;
-        text.extend_from_slice(token.text.as_slice())?;
-        text.extend_from_slice(b"' is no ")?;
-        text.extend_from_slice(wanted.as_bytes())?;
-        text.extend_from_slice(b"; did you mean ")?;
-        text.extend_from_slice(near.as_bytes())?;
-        text.push(b'?')?;
-        self.stream.findings.report_text(token.place, text)
+        let (wanted, near) = (wanted.as_bytes(), near.as_bytes());
+        let parts = [
+            b"'".as_slice(),
+            token.bytes(),
+            b"' is no ",
+            wanted,
+            b"; did you mean ",
+            near,
+            b"?",
+        ];
+        self.report(token.place, &parts)
     }
 
     /// Returns what was found.
@@ -135,7 +137,7 @@ impl Words {
             Kind::Sign(b')') => self.round = self.round.saturating_sub(1),
             _ => {}
         }
-        self.show(token.kind, token.text.as_slice())?;
+        self.show(token.kind, token.bytes())?;
         Ok(Some(token))
     }
 
@@ -383,7 +385,7 @@ impl Words {
             }));
         }
         Ok(Some(Word {
-            text: self.stream.value_text(word.text.as_slice())?,
+            text: self.stream.value_text(word.text)?,
             place: word.place,
             quoted: true,
         }))

@@ -34,6 +34,11 @@ pub fn begins_macro(bytes: &[u8]) -> bool {
 /// [`AllocError`] if allocation fails.
 pub fn quote(text: &mut Vec<u8>, bytes: &[u8]) -> Result<(), AllocError> {
     text.push(b'"')?;
+    let is_plain = |byte: &u8| !matches!(*byte, b'"' | b'\\' | 7..=13);
+    if bytes.iter().all(is_plain) {
+        text.extend_from_slice(bytes)?;
+        return Ok(text.push(b'"')?);
+    }
     for byte in bytes {
         match (*byte, control_letter(*byte)) {
             (b'"' | b'\\', _) => text.extend_from_slice(&[b'\\', *byte])?,

@@ -3,7 +3,7 @@ ghost use Rattle.std.specs.Prelude.{IfOk};
 ghost use Rattle.ioc_site_writer.specs.Loads.{Loads};
 
 use crate::dropping::{Reason, Subject};
-use crate::lines::{Line, LineRole, joined, remove_line};
+use crate::lines::{Line, LineRole, Lines};
 use crate::quoting::{begins_macro, quote};
 use crate::spelling::add_value;
 use crate::types::{Standing, Types};
@@ -27,7 +27,9 @@ pub struct Written {
 #[derive(Drop)]
 struct Writer<'a> {
     alloc: Global,
-    lines: Vec<Line<'a>>,
+    lines: Lines<'a>,
+    /// How many bytes the text had before the line that is being written.
+    begun: usize,
     dropped: Vec<Finding>,
     types: Types,
     /// The number of the statement that is being written.
@@ -53,20 +55,18 @@ impl<'a> Writer<'a> {
         Ok(self.dropped.push(finding)?)
     }
 
-    // Adds a line.
-    fn add(
-        &mut self,
-        role: LineRole,
-        subject: Subject<'a>,
-        text: Vec<u8>,
-    ) -> Result<(), AllocError> {
+    // Ends a line.
+    fn end_line(&mut self, role: LineRole, subject: Subject<'a>) -> Result<(), AllocError> {
+        let end = self.lines.text.len();
+        let length = end.saturating_sub(self.begun);
         let statement = self.statement;
+        self.begun = end;
         Ok(
-            self.lines.push(Line {
+            self.lines.list.push(Line {
                 role,
                 statement,
                 subject,
-                text,
+                length,
             })?,
         )
     }
@@ -87,18 +87,18 @@ impl<'a> Writer<'a> {
 
     // Adds the head of a record.
     fn add_head(&mut self, record: &'a RecordText) -> Result<(), AllocError> {
-        let mut text = Vec::new(self.alloc);
+        let text = &mut self.lines.text;
         text.extend_from_slice(b"record(")?;
         let type_name = record.record_type.text.as_slice();
         match RecordType::from_name(type_name) {
             Some(record_type) => text.extend_from_slice(record_type.name().as_bytes())?,
-            None => quote(&mut text, type_name)?,
+            None => quote(text, type_name)?,
         }
         text.extend_from_slice(b", ")?;
-        quote(&mut text, record.name.text.as_slice())?;
+        quote(text, record.name.text.as_slice())?;
         text.extend_from_slice(b") {\n")?;
         let (word, name) = ("record", &record.name);
-        self.add(LineRole::Head, Subject { word, name }, text)
+        self.end_line(LineRole::Head, Subject { word, name })
     }
 
     // Adds a field or an info.
@@ -112,19 +112,19 @@ impl<'a> Writer<'a> {
         if let Some(reason) = fault_of(entry) {
             return self.leave_out(subject, reason);
         }
-        let mut text = Vec::new(self.alloc);
+        let (alloc, text) = (self.alloc, &mut self.lines.text);
         text.extend_from_slice(b"  ")?;
         text.extend_from_slice(word.as_bytes())?;
         text.push(b'(')?;
         let (name, value) = (name.text.as_slice(), entry.value.text.as_slice());
-        quote(&mut text, name)?;
+        quote(text, name)?;
         text.extend_from_slice(b", ")?;
         match entry.kind {
-            EntryKind::Field => add_value(self.alloc, &mut text, record_type, name, value)?,
-            EntryKind::Info => quote(&mut text, value)?,
+            EntryKind::Field => add_value(alloc, text, record_type, name, value)?,
+            EntryKind::Info => quote(text, value)?,
         }
         text.extend_from_slice(b")\n")?;
-        self.add(LineRole::Entry, subject, text)
+        self.end_line(LineRole::Entry, subject)
     }
 
     // Adds a second name, in the body of a record or as a statement of its own.
@@ -134,11 +134,11 @@ impl<'a> Writer<'a> {
         if !is_record_name(name.text.as_slice()) {
             return self.leave_out(subject, Reason::Refused(BadDbKind::BadName));
         }
-        let mut text = Vec::new(self.alloc);
+        let text = &mut self.lines.text;
         let role = match record {
             Some(record) => {
                 text.extend_from_slice(b"alias(")?;
-                quote(&mut text, record.text.as_slice())?;
+                quote(text, record.text.as_slice())?;
                 text.extend_from_slice(b", ")?;
                 LineRole::Head
             }
@@ -147,9 +147,9 @@ impl<'a> Writer<'a> {
                 LineRole::Entry
             }
         };
-        quote(&mut text, name.text.as_slice())?;
+        quote(text, name.text.as_slice())?;
         text.extend_from_slice(b")\n")?;
-        self.add(role, subject, text)
+        self.end_line(role, subject)
     }
 
     // Adds a record.
@@ -167,9 +167,8 @@ impl<'a> Writer<'a> {
         for alias in &record.aliases {
             self.add_alias(None, alias)?;
         }
-        let mut text = Vec::new(self.alloc);
-        text.extend_from_slice(b"}\n")?;
-        self.add(LineRole::End, subject, text)
+        self.lines.text.extend_from_slice(b"}\n")?;
+        self.end_line(LineRole::End, subject)
     }
 
     // Adds a second name by a statement of its own.
@@ -189,7 +188,11 @@ impl<'a> Writer<'a> {
 fn lines_of<'a>(alloc: Global, statements: &'a [Statement]) -> Result<Writer<'a>, AllocError> {
     let mut writer = Writer {
         alloc,
-        lines: Vec::new(alloc),
+        lines: Lines {
+            text: Vec::new(alloc),
+            list: Vec::new(alloc),
+        },
+        begun: 0,
         dropped: Vec::new(alloc),
         types: Types::new(alloc),
         statement: 0,
@@ -225,10 +228,12 @@ pub fn write_database(alloc: Global, statements: &[Statement]) -> Result<Written
         line: 1,
         kind: BadDbKind::Syntax,
     };
-    for _ in 0..=lines.len() {
-        let text = joined(alloc, lines.as_slice())?;
-        let fault = match load(alloc, text.as_slice(), &Macros::new(alloc)) {
-            Ok(_) => return Ok(Written { text, dropped }),
+    for _ in 0..=lines.list.len() {
+        let fault = match load(alloc, lines.text.as_slice(), &Macros::new(alloc)) {
+            Ok(_) => {
+                let Lines { text, .. } = lines;
+                return Ok(Written { text, dropped });
+            }
             Err(LoadError::BadDb(fault)) => fault,
             Err(LoadError::NoMemory) => return Err(LoadError::NoMemory),
         };
@@ -236,9 +241,10 @@ pub fn write_database(alloc: Global, statements: &[Statement]) -> Result<Written
             return Err(LoadError::BadDb(fault));
         }
         last = fault;
-        let Some(subject) = remove_line(&mut lines, fault.line) else {
+        let Some((others, subject)) = lines.without(alloc, fault.line)? else {
             return Err(LoadError::BadDb(fault));
         };
+        lines = others;
         dropped.push(subject.dropped(alloc, Reason::Refused(fault.kind))?)?;
     }
     Err(LoadError::BadDb(last))

@@ -9,7 +9,7 @@ use crate::tests::steps::Step::{self, Makes};
 use crate::tests::steps::{Says, Wanted};
 use crate::tests::worked::WORKED;
 use crate::tests::workers::{EACH, POSTS};
-use crate::tests::{beside, scanned};
+use crate::tests::{beside, overtaken, scanned};
 use ioc_engine::{DeviceName, FieldText, IocError, Limits, Tally, TicketTally};
 use std::alloc::{AllocError, Global};
 use std::fmt::Write;
@@ -428,6 +428,25 @@ fn scans_beside_changes(rt: HostRuntime) -> Result<(), Fail> {
     let work = Work::Scanned;
     let limits = Limits::default();
     let ended = run_text(&rt, rt.alloc(), text.as_bytes(), none, limits, work);
+    assert_eq!(rt; result(ended, &[]), (1, true));
+    Ok(())
+}
+
+// A change of a scan list that comes after a later one of its record is ignored, by whichever threads
+// they come.
+#[test]
+fn late_changes_of_scan_lists(rt: HostRuntime) -> Result<(), Fail> {
+    let text = overtaken::text(rt.alloc())?;
+    let none = Vec::new(rt.alloc());
+    let limits = Limits::default();
+    let ended = run_text(
+        &rt,
+        rt.alloc(),
+        text.as_bytes(),
+        none,
+        limits,
+        Work::Overtaken,
+    );
     assert_eq!(rt; result(ended, &[]), (1, true));
     Ok(())
 }

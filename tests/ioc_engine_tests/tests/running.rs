@@ -5,6 +5,7 @@ ghost use Rattle.ioc_engine.specs.Named.{IsNamedBy};
 use crate::tests::beside::{Held, make_beside};
 use crate::tests::eight::eight;
 use crate::tests::moments::moments_rise;
+use crate::tests::overtaken::stays_where_put;
 use crate::tests::scanned::is_scanned_alike;
 use crate::tests::sensor::{Sensor, seen};
 use crate::tests::steps::{Step, follow};
@@ -13,7 +14,7 @@ use crate::tests::workers::{one_worker, pushers_and_workers, sleepers, two_worke
 use ioc_engine::{
     Call, Clock, CountingClock, Device, DeviceName, Engine, EngineName, Event, FieldText, Input,
     IocError, JournalEntry, Limits, LoadError, Macros, Numbered, Outcome, Receipt, Reply, Report,
-    Seed, StoppedRecord, Tally, TicketTally, load, with_numbers,
+    Seed, Started, StoppedRecord, Tally, TicketTally, load, with_numbers,
 };
 use ioc_fields::{FieldNo, OwnField};
 use ioc_record::text_of;
@@ -68,6 +69,8 @@ pub enum Work<'a> {
     Moments,
     /// Scans beside puts and link changes, and the same calls on one map.
     Scanned,
+    /// Changes of a record's scan list, of which the later one arrives first.
+    Overtaken,
 }
 
 /// What is found at the end of an engine.
@@ -142,7 +145,7 @@ fn done<
         } => one_worker(rt, engine, first, others, asked),
         Work::Pushers => pushers_and_workers(rt, alloc, engine).unwrap_or(0),
         Work::Sleepers => sleepers(rt, alloc, engine).unwrap_or(0),
-        Work::Learns | Work::Drops | Work::Moments | Work::Scanned => 0,
+        Work::Learns | Work::Drops | Work::Moments | Work::Scanned | Work::Overtaken => 0,
     }
 }
 
@@ -354,7 +357,8 @@ fn run<B: EngineName<D> + Send + Sync, D: Device + Send + Sync, R: Threads + Wai
     requires named { IsNamedBy B.table B.base B.devices B.places B.tickets B.counts seed }
 {
     let clock = clock_of(work);
-    let Ok(engine) = Engine::<B, D, Timer>::start(rt, alloc, seed, clock, limits) else {
+    let Ok(Started { engine, .. }) = Engine::<B, D, Timer>::start(rt, alloc, seed, clock, limits)
+    else {
         return None;
     };
     match work {
@@ -362,6 +366,7 @@ fn run<B: EngineName<D> + Send + Sync, D: Device + Send + Sync, R: Threads + Wai
         Work::Drops => return Some(told(has_dropped(rt, engine))),
         Work::Moments => return Some(told(moments_rise(rt, alloc, engine).unwrap_or(false))),
         Work::Scanned => return Some(told(is_scanned_alike(rt, alloc, engine).unwrap_or(false))),
+        Work::Overtaken => return Some(told(stays_where_put(rt, &engine).unwrap_or(false))),
         _ => (),
     }
     let held = done(rt, alloc, &engine, work);

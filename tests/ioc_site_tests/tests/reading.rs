@@ -35,6 +35,7 @@ fn read(alloc: Global, macros: &[u8], list: &[(&[u8], &[u8])]) -> Result<Reading
         paths: &[path],
         macros: macros.as_slice(),
         folders: &[b"shared"],
+        is_alone: false,
     };
     read_files(alloc, &mut texts, request)
 }

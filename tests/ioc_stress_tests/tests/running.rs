@@ -7,7 +7,7 @@ use crate::tests::stopping::{CASES, Case, Flags, RECORDS, is_left};
 use crate::tests::text::text;
 use ioc_engine::{
     CountingClock, Device, DeviceName, Engine, EngineName, IocError, Limits, LoadError, Macros,
-    Numbered, Seed, load, with_numbers,
+    Numbered, Seed, Started, load, with_numbers,
 };
 use std::alloc::Global;
 use std::marker::Brand;
@@ -41,7 +41,7 @@ fn run<B: EngineName<D> + Send + Sync, D: Device + Send + Sync, R: Threads + Wai
 ) -> Result<bool, IocError>
     requires named { IsNamedBy B.table B.base B.devices B.places B.tickets B.counts seed }
 {
-    let engine = Engine::<B, D, CountingClock>::start(
+    let Started { engine, .. } = Engine::<B, D, CountingClock>::start(
         rt,
         alloc,
         seed,

@@ -109,7 +109,8 @@ fn change(lists: &mut ScanLists, member: usize, number: u64, place: Option<Place
     if member >= lists.len() || !lists.can_change() {
         return false;
     }
-    lists.change(RecordNo::new(member), number, place).is_ok()
+    lists.change(RecordNo::new(member), number, place);
+    true
 }
 
 // Adds a record with a place, or removes one without, if the record exists and a number of adding
@@ -119,12 +120,10 @@ fn put(lists: &mut ScanLists, member: usize, place: Option<Placement>) -> bool {
         return false;
     }
     match place {
-        Some(place) => lists.add(RecordNo::new(member), place).is_ok(),
-        None => {
-            lists.remove(RecordNo::new(member));
-            true
-        }
+        Some(place) => lists.add(RecordNo::new(member), place),
+        None => lists.remove(RecordNo::new(member)),
     }
+    true
 }
 
 // Returns whether these are the records, in this order.
@@ -138,7 +137,7 @@ fn are_listed(found: &[Listed], wanted: &[usize]) -> bool {
 }
 
 // Returns whether the list has these records, in this order.
-fn has(lists: &ScanLists, fields: Fields, wanted: &[usize], into: &mut Vec<Listed>) -> bool {
+fn has(lists: &mut ScanLists, fields: Fields, wanted: &[usize], into: &mut Vec<Listed>) -> bool {
     match list_of(fields) {
         Some(list) => lists.walk(&list, into).is_ok() && are_listed(into.as_slice(), wanted),
         None => wanted.is_empty(),

@@ -59,8 +59,8 @@ pub fn give_up<K: RecordKind + Drop, B: JournalName<K>, D: Device, R: Wait>(
     requires beside { length passes.old ≡ length sets.old }
     requires held { EachIsHeldBy K.rules B.base B.table sets.old passes.old }
     requires have { HaveAll K.rules B.base number (cell_view keeper.old).seen sets.old }
-    ensures gave_up { IfOk result (λ _. GaveUp K.rules B.base B.table moment number desk.old sets.old (cell_view keeper.old)
-        desk.new sets.new passes.new (cell_view keeper.new)) }
+    ensures gave_up { IfOk result (λ _. GaveUp K.rules B.base B.table access.now.history moment number desk.old sets.old
+        (cell_view keeper.old) desk.new sets.new passes.new (cell_view keeper.new)) }
     ensures table { keeper.new.table_id ≡ B.table }
     ensures receipt { IfOk result (λ receipt. receipt ≡ desk.new.seen) }
     ensures refused { IfErr result IsNoPlace }
@@ -71,7 +71,15 @@ pub fn give_up<K: RecordKind + Drop, B: JournalName<K>, D: Device, R: Wait>(
     live_lasts::<K>();
     all_sound(sets);
     let place = access.journal.reserve(access.rt, access.alloc, desk)?;
-    if let Err(_refused) = cancel_all(access.rt, access.alloc, buffers, sets, number, moment) {
+    if let Err(_refused) = cancel_all(
+        access.rt,
+        access.alloc,
+        buffers,
+        sets,
+        number,
+        moment,
+        access.history,
+    ) {
         access.journal.give_back(access.rt, desk, place);
         return Err(IocError::NoMemory);
     }
@@ -112,8 +120,8 @@ pub fn give_up_all<K: RecordKind + Drop, B: JournalName<K>, D: Device, R: Wait>(
     requires held { EachIsHeldBy K.rules B.base B.table sets.old passes.old }
     requires total { put.holders ≡ holders_of put.number (map_of K.rules B.base (cell_view keeper.old).seen).live }
     requires some { put.holders ≢ 0 }
-    ensures gave_up { IfOk result (λ given. IfSome given (λ _. GaveUp K.rules B.base B.table moment put.number desk.old sets.old
-        (cell_view keeper.old) desk.new sets.new passes.new (cell_view keeper.new))) }
+    ensures gave_up { IfOk result (λ given. IfSome given (λ _. GaveUp K.rules B.base B.table access.now.history moment put.number desk.old
+        sets.old (cell_view keeper.old) desk.new sets.new passes.new (cell_view keeper.new))) }
     ensures missing { IfOk result (λ given. IfNone given ((sets.new ≡ sets.old) × (passes.new ≡ passes.old)
         × (keeper.new ≡ keeper.old) × (desk.new ≡ desk.old) × (AreItsSets put.number put.holders sets.old
         → ⊥))) }

@@ -24,15 +24,15 @@ returns-in-Ok-Some-clause-gave_up g c =
     let total = c.holders-total.result in
     let table = c.all.inside.table.live in
     let sets = c.in_ok-lent.ensures.sets in
-    let one = subst (λ (o : Option _). IfSome o (λ _. HeldGaveUp k base c.args.moment number c.args.desk.now c.in_ok-lent.lent.sets.items (cell_view c.lend_all.new.keeper) c.give_up_lent-given.new.desk then (cell_view c.give_up_lent-given.new.keeper)))
+    let one = subst (λ (o : Option _). IfSome o (λ _. HeldGaveUp k base c.args.access.now.history c.args.moment number c.args.desk.now c.in_ok-lent.lent.sets.items (cell_view c.lend_all.new.keeper) c.give_up_lent-given.new.desk then (cell_view c.give_up_lent-given.new.keeper)))
     c.in-Ok-Some.field-0-is c.in-Ok-Some.ensures.gave_up in
-    let gu = subst (λ (l : List (SetState g.row.K.Denot g.row.D.Denot)). HeldGaveUp k base c.args.moment number c.args.desk.now l (cell_view c.lend_all.new.keeper) c.give_up_lent-given.new.desk then (cell_view c.give_up_lent-given.new.keeper)) sets one in
+    let gu = subst (λ (l : List (SetState g.row.K.Denot g.row.D.Denot)). HeldGaveUp k base c.args.access.now.history c.args.moment number c.args.desk.now l (cell_view c.lend_all.new.keeper) c.give_up_lent-given.new.desk then (cell_view c.give_up_lent-given.new.keeper)) sets one in
     let was = ap (λ (v : PutsView). v.live) c.all.view_is in
     let tells = c.holders-total.ensures ∙ c.lines_tell_holders.ensures.holders table number (c.is_table.ensures.once number) in
     record {
       gives_up = λ i d e lt.
           let here : i < length (sets_of held) = let many = sets_long held in omega (arith, lt, many) in
-          subst (λ (h : SetState g.row.K.Denot g.row.D.Denot). GivesUp k moment number h (get_or then i e).set) (set_at held i d d.set lt) (gu.gives_up i d.set e here);
+          subst (λ (h : SetState g.row.K.Denot g.row.D.Denot). GivesUp k c.args.access.now.history moment number h (get_or then i e).set) (set_at held i d d.set lt) (gu.gives_up i d.set e here);
       call = gu.call;
       seen = gu.seen;
       puts_seen = ap (λ (v : View). v.seen) gu.keeps;
@@ -52,10 +52,10 @@ invariant_of-all-in-Ok-Some g c =
     let number = c.args.number in
     let total = c.holders-total.result in
     let table = c.all.inside.table.live in
-    let one = subst (λ (o : Option _). IfSome o (λ _. HeldGaveUp k base c.args.moment number c.args.desk.now c.in_ok-lent.lent.sets.items (cell_view c.lend_all.new.keeper) c.give_up_lent-given.new.desk then (cell_view c.give_up_lent-given.new.keeper)))
+    let one = subst (λ (o : Option _). IfSome o (λ _. HeldGaveUp k base c.args.access.now.history c.args.moment number c.args.desk.now c.in_ok-lent.lent.sets.items (cell_view c.lend_all.new.keeper) c.give_up_lent-given.new.desk then (cell_view c.give_up_lent-given.new.keeper)))
     c.in-Ok-Some.field-0-is c.in-Ok-Some.ensures.gave_up in
     let keeper = c.lend_all.ensures.keeper in
-    let gu = subst (λ (v : View). HeldGaveUp k base c.args.moment number c.args.desk.now c.in_ok-lent.lent.sets.items v c.give_up_lent-given.new.desk then (cell_view c.give_up_lent-given.new.keeper)) keeper.1 one in
+    let gu = subst (λ (v : View). HeldGaveUp k base c.args.access.now.history c.args.moment number c.args.desk.now c.in_ok-lent.lent.sets.items v c.give_up_lent-given.new.desk then (cell_view c.give_up_lent-given.new.keeper)) keeper.1 one in
     let tells = c.holders-total.ensures ∙ c.lines_tell_holders.ensures.holders table number (c.is_table.ensures.once number) in
     one_canceled k base g.B.CellName.table c.all.inside.pass c.give_up_lent-given.new.keeper c.all.inside.table c.all.inside.places c.all.inside.last c.all.invariant c.take_off.new.self c.give_up_lent-given.new.desk.seen number total
     c.lines_tell_holders.ensures.held c.is_table.ensures c.is_table-in-Ok-Some.ensures c.take_off.ensures.counts tells c.give_up_lent-given.ensures.table gu.keeps gu.none_began gu.nobody gu.others c.take_off.ensures.fewer c.take_off.ensures.room

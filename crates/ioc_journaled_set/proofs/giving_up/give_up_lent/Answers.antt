@@ -29,7 +29,7 @@ pub take_back_all-requires-clause-lent : goal.take_back_all-requires-clause-lent
 take_back_all-requires-clause-lent g c =
     let e = c.give_up_all-given.ensures in
     let lent = lent g (goal.at.take_back_all-requires-clause-lent g c).After-as_mut_slice-passes in
-    lent_then g.K.RecordKind.rules g.B.JournalName.base (IsDeviceOf g.D.Device.gives g.B.SetsName.devices) g.B.CellName.table (c.give_up_all-given.new.keeper ≡ c.args.keeper.now) (c.give_up_all-given.new.desk ≡ c.args.desk.now) (AreItsSets c.args.put.number c.args.put.holders c.as_mut_slice-sets.result.now → ⊥) c.give_up_all-given.result c.args.moment c.args.put.number c.args.desk.now c.give_up_all-given.new.desk c.as_mut_slice-sets.result.now c.give_up_all-given.new.sets c.as_mut_slice-passes.result.now c.give_up_all-given.new.passes
+    lent_then g.K.RecordKind.rules g.B.JournalName.base (IsDeviceOf g.D.Device.gives g.B.SetsName.devices) g.B.CellName.table c.args.access.now.history (c.give_up_all-given.new.keeper ≡ c.args.keeper.now) (c.give_up_all-given.new.desk ≡ c.args.desk.now) (AreItsSets c.args.put.number c.args.put.holders c.as_mut_slice-sets.result.now → ⊥) c.give_up_all-given.result c.args.moment c.args.put.number c.args.desk.now c.give_up_all-given.new.desk c.as_mut_slice-sets.result.now c.give_up_all-given.new.sets c.as_mut_slice-passes.result.now c.give_up_all-given.new.passes
     (cell_view c.args.keeper.now) (cell_view c.give_up_all-given.new.keeper) e.gave_up e.missing e.err c.give_up_all-given.auto.sets lent
 
 pub take_back_all-requires-clause-counted : goal.take_back_all-requires-clause-counted
@@ -38,7 +38,7 @@ take_back_all-requires-clause-counted g c =
     let counted =
     subst (λ (ss : List (SetState g.row.K.Denot g.row.D.Denot)). EachIsCounted ss c.as_mut_slice.result.now) (sym c.as_mut_slice-sets.ensures.value)
     (subst (λ (hs : List (Option ShareView)). EachIsCounted c.args.lent.sets.items hs) (sym c.as_mut_slice.ensures.value) c.requires.counted) in
-    still_counted g.K.RecordKind.rules c.args.moment c.args.put.number c.as_mut_slice-sets.result.now c.give_up_all-given.new.sets c.as_mut_slice.result.now c.give_up_all-given.auto.sets counted
+    still_counted g.K.RecordKind.rules c.args.moment c.args.put.number c.as_mut_slice-sets.result.now c.give_up_all-given.new.sets c.as_mut_slice.result.now c.give_up_all-given.auto.sets counted c.args.access.now.history
     g.B.JournalName.base g.B.CellName.table (c.give_up_all-given.new.keeper ≡ c.args.keeper.now) (c.give_up_all-given.new.desk ≡ c.args.desk.now) (AreItsSets c.args.put.number c.args.put.holders c.as_mut_slice-sets.result.now → ⊥) c.give_up_all-given.result
     c.args.desk.now c.give_up_all-given.new.desk c.as_mut_slice-passes.result.now c.give_up_all-given.new.passes (cell_view c.args.keeper.now) (cell_view c.give_up_all-given.new.keeper) e.gave_up e.missing e.err
 
@@ -47,9 +47,9 @@ returns-clause-gave_up g c =
     let sets = c.as_mut_slice-sets.ensures.value in
     let many = c.take_back_all.auto.held ∙ sym c.requires.count.0 in
     subst
-    (λ (ss : List (SetState g.row.K.Denot g.row.D.Denot)). IfOk c.give_up_all-given.result (λ given. IfSome given (λ _. HeldGaveUp g.K.RecordKind.rules g.B.JournalName.base c.args.moment c.args.put.number c.args.desk.now ss (cell_view c.args.keeper.now) c.give_up_all-given.new.desk c.take_back_all.new.held (cell_view c.give_up_all-given.new.keeper))))
+    (λ (ss : List (SetState g.row.K.Denot g.row.D.Denot)). IfOk c.give_up_all-given.result (λ given. IfSome given (λ _. HeldGaveUp g.K.RecordKind.rules g.B.JournalName.base c.args.access.now.history c.args.moment c.args.put.number c.args.desk.now ss (cell_view c.args.keeper.now) c.give_up_all-given.new.desk c.take_back_all.new.held (cell_view c.give_up_all-given.new.keeper))))
     sets
-    (gave_all g.K.RecordKind.rules g.B.JournalName.base (IsDeviceOf g.D.Device.gives g.B.SetsName.devices) g.B.CellName.table c.args.moment c.args.put.number c.args.desk.now c.give_up_all-given.new.desk c.as_mut_slice-sets.result.now c.take_back_all.new.held c.give_up_all-given.new.sets c.give_up_all-given.new.passes
+    (gave_all g.K.RecordKind.rules g.B.JournalName.base (IsDeviceOf g.D.Device.gives g.B.SetsName.devices) g.B.CellName.table c.args.access.now.history c.args.moment c.args.put.number c.args.desk.now c.give_up_all-given.new.desk c.as_mut_slice-sets.result.now c.take_back_all.new.held c.give_up_all-given.new.sets c.give_up_all-given.new.passes
     (cell_view c.args.keeper.now) (cell_view c.give_up_all-given.new.keeper) c.take_back_all.ensures (many ∙ sym (ap length sets)) c.give_up_all-given.auto.sets c.give_up_all-given.result c.give_up_all-given.ensures.gave_up)
 
 pub returns-clause-missing : goal.returns-clause-missing

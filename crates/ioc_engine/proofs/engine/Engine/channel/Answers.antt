@@ -10,4 +10,4 @@ returns-clause-known g c =
     let self = c.args.self.now in
     let look = self.lookup in
     let types = subst (λ (n : ℕ). AreTypesOf g.B.JournalName.base n look.types.items) self.counted c.get.ensures.types in
-    channel_known g.B.JournalName.base self.core look.types.items types look.names c.args.text.now c.channel.result (c.channel.ensures ∙ ap (λ (l : Lookup). channel_of l.names l.types.items c.args.text.now) c.get.ensures.table)
+    channel_known g.B.JournalName.base self.core.count look.types.items types look.names c.args.text.now c.channel.result (c.channel.ensures ∙ ap (λ (l : Lookup). channel_of l.names l.types.items c.args.text.now) c.get.ensures.table)

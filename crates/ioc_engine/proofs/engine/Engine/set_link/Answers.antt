@@ -26,8 +26,8 @@ returns-in_err-reply-clause-refused g c =
     rw (p.1, p.2) (inr (inr (inr (
       link,
       subst (λ (l : Lookup). IsTextOf l.types.items c.args.channel c.args.text.now link) c.get-lookup.ensures.table c.in_ok-link.ensures.link,
-      subst (λ (l : LinkField). LinkWasRefused g.row.D.Denot record_rules g.B.JournalName.base c.args.self.now.core c.args.channel.number c.args.channel.field l c.in_err-reply.field-0.0) kept
-          (subst (λ (n : ℕ). LinkWasRefused g.row.D.Denot record_rules g.B.JournalName.base c.args.self.now.core n c.args.channel.field c.in-Ok.kept c.in_err-reply.field-0.0) c.record-number.ensures refused),
+      subst (λ (l : LinkField). LinkWasRefused g.row.D.Denot record_rules g.B.JournalName.base c.args.self.now.core.count c.args.channel.number c.args.channel.field l c.in_err-reply.field-0.0) kept
+          (subst (λ (n : ℕ). LinkWasRefused g.row.D.Denot record_rules g.B.JournalName.base c.args.self.now.core.count n c.args.channel.field c.in-Ok.kept c.in_err-reply.field-0.0) c.record-number.ensures refused),
     ))))
 
 pub returns-in_err-link-clause-refused_by_type : goal.returns-in_err-link-clause-refused_by_type
@@ -39,7 +39,7 @@ returns-in_err-link-clause-refused_by_type g c =
 pub returns-in_err-reply-clause-refused_by_type : goal.returns-in_err-reply-clause-refused_by_type
 returns-in_err-reply-clause-refused_by_type g c =
     let p = err_from_is_err_and c.from_residual-in_err-reply.result c.from_residual-in_err-reply.ensures.1 in
-    rw (p.1, p.2) (refused-link g.B.JournalName.base c.args.channel c.types_stay.ensures.held c.record-number.result c.record-number.ensures c.args.self.now.core c.in-Ok.kept _ c.in_err-reply.ensures.refused)
+    rw (p.1, p.2) (refused-link g.B.JournalName.base c.args.channel c.types_stay.ensures.held c.record-number.result c.record-number.ensures c.args.self.now.core.count c.in-Ok.kept _ c.in_err-reply.ensures.refused)
 
 pub returns-clause-is_link : goal.returns-clause-is_link
 returns-clause-is_link g c =

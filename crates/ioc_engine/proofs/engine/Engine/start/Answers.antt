@@ -12,3 +12,6 @@ new-requires g c =
     let types = seed.lookup.types.items in
     let loaded = loaded_types seed.records.items types seed.types in
     record { types = subst (λ (base : World Record). AreTypesOf base (length types) types) (sym c.requires.named.base_is) (subst (λ (n : ℕ). AreTypesOf (loaded_world seed.records.items) n types) (sym loaded.many) loaded) }
+
+pub returns-in-Ok-request_starters-clause-pini : goal.returns-in-Ok-request_starters-clause-pini
+returns-in-Ok-request_starters-clause-pini g c = rw (sym c.as_slice.ensures.value) c.in-Ok-request_starters.ensures.pini

@@ -1,8 +1,9 @@
-use Rattle.std.proofs.Common.{◌≡◌, ◌≤◌, ℕ, All, List, Vec, Global, sym, ◌∙◌, subst, ⊎_elim, below_more, arith}
+use Rattle.std.proofs.Common.{◌≡◌, ◌≤◌, ℕ, All, List, Vec, Global, sym, ap, ◌∙◌, subst, ⊎_elim, below_more, arith}
 use Rattle.std.proofs.lemmas.List.Elements.{All-push, All-weaker}
 use Rattle.std.proofs.lemmas.List.Quantifiers.{Any-push}
 use Rattle.std.specs.Prelude.{Any, Contains}
 use Rattle.ioc_names.specs.declared.record_no.RecordNo.{RecordNo}
+use Rattle.ioc_engine_core.specs.EngineView.{EngineView}
 use Rattle.ioc_engine_core.specs.Seen.{IsPartSeen}
 use Rattle.ioc_engine_core.proofs.Marks.{in_more}
 use Rattle.ioc_engine_core.proofs.SeenMore.{no_more, more_on, seen_since}
@@ -48,7 +49,7 @@ loop-number-preserved g c =
 
 pub returns-clause-each : goal.returns-clause-each
 returns-clause-each g c = λ q lt.
-    let count : c.self.inside.sets ≡ c.args.self.now = c.self.view_is in
+    let count : c.self.inside.sets ≡ c.args.self.now.count = ap (λ (v : EngineView). v.count) c.self.view_is in
     let end : c.len-number-end.result ≡ c.self.inside.sets = c.len-number-end.ensures in
     let done : c.len-number-end.result ≤ c.loop-number.number = c.loop-number-test.false in
     c.loop-number.invariant.each q (omega (arith, lt, count, end, done))

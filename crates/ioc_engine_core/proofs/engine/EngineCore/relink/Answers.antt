@@ -30,5 +30,5 @@ returns-then-are_lent-clause-changed g c =
 
 pub returns-then-are_lent-clause-refused : goal.returns-then-are_lent-clause-refused
 returns-then-are_lent-clause-refused g c =
-    subst (λ (x : LinkChange). IfErr c.change_lent-changed.result (LinkWasRefused g.row.D.Denot g.K.RecordKind.rules g.B.JournalName.base c.args.self.now x.number x.field x.link)) c.loop.invariant.1
+    subst (λ (x : LinkChange). IfErr c.change_lent-changed.result (LinkWasRefused g.row.D.Denot g.K.RecordKind.rules g.B.JournalName.base c.args.self.now.count x.number x.field x.link)) c.loop.invariant.1
     c.change_lent-changed.ensures.refused

@@ -25,7 +25,7 @@ pub returns-clause-refused : goal.returns-clause-refused
 returns-clause-refused g c =
     let k = g.K.RecordKind.rules in
     err_then _ _ c.get-told.result
-    (λ e why. unread_by_set k g.B.JournalName.base c.deref_mut.result.now c.args.self.now c.args.number c.args.field e
+    (λ e why. unread_by_set k g.B.JournalName.base c.deref_mut.result.now c.args.self.now.count c.args.number c.args.field e
     (subst (λ (s : HeldView g.row.K.Denot g.row.D.Denot). Contains (numbers_of s) c.args.number) (sym c.deref_mut.ensures.value) c.in_ok-held.ensures.here)
     (subst (λ (s : HeldView g.row.K.Denot g.row.D.Denot). IsSoundlyHeld k g.B.JournalName.base s) (sym c.deref_mut.ensures.value) c.in_ok-held.ensures.sound) why)
     c.get-told.ensures.refused

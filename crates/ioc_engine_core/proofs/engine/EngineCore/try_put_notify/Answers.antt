@@ -24,7 +24,7 @@ pub returns-in_err-reply-clause-refused : goal.returns-in_err-reply-clause-refus
 returns-in_err-reply-clause-refused g c =
     let k = g.K.RecordKind.rules in
     let p = err_from_is_err_and c.from_residual-in_err-reply.result c.from_residual-in_err-reply.ensures.1 in
-    rw (p.1, p.2) (⊎_elim (λ full. inl full) (λ none. inr (refused_by_set k g.B.JournalName.base c.deref_mut.result.now c.args.self.now c.args.put.now.number (Put c.args.put.now.number c.args.put.now.field c.args.put.now.given) _
+    rw (p.1, p.2) (⊎_elim (λ full. inl full) (λ none. inr (refused_by_set k g.B.JournalName.base c.deref_mut.result.now c.args.self.now.count c.args.put.now.number (Put c.args.put.now.number c.args.put.now.field c.args.put.now.given) _
     (subst (λ (s : HeldView g.row.K.Denot g.row.D.Denot). Contains (numbers_of s) c.args.put.now.number) (sym c.deref_mut.ensures.value) c.in_ok-held.ensures.here)
     (subst (λ (s : HeldView g.row.K.Denot g.row.D.Denot). IsSoundlyHeld k g.B.JournalName.base s) (sym c.deref_mut.ensures.value) c.in_ok-held.ensures.sound)
     none)) c.in_err-reply.ensures.refused)

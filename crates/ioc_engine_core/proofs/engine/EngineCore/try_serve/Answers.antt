@@ -25,7 +25,7 @@ pub returns-in_err-reply-clause-refused : goal.returns-in_err-reply-clause-refus
 returns-in_err-reply-clause-refused g c =
     let k = g.K.RecordKind.rules in
     let p = err_from_is_err_and c.from_residual-in_err-reply.result c.from_residual-in_err-reply.ensures.1 in
-    rw (p.1, p.2) (refused_by_set k g.B.JournalName.base c.deref_mut.result.now c.args.self.now (target_of c.args.event.now) c.args.event.now _
+    rw (p.1, p.2) (refused_by_set k g.B.JournalName.base c.deref_mut.result.now c.args.self.now.count (target_of c.args.event.now) c.args.event.now _
     (subst (λ (n : ℕ). Contains (numbers_of c.deref_mut.result.now) n) c.target_of-number.ensures.target
     (subst (λ (s : HeldView g.row.K.Denot g.row.D.Denot). Contains (numbers_of s) c.target_of-number.result) (sym c.deref_mut.ensures.value) c.in_ok-held.ensures.here))
     (subst (λ (s : HeldView g.row.K.Denot g.row.D.Denot). IsSoundlyHeld k g.B.JournalName.base s) (sym c.deref_mut.ensures.value) c.in_ok-held.ensures.sound)

@@ -24,6 +24,7 @@ use Rattle.ioc_journaled_set.proofs.Keys.{key_there}
 use Rattle.ioc_journaled_set.proofs.Devices.{worked_there, keeps_on}
 use Rattle.ioc_journaled_set.proofs.Ended.{none_have_ended, ends_so}
 use Rattle.ioc_journaled_set.proofs.Serving.{IsDoneAlone, names_one, ordinary_on, begins_no_put, owner_on, entry_is, none_held, none_ended, may_follow, may_send, may_count, held_then, only, as_many}
+use Rattle.ioc_journaled_set.proofs.Watches.{does_unwatched}
 use Rattle.ioc_journaled_set.proofs.Counting.{some_len}
 use Rattle.ioc_journaled_set.proofs.Shares.{backed, counted_then, has_share, is_there}
 use Rattle.ioc_journaled_set.proofs.journaled_set.JournaledSet.serve_alone.Given.{Over}
@@ -41,7 +42,7 @@ module _ (g : Over) (c : After-counts_since-counts g) where
   none : NoneIsLive c.self.inside.set
   none = subst (λ (v : HeldView g.row.K.Denot g.row.D.Denot). NoneIsLive v.set) (sym c.self.view_is) c.requires.none
 
-  done : IsDoneAlone g.K.RecordKind.rules g.D.Device.gives c.self.inside.set c.run_with_answers.new.set c.args.moment c.args.event.now c.in-Ok.done.0 (world_of c.run_with_answers.new.buffers.store) g.B.JournalName.base (cell_view c.in-Some.pass).seen (cell_view c.in-Some.pass).owns
+  done : IsDoneAlone g.K.RecordKind.rules g.D.Device.gives c.args.access.now.history c.self.inside.set c.run_with_answers.new.set c.args.moment c.args.event.now c.in-Ok.done.0 (world_of c.run_with_answers.new.buffers.store) g.B.JournalName.base (cell_view c.in-Some.pass).seen (cell_view c.in-Some.pass).owns
       (record { moment = c.args.moment; call = calling.Event c.args.event.now c.in-Ok.done.0; answers = c.in-Ok.done.1 })
   done = record {
     does = c.in-Ok.ensures.ok;
@@ -51,7 +52,7 @@ module _ (g : Over) (c : After-counts_since-counts g) where
     same =
         none_held g.K.RecordKind.rules g.D.Device.gives c.self.inside.set c.run_with_answers.new.set c.args.moment c.args.event.now c.in-Ok.done.0 (world_of c.run_with_answers.new.buffers.store) c.in-Ok.ensures.ok there
         c.calls_have_laws.ensures.events c.is_sound.ensures.counted none
-        (c.sets_stay_without_puts.ensures.stay c.self.inside.set c.run_with_answers.new.set c.args.moment c.args.event.now c.in-Ok.done.0 (world_of c.run_with_answers.new.buffers.store) c.in-Ok.ensures.ok c.requires.ordinary c.is_sound.ensures none);
+        (c.sets_stay_without_puts.ensures.stay c.args.access.now.history c.self.inside.set c.run_with_answers.new.set c.args.moment c.args.event.now c.in-Ok.done.0 (world_of c.run_with_answers.new.buffers.store) c.in-Ok.ensures.ok c.requires.ordinary c.is_sound.ensures none);
     covers = held.owner.covers;
     holds = held.holds;
     entry_is = entry_is g.K.RecordKind.rules g.D.Device.gives c.self.inside.set c.run_with_answers.new.set c.args.moment c.args.event.now c.in-Ok.done.0 (world_of c.run_with_answers.new.buffers.store) c.in-Ok.ensures.ok there c.in-Ok.done.1 c.in-Ok.ensures.answers;
@@ -129,11 +130,12 @@ returns-clause-serves g c =
     let at = (goal.at.returns-clause-serves g c).After-counts_since-counts in
     let k = g.K.RecordKind.rules in
     let set = c.append-appended.ensures.set in
-    subst (λ (v : HeldView g.row.K.Denot g.row.D.Denot). Serves k g.D.Device.gives g.B.JournalName.base v c.args.desk.now c.args.moment c.args.event.now c.in-Ok.done.0
+    subst (λ (v : HeldView g.row.K.Denot g.row.D.Denot). Serves k g.D.Device.gives g.B.JournalName.base c.args.access.now.history v c.args.desk.now c.args.moment c.args.event.now c.in-Ok.done.0
     (watching c.run_with_answers.new.set (cell_view c.append-appended.new.set).seen (watched_by c.self.inside.watched)) c.append-appended.new.desk (world_of c.run_with_answers.new.buffers.store)) c.self.view_is
     (record {
       is_call = subst (λ (v : HeldView g.row.K.Denot g.row.D.Denot). no_call k (now_of v.set) c.args.event.now ≡ None) (sym c.self.view_is) c.requires.is_call;
-      does = c.in-Ok.ensures.ok;
+      does = does_unwatched k g.D.Device.gives c.args.access.now.history (watched_by c.self.inside.watched) (ap (λ (v : HeldView g.row.K.Denot g.row.D.Denot). v.watched) c.self.view_is ∙ c.requires.unwatched) c.in-Ok.ensures.ok;
+      short = c.in-Ok.ensures.short;
       call = subst (λ (x : Entry). HasCalled k g.B.JournalName.base c.args.desk.now x c.append-appended.new.desk) (sym (done g at).entry_is) c.append-appended.ensures.call;
       seen = ap (λ (v : View). v.seen) set.1;
       watched = refl;
@@ -143,7 +145,7 @@ pub returns-clause-ended : goal.returns-clause-ended
 returns-clause-ended g c =
     let at = (goal.at.returns-clause-ended g c).After-counts_since-counts in
     let added = c.append-appended.ensures.added in
-    let none_here = c.sets_stay_without_puts.ensures.ended c.self.inside.set c.run_with_answers.new.set c.args.moment c.args.event.now c.in-Ok.done.0 (world_of c.run_with_answers.new.buffers.store) c.in-Ok.ensures.ok c.requires.ordinary c.is_sound.ensures (none g at) in
+    let none_here = c.sets_stay_without_puts.ensures.ended c.args.access.now.history c.self.inside.set c.run_with_answers.new.set c.args.moment c.args.event.now c.in-Ok.done.0 (world_of c.run_with_answers.new.buffers.store) c.in-Ok.ensures.ok c.requires.ordinary c.is_sound.ensures (none g at) in
     let k = g.K.RecordKind.rules in
     let base = g.B.JournalName.base in
     let pass = cell_view c.in-Some.pass in

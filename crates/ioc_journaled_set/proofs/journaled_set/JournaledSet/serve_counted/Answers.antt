@@ -26,6 +26,7 @@ use Rattle.ioc_journaled_set.proofs.Devices.{worked_there, keeps_on}
 use Rattle.ioc_journaled_set.proofs.Serving.{names_one, no_cancel, owner_on, entry_is, only, as_many, asks_alike, if_some_then}
 use Rattle.ioc_journal.specs.declared.event_counts.SentCounts.{SentCounts}
 use Rattle.ioc_journal.specs.Counting.{BothMaySend}
+use Rattle.ioc_journaled_set.proofs.Watches.{does_unwatched}
 use Rattle.ioc_journaled_set.proofs.Counting.{some_len}
 use Rattle.ioc_journaled_set.proofs.Shares.{backed, counted_then, has_share, is_there}
 use Rattle.ioc_journaled_set.proofs.Beside.{IsDoneBeside, both_follow, both_send, both_count, held_beside, moved_beside, ended_beside}
@@ -50,7 +51,7 @@ module _ (g : Over) (c : After-is_counted g) where
   can : IfSome (number_begun c.args.event.now) (λ number. CanBegin c.deref_mut-all.result.now number)
   can = subst (λ (v : PutsView). IfSome (number_begun c.args.event.now) (λ number. CanBegin v number)) (sym c.deref_mut-all.ensures.value) c.lock_for-guard.ensures.can
 
-  done : IsDoneBeside g.K.RecordKind.rules g.D.Device.gives c.self.inside.set c.run_counted.new.set c.args.moment c.args.event.now c.in_ok-ran.ran.reply (world_of c.run_counted.new.buffers.store) g.B.JournalName.base (cell_view c.in-Some.pass).seen c.deref_mut-all.result.now.seen (cell_view c.in-Some.pass).owns
+  done : IsDoneBeside g.K.RecordKind.rules g.D.Device.gives c.args.access.now.history c.self.inside.set c.run_counted.new.set c.args.moment c.args.event.now c.in_ok-ran.ran.reply (world_of c.run_counted.new.buffers.store) g.B.JournalName.base (cell_view c.in-Some.pass).seen c.deref_mut-all.result.now.seen (cell_view c.in-Some.pass).owns
       c.in_ok-ran.ran.entry
   done = record {
     does = c.in_ok-ran.ensures.does;
@@ -144,11 +145,12 @@ returns-clause-serves g c =
     let k = g.K.RecordKind.rules in
     let base = g.B.JournalName.base in
     let then = watching c.run_counted.new.set (cell_view c.keep_beside-appended.new.pass).seen (watched_by c.self.inside.watched) in
-    subst (λ (x : SetStore g.row.K.Denot g.row.D.Denot). Serves k g.D.Device.gives base c.args.self.now c.args.desk.now c.args.moment c.args.event.now c.in_ok-ran.ran.reply then c.keep_beside-appended.new.desk (world_of x)) (sym c.keep_beside-appended.ensures.store)
-    (subst (λ (v : HeldView g.row.K.Denot g.row.D.Denot). Serves k g.D.Device.gives base v c.args.desk.now c.args.moment c.args.event.now c.in_ok-ran.ran.reply then c.keep_beside-appended.new.desk (world_of c.run_counted.new.buffers.store)) c.self.view_is
+    subst (λ (x : SetStore g.row.K.Denot g.row.D.Denot). Serves k g.D.Device.gives base c.args.access.now.history c.args.self.now c.args.desk.now c.args.moment c.args.event.now c.in_ok-ran.ran.reply then c.keep_beside-appended.new.desk (world_of x)) (sym c.keep_beside-appended.ensures.store)
+    (subst (λ (v : HeldView g.row.K.Denot g.row.D.Denot). Serves k g.D.Device.gives base c.args.access.now.history v c.args.desk.now c.args.moment c.args.event.now c.in_ok-ran.ran.reply then c.keep_beside-appended.new.desk (world_of c.run_counted.new.buffers.store)) c.self.view_is
     (record {
       is_call = subst (λ (v : HeldView g.row.K.Denot g.row.D.Denot). no_call k (now_of v.set) c.args.event.now ≡ None) (sym c.self.view_is) c.requires.is_call;
-      does = c.in_ok-ran.ensures.does;
+      does = does_unwatched k g.D.Device.gives c.args.access.now.history (watched_by c.self.inside.watched) (ap (λ (v : HeldView g.row.K.Denot g.row.D.Denot). v.watched) c.self.view_is ∙ c.requires.unwatched) c.in_ok-ran.ensures.does;
+      short = c.in_ok-ran.ensures.short;
       call = subst (λ (x : Entry). HasCalled k base c.args.desk.now x c.keep_beside-appended.new.desk) (sym (done g at).entry_is) c.keep_beside-appended.ensures.call;
       seen = ap (λ (v : View). v.seen) c.keep_beside-appended.ensures.pass.1;
       watched = refl;

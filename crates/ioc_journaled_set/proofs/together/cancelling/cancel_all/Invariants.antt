@@ -6,6 +6,6 @@ use Rattle.ioc_journaled_set.proofs.together.cancelling.cancel_all.Given as goal
 
 abbrev pub invariant-loop-i : goal.invariant-loop-i
 invariant-loop-i g l = record {
-  done : (j : ℕ) (d : SetState g.row.K.Denot g.row.D.Denot) → j < l.i → GivesUp g.K.RecordKind.rules l.moment l.number (slice_index_or l.fn.sets j d) (slice_index_or l.sets j d);
+  done : (j : ℕ) (d : SetState g.row.K.Denot g.row.D.Denot) → j < l.i → GivesUp g.K.RecordKind.rules l.most l.moment l.number (slice_index_or l.fn.sets j d) (slice_index_or l.sets j d);
   rest : (j : ℕ) (d : SetState g.row.K.Denot g.row.D.Denot) → l.i ≤ j → slice_index_or l.sets j d ≡ slice_index_or l.fn.sets j d;
 }

@@ -12,5 +12,5 @@ clear_history-requires-clause-fits g c =
 
 pub invariant_of-self : goal.invariant_of-self
 invariant_of-self g c =
-    folded_holds g.K.RecordKind.rules c.self.inside.members c.clear_history.new.members c.self.inside.puts c.clear_history.new.puts c.self.inside.base_tally c.clear_history.new.base_tally c.self.inside.tally c.self.inside.history.items c.clear_history.new.history.items
-    c.clear_history.ensures.members c.clear_history.ensures.puts c.clear_history.ensures.tally c.clear_history.ensures.history c.self.invariant.0
+    folded_holds g.K.RecordKind.rules c.self.inside.members c.clear_history.new.members c.self.inside.puts c.clear_history.new.puts c.self.inside.base_tally c.clear_history.new.base_tally c.self.inside.tally c.self.inside.history.items c.give_back.new.history.items
+    c.clear_history.ensures.members c.clear_history.ensures.puts c.clear_history.ensures.tally c.give_back.ensures c.self.invariant.0

@@ -1,6 +1,6 @@
 -- The levels that are left fall where a use is replaced; among functions at one level each calls
 -- only those below it.
-use Rattle.std.proofs.Common.{ℕ, ◌+◌, ◌*◌}
+use Rattle.std.proofs.Common.{◌+◌, ◌*◌}
 use Rattle.ioc_site_lines.proofs.expanding.Expander.+expanding.Given as goal
 
 abbrev pub decreases-define_scoped : goal.decreases-define_scoped
