@@ -66,6 +66,7 @@ pub struct Seed<D> {
     pub ghost idle: { All (λ l. IsIdle record_rules l.fields) records.items },
     pub ghost closed: { IsClosed (links_in record_rules records.items) },
     pub ghost types: { lookup.types.items ≡ map record_rules.record_type (map (λ l. l.fields) records.items) },
+    pub ghost listed: { lists ≡ first_lists record_rules Scanning (map (λ l. l.fields) records.items) },
 }
 
 impl<D: Drop> Seed<D> {

@@ -14,3 +14,4 @@ mod SameKeys
 mod Numbered
 mod SharedSets
 mod Looks
+mod Lists

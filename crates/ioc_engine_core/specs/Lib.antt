@@ -10,3 +10,4 @@ pub mod Queued
 pub mod Looked
 pub mod Requested
 pub mod EngineView
+pub mod Lists

@@ -18,6 +18,7 @@ ghost use Rattle.ioc_engine_core.specs.Served.{target_of, WasTold, WasServed, Ca
 
 use crate::clock::Clock;
 use crate::desk::Desk;
+use crate::engine_lists::EngineLists;
 use crate::spare_parts::SpareParts;
 use ioc_device::Device;
 use ioc_events::{Event, Reply};
@@ -27,7 +28,6 @@ use ioc_journaled_set::{JournalAccess, JournaledSet, Served, SetsName, SharedNot
 use ioc_ledger::{TallyShare, Ticket};
 use ioc_names::RecordNo;
 use ioc_record::{FieldText, RecordKind};
-use ioc_scan::ScanLists;
 use ioc_set::EventBuffers;
 use ioc_shared_queues::{CallbackQueues, RecordRequest};
 use ioc_topology::{Busy, Directory, Locked};
@@ -54,7 +54,7 @@ pub struct EngineCore<K: RecordKind + Drop, B: SetsName<K, D>, D: Device> {
     // Locked while the lock of a set is held, and before the journal.
     pub(crate) puts: Mutex<SharedNotifications<K, B>>,
     // Locked while no other lock is held.
-    pub(crate) lists: Mutex<ScanLists>,
+    pub(crate) lists: Mutex<EngineLists<K, B>>,
     pub(crate) queues: CallbackQueues<QueuedRequest<K, B>>,
     // The number of items that events have sent and that couldn't be done.
     pub(crate) undone: AtomicU64,
@@ -96,7 +96,7 @@ impl<K: RecordKind + Drop, B: SetsName<K, D>, D: Device> EngineCore<K, B, D> {
             CallbackQueues<QueuedRequest<K, B>>,
         ),
         journal: SharedJournal<K, B>,
-        lists: ScanLists,
+        lists: EngineLists<K, B>,
         spare: TallyShare<EngineCounts<K, B>>,
         marks: MarkedRecords,
         history: usize,

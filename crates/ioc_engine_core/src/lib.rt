@@ -16,6 +16,7 @@ pub mod clock;
 pub mod desk;
 pub mod ended_journal;
 pub mod engine;
+mod engine_lists;
 pub mod holding;
 mod link_changes;
 pub mod loading;

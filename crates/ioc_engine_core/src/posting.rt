@@ -5,6 +5,7 @@ ghost use Rattle.ioc_events.specs.declared.event.Call.TheVariants as call;
 ghost use Rattle.ioc_journal.specs.Account.{HasCalled};
 ghost use Rattle.ioc_journal.specs.Posting.{is_posting, requests_of};
 ghost use Rattle.ioc_journal.specs.Places.{IsNoPlace};
+ghost use Rattle.ioc_engine_core.specs.Lists.{AreMembers};
 
 use crate::clock::Clock;
 use crate::desk::Desk;
@@ -15,7 +16,7 @@ use ioc_journal::{DeskAccount, Place, Posted, Receipt};
 use ioc_journaled_set::SetsName;
 use ioc_record::RecordKind;
 use ioc_scan::{ListName, Listed};
-use ioc_scan_rules::{calls, event_list, interrupt_list};
+use ioc_scan_rules::{event_list, interrupt_list};
 use ioc_values::{IocError, Short, Text};
 use std::alloc::Global;
 use std::sync::Wait;
@@ -33,10 +34,10 @@ impl<K: RecordKind + Drop, B: SetsName<K, D>, D: Device> EngineCore<K, B, D> {
         list: Option<ListName>,
         walked: &mut Vec<Listed>,
     ) -> Result<(), IocError>
+        ensures walked { OnOk result (AreMembers K.rules B.base list walked.new.items) }
         ensures refused { IfErr result (λ error. error ≡ NoMemory) }
     {
-        let mut lists = self.lists.lock(rt);
-        match calls(&mut lists, list, walked) {
+        match self.lists.lock(rt).walk(list, walked) {
             Ok(()) => Ok(()),
             Err(_) => Err(IocError::NoMemory),
         }

@@ -7,7 +7,7 @@ use ioc_journaled_set::SetsName;
 use ioc_ledger::Tickets;
 use ioc_record::RecordKind;
 use ioc_scan::Listed;
-use ioc_scan_rules::{Asked, take_item};
+use ioc_scan_rules::Asked;
 use ioc_set::EventBuffers;
 use ioc_shared_queues::Rank;
 use ioc_store::OutboxItem;
@@ -108,8 +108,7 @@ impl<K: RecordKind + Drop, B: SetsName<K, D>, D: Device> EngineCore<K, B, D> {
         if let OutboxItem::Once(number) = item {
             return Ok(Asked::Once(*number));
         }
-        let mut lists = self.lists.lock(rt);
-        take_item(&mut lists, item, walked)
+        self.lists.lock(rt).take(item, walked)
     }
 
     // Puts a request of each of these records on the callback queue of its priority.

@@ -1,5 +1,5 @@
 //! The start of an engine.
-ghost use Rattle.std.specs.Prelude.{◌≡◌, ◌<◌, ◌-◌, ℕ, ◌^◌, ◌↔◌, [], All, IsTrue, IfOk, IfErr, OnOk, length};
+ghost use Rattle.std.specs.Prelude.{◌≡◌, ◌<◌, ◌-◌, ℕ, ◌^◌, ◌↔◌, [], All, IsTrue, IfOk, IfErr, OnOk, length, map};
 ghost use Rattle.crossbeam_utils.specs.Seq.{cell_view};
 ghost use Rattle.ioc_journal.specs.Line.{keeper};
 ghost use Rattle.ioc_journal.specs.Account.{AreNoDesks, AreRecords};
@@ -9,12 +9,15 @@ ghost use Rattle.std.specs.FinMap.{len};
 ghost use Rattle.ioc_store.specs.World.{Has};
 ghost use Rattle.ioc_set_records.specs.Joined.{IsClosed};
 ghost use Rattle.ioc_set_records.specs.Linked.{AreParts, links_in};
+ghost use Rattle.ioc_scan_rules.specs.FirstLists.{first_lists};
+ghost use Rattle.ioc_scan_rules.specs.declared.places.Occasion.TheVariants.{Scanning};
 ghost use Rattle.ioc_engine_core.specs.Loading.{loaded_world, device_in, IsIdle, IsSpare};
 ghost use Rattle.ioc_ledger.specs.Requests.{no_counts};
 ghost use Rattle.ioc_ledger.specs.Shared.{share_view, names_of};
 ghost use Rattle.ioc_engine_core.specs.declared.starting.StartError.TheVariants.{BadValue, NotAtRest, LinkLeaves};
 
 use crate::engine::{EngineCore, QueuedRequest};
+use crate::engine_lists::EngineLists;
 use crate::holding::hold_all;
 use ioc_device::Device;
 use ioc_journal::legal_laws::lists_leave_sound;
@@ -189,6 +192,7 @@ pub fn start<K: RecordKind + Drop, B: SetsName<K, D>, D: Device>(
     requires base { B.base ≡ loaded_world all.items }
     requires devices { B.devices ≡ device_in all.items }
     requires copies { All (λ l. l.base ≡ l.fields) all.items }
+    requires lists { lists ≡ first_lists K.rules Scanning (map (λ l. l.fields) all.items) }
     ensures count { IfOk result (λ e. e.count ≡ length all.items) }
     ensures history { IfOk result (λ e. e.history ≡ limits.history) }
     ensures limits { OnOk result (AreAllowed limits) }
@@ -198,6 +202,7 @@ pub fn start<K: RecordKind + Drop, B: SetsName<K, D>, D: Device>(
     ensures rest { IfErr result (λ e. e ≡ NotAtRest → All (λ l. IsIdle K.rules l.fields) all.items → ⊥) }
     ensures leaves { IfErr result (λ e. e ≡ LinkLeaves → IsClosed (links_in K.rules all.items) → ⊥) }
 {
+    let lists = EngineLists::new(lists);
     let parts = startable_parts(alloc, &all, limits)?;
     let mut master = master;
     let (counted, mut spare) = TallyBook::open(counts);
