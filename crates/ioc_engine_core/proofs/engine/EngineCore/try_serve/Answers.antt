@@ -1,6 +1,7 @@
 use Rattle.std.proofs.lemmas.Result.{err_from_is_err_and}
 use Rattle.std.proofs.Common.{ℕ, sym, subst, Contains}
-use Rattle.ioc_journaled_set.specs.Holding.{HeldView, numbers_of, IsSoundlyHeld}
+use Rattle.ioc_journaled_set.specs.Holding.{HeldView, numbers_of, IsSoundlyHeld, Serves}
+use Rattle.ioc_set.specs.SetStore.{world_of}
 use Rattle.ioc_engine_core.specs.Served.{target_of}
 use Rattle.ioc_engine_core.proofs.Refusals.{refused_by_set}
 use Rattle.ioc_engine_core.proofs.engine.EngineCore.try_serve.Goals as goal
@@ -16,7 +17,8 @@ returns-clause-served g c =
         here = subst (λ (n : ℕ). Contains (numbers_of c.deref_mut.result.now) n) c.target_of-number.ensures.target
             (subst (λ (s : HeldView g.row.K.Denot g.row.D.Denot). Contains (numbers_of s) c.target_of-number.result) (sym c.deref_mut.ensures.value) c.in_ok-held.ensures.here);
         before = subst (λ (s : HeldView g.row.K.Denot g.row.D.Denot). IsSoundlyHeld k g.B.JournalName.base s) (sym c.deref_mut.ensures.value) c.in_ok-held.ensures.sound;
-        serves = c.in_ok-reply.ensures.serves;
+        serves = subst (λ (limit : ℕ). Serves k g.D.Device.gives g.B.JournalName.base limit c.deref_mut.result.now c.args.desk.now.account c.now-moment.result c.args.event.now c.in_ok-reply.field-0.reply c.serve.new.self c.serve.new.desk (world_of c.serve.new.buffers.store))
+            c.access-access.ensures c.in_ok-reply.ensures.serves;
         after = subst (λ (s : HeldView g.row.K.Denot g.row.D.Denot). IsSoundlyHeld k g.B.JournalName.base s) c.deref-2.ensures c.is_sound.ensures;
       },
     )
